@@ -11,14 +11,15 @@ use Rattle.updates.specs.declared.changes.Update.TheVariants.{Add}
 use Rattle.updates.specs.declared.errors.ChannelError.TheVariants.{NoUpdates as NothingCovered, WrongSecret, NotYourTurn}
 use Rattle.claim.specs.Claims.{ClaimParts}
 use Rattle.filling.specs.declared.errors.FillError.TheVariants.{NoRight, SameOutpoint}
-use Rattle.channel.specs.declared.messages.Message.TheVariants.{Updated as UpdateMessage, CommitmentSigned, RevokeAndAck}
+use Rattle.updates.specs.declared.messages.PeerStep.TheVariants.{Update as Updated, CommitmentSigned}
+use Rattle.channel.specs.declared.messages.Message.TheVariants.{Step as StepMessage, RevokeAndAck}
 use Rattle.channel.specs.Points.{secret_at, point_at, is_foreign}
 use Rattle.channel.specs.States.{State, state_at_opening as opened_state, after_update, after_sign, after}
 use Rattle.updates.specs.declared.changes.OwnUpdate.TheVariants.{Offer}
 use Rattle.terms.specs.Agreement.{party}
 use Rattle.book.specs.declared.calls.Opening.{Opening}
 use Rattle.book.specs.declared.calls.Batch.{Batch}
-use Rattle.book.specs.declared.calls.Step.TheVariants.{Own, Updated, Signed}
+use Rattle.book.specs.declared.calls.Step.TheVariants.{Own, Peer}
 use Rattle.book.specs.declared.calls.Call.{Call}
 use Rattle.book.specs.declared.calls.Call.TheVariants.{Open, Step as Stepping, Sign, Revoke, Keep, Release, Close}
 use Rattle.book.specs.declared.calls.Entry.{Entry}
@@ -74,7 +75,7 @@ abbrev hash : List ℕ
 hash = replicate 32 9
 
 abbrev htlc : ℕ → ℕ → ℕ → Htlc
-htlc id amount expiry = record { id = id; amount = amount; hash = hash; expiry = expiry }
+htlc id amount_msat expiry_height = record { id = id; amount_msat = amount_msat; hash = hash; expiry_height = expiry_height }
 
 -- the replies to calls of seat 0, one after another
 abbrev answers_from : List Entry → List Call → List Reply
@@ -89,11 +90,11 @@ module _ (bases : BaseKeys) (seed : List ℕ) (own : IsSeedOf seed bases) where
   abbrev terms_of : ℕ → Terms
   terms_of index = record {
     funding = record { txid = replicate 32 5; index = index };
-    capacity = 100000;
+    capacity_sat = 100000;
     opener = A;
-    feerate = 1000;
-    a = record { dust = 546; delay = 144; minimum = 1000; start = 80000000; bases = bases };
-    b = record { dust = 546; delay = 144; minimum = 1000; start = 20000000; bases = bases };
+    feerate_per_kw = 1000;
+    a = record { dust_sat = 546; delay_blocks = 144; minimum_msat = 1000; start_msat = 80000000; bases = bases };
+    b = record { dust_sat = 546; delay_blocks = 144; minimum_msat = 1000; start_msat = 20000000; bases = bases };
     limited = lit≤ tt;
     whole = refl;
     short_a = lit< tt;
@@ -123,14 +124,14 @@ module _ (bases : BaseKeys) (seed : List ℕ) (own : IsSeedOf seed bases) where
   -- the first scenario: A offers an HTLC, signs, receives the revocation, and offers another one
   abbrev first_calls : List Call
   first_calls =
-      Open (opening A 0 (0 ∷ [])) ∷ Stepping 0 (Own (Offer 1000000 hash 500)) ∷ Sign 0 ∷ Revoke 0 secret (key 2) ∷ Stepping 0 (Own (Offer 1000000 hash 501)) ∷ []
+      Open (opening A 0 (0 ∷ [])) ∷ Stepping 0 (Own (Offer 1000000 hash 500)) ∷ Sign 0 ∷ Revoke 0 (record { secret = secret; next_point = key 2 }) ∷ Stepping 0 (Own (Offer 1000000 hash 501)) ∷ []
 
   first_answers : answers_from [] first_calls
       ≡ opened (Ok 0)
-      ∷ stepped (Ok (UpdateMessage (Add (htlc 0 1000000 500)) ∷ []))
-      ∷ signed (Ok (CommitmentSigned (tokens 1 (1000000 ∷ []))))
+      ∷ stepped (Ok (StepMessage (Updated (Add (htlc 0 1000000 500))) ∷ []))
+      ∷ signed (Ok (StepMessage (CommitmentSigned (tokens 1 (1000000 ∷ [])))))
       ∷ revoked (Ok 0)
-      ∷ stepped (Ok (UpdateMessage (Add (htlc 1 1000000 501)) ∷ []))
+      ∷ stepped (Ok (StepMessage (Updated (Add (htlc 1 1000000 501))) ∷ []))
       ∷ []
   unfolding is_foreign
   first_answers = rw point_is refl
@@ -141,7 +142,7 @@ module _ (bases : BaseKeys) (seed : List ℕ) (own : IsSeedOf seed bases) where
   -- each of these calls is an entry of the history
   abbrev first_history : List Entry
   first_history =
-      entry (Open (opening A 0 (0 ∷ []))) ∷ entry (Stepping 0 (Own (Offer 1000000 hash 500))) ∷ entry (Sign 0) ∷ entry (Revoke 0 secret (key 2))
+      entry (Open (opening A 0 (0 ∷ []))) ∷ entry (Stepping 0 (Own (Offer 1000000 hash 500))) ∷ entry (Sign 0) ∷ entry (Revoke 0 (record { secret = secret; next_point = key 2 }))
       ∷ entry (Stepping 0 (Own (Offer 1000000 hash 501))) ∷ []
 
   first_entries : history_from [] first_calls ≡ first_history
@@ -162,12 +163,12 @@ module _ (bases : BaseKeys) (seed : List ℕ) (own : IsSeedOf seed bases) where
   -- A's state after these calls
   abbrev then : State
   then =
-      after_update (Add (htlc 1 1000000 501)) (after (after_sign (after_update (Add (htlc 0 1000000 500)) (opened_state (terms_of 0) A seed point_key (key 1)))) (RevokeAndAck secret (key 2)))
+      after_update (Add (htlc 1 1000000 501)) (after (after_sign (after_update (Add (htlc 0 1000000 500)) (opened_state (terms_of 0) A seed point_key (key 1)))) (RevokeAndAck (record { secret = secret; next_point = key 2 })))
 
   -- it may not sign before it keeps the penalties; it keeps them once, and signs
   module _ (claims : List ClaimParts) (is_set : is_penalty_set then 0 claims ≡ true) where
     last_answers : answers_from first_history (Sign 0 ∷ Keep 0 0 claims ∷ Sign 0 ∷ Keep 0 0 claims ∷ [])
-        ≡ signed (Err (PenaltiesMissing 0)) ∷ kept (Ok tt) ∷ signed (Ok (CommitmentSigned (tokens 2 (1000000 ∷ 1000000 ∷ [])))) ∷ kept (Err AlreadyKept) ∷ []
+        ≡ signed (Err (PenaltiesMissing 0)) ∷ kept (Ok tt) ∷ signed (Ok (StepMessage (CommitmentSigned (tokens 2 (1000000 ∷ 1000000 ∷ []))))) ∷ kept (Err AlreadyKept) ∷ []
     last_answers = rw is_set refl
 
     whole_history : length (history_from first_history (Sign 0 ∷ Keep 0 0 claims ∷ Sign 0 ∷ Keep 0 0 claims ∷ [])) ≡ 7
@@ -183,27 +184,27 @@ module _ (bases : BaseKeys) (seed : List ℕ) (own : IsSeedOf seed bases) where
     guarded = (rw (is_set, number_kept, is_set_in) refl, refl, refl, refl, refl, refl)
 
   -- B's calls of the first scenario: it receives the offer and the signature, and revokes at once
-  others_answers : answers_from [] (Open (opening B 0 (0 ∷ [])) ∷ Stepping 0 (Updated (Add (htlc 0 1000000 500))) ∷ Stepping 0 (Signed (tokens 1 (1000000 ∷ []))) ∷ [])
-      ≡ opened (Ok 0) ∷ stepped (Ok []) ∷ stepped (Ok (RevokeAndAck (secret_at seed 0) (point_at seed 2) ∷ [])) ∷ []
+  others_answers : answers_from [] (Open (opening B 0 (0 ∷ [])) ∷ Stepping 0 (Peer (Updated (Add (htlc 0 1000000 500)))) ∷ Stepping 0 (Peer (CommitmentSigned (tokens 1 (1000000 ∷ [])))) ∷ [])
+      ≡ opened (Ok 0) ∷ stepped (Ok []) ∷ stepped (Ok (RevokeAndAck (record { secret = secret_at seed 0; next_point = point_at seed 2 }) ∷ [])) ∷ []
   others_answers = refl
 
-  others_history : length (history_from [] (Open (opening B 0 (0 ∷ [])) ∷ Stepping 0 (Updated (Add (htlc 0 1000000 500))) ∷ Stepping 0 (Signed (tokens 1 (1000000 ∷ []))) ∷ [])) ≡ 3
+  others_history : length (history_from [] (Open (opening B 0 (0 ∷ [])) ∷ Stepping 0 (Peer (Updated (Add (htlc 0 1000000 500)))) ∷ Stepping 0 (Peer (CommitmentSigned (tokens 1 (1000000 ∷ [])))) ∷ [])) ≡ 3
   others_history = refl
 
   abbrev signed_history : List Entry
   signed_history = entry (Open (opening A 0 (0 ∷ []))) ∷ entry (Stepping 0 (Own (Offer 1000000 hash 500))) ∷ entry (Sign 0) ∷ []
 
   -- another secret is refused, and leaves the history as it was; so is a revocation that is not awaited
-  wrong_secret : (reply_of tokens_of signed_history (Revoke 0 (replicate 32 8) (key 2)) ≡ revoked (Err (Refused WrongSecret)))
-      × (history_after tokens_of signed_history 0 (Revoke 0 (replicate 32 8) (key 2)) ≡ signed_history)
-      × (reply_of tokens_of first_history (Revoke 0 secret (key 3)) ≡ revoked (Err (Refused NotYourTurn)))
+  wrong_secret : (reply_of tokens_of signed_history (Revoke 0 (record { secret = replicate 32 8; next_point = key 2 })) ≡ revoked (Err (Refused WrongSecret)))
+      × (history_after tokens_of signed_history 0 (Revoke 0 (record { secret = replicate 32 8; next_point = key 2 })) ≡ signed_history)
+      × (reply_of tokens_of first_history (Revoke 0 (record { secret = secret; next_point = key 3 })) ≡ revoked (Err (Refused NotYourTurn)))
   wrong_secret = (rw other_point_is refl, rw other_point_is refl, refl)
 
   -- every call refuses a channel that does not exist
   strangers : (batch : Batch) →
       (reply_of tokens_of first_history (Stepping 1 (Own (Offer 0 hash 500))) ≡ stepped (Err NoChannelToStep))
       × (reply_of tokens_of first_history (Sign 1) ≡ signed (Err NoChannelToSign))
-      × (reply_of tokens_of first_history (Revoke 1 secret (key 2)) ≡ revoked (Err NoChannelToStep))
+      × (reply_of tokens_of first_history (Revoke 1 (record { secret = secret; next_point = key 2 })) ≡ revoked (Err NoChannelToStep))
       × (reply_of tokens_of first_history (Keep 1 5 []) ≡ kept (Err NoChannelToKeep))
       × (reply_of tokens_of first_history (Release 1 batch) ≡ released (Err NoChannelToRelease))
       × (reply_of tokens_of first_history (Close 1) ≡ closed (Err closes.NoSuchChannel))
@@ -236,9 +237,9 @@ module _ (bases : BaseKeys) (seed : List ℕ) (own : IsSeedOf seed bases) where
   abbrev awaiting : List (List ℕ) → ChannelBook
   awaiting secrets = channel (record (after_sign (after_update (Add (htlc 0 1000000 500)) (opened_state (terms_of 0) A seed point_key (key 1)))) { number = 5; secrets = secrets }) []
 
-  first_revoked : answer_of tokens_of (awaiting [] ∷ []) (Revoke 0 secret (key 2)) ≡ revoked (Ok 0)
+  first_revoked : answer_of tokens_of (awaiting [] ∷ []) (Revoke 0 (record { secret = secret; next_point = key 2 })) ≡ revoked (Ok 0)
   unfolding is_foreign
   first_revoked = rw point_is refl
 
-  next_revoked : (first : List ℕ) → is_foreign (first ∷ []) secret ≡ false → answer_of tokens_of (awaiting (first ∷ []) ∷ []) (Revoke 0 secret (key 2)) ≡ revoked (Ok 1)
+  next_revoked : (first : List ℕ) → is_foreign (first ∷ []) secret ≡ false → answer_of tokens_of (awaiting (first ∷ []) ∷ []) (Revoke 0 (record { secret = secret; next_point = key 2 })) ≡ revoked (Ok 1)
   next_revoked first leads = rw (point_is, leads) refl

@@ -20,10 +20,11 @@ use Rattle.tx.specs.Fields.{same_outpoint}
 use Rattle.keys.specs.declared.compressed.Key.{Key}
 use Rattle.channel.specs.Tokens.{peer_tokens}
 use Rattle.channel.specs.declared.messages.Message.{Message}
+use Rattle.updates.specs.declared.messages.PeerStep.TheVariants.{Update as Updated, CommitmentSigned}
 use Rattle.channel.specs.declared.messages.Message.TheVariants.{RevokeAndAck}
 use Rattle.channel.specs.States.{after, after_sign, receive_refusal, signature_message}
 use Rattle.book.specs.declared.calls.Step.{Step}
-use Rattle.book.specs.declared.calls.Step.TheVariants.{Own, Updated, Signed}
+use Rattle.book.specs.declared.calls.Step.TheVariants.{Own, Peer}
 use Rattle.book.specs.declared.calls.Call.{Call}
 use Rattle.book.specs.declared.calls.Call.TheVariants.{Open, Step as Stepping, Sign, Revoke, Keep, Release, Close}
 use Rattle.book.specs.declared.calls.Entry.{Entry}
@@ -71,8 +72,8 @@ keeping_at f same history new channels seat call reply c x y after k answer ok i
 -- a step leaves the terms
 pub step_leaves_terms : (step : Step) (ch : ChannelBook) → (state_stepped step ch.state).held.terms ≡ ch.state.held.terms
 step_leaves_terms (Own u) ch = refl
-step_leaves_terms (Updated u) ch = refl
-step_leaves_terms (Signed tokens) ch = refl
+step_leaves_terms (Peer (Updated u)) ch = refl
+step_leaves_terms (Peer (CommitmentSigned tokens)) ch = refl
 
 -- ---- the answers of accepted calls
 
@@ -85,7 +86,7 @@ pub sign_answer : (chs : Channels) (c : ℕ) (ch : ChannelBook) (m : Message) �
 sign_answer chs c ch m found none e = rw (found, none) (ap (λ x. signed (Ok x)) (sym e))
 
 pub revoke_answer : (chs : Channels) (c : ℕ) (ch : ChannelBook) (secret : List ℕ) (next_point : Key) (n : ℕ) → slice_get chs c ≡ Some ch
-    → receive_refusal peer_tokens ch.state (RevokeAndAck secret next_point) ≡ None → n ≡ length ch.state.secrets → answer_of peer_tokens chs (Revoke c secret next_point) ≡ revoked (Ok n)
+    → receive_refusal peer_tokens ch.state (RevokeAndAck (record { secret = secret; next_point = next_point })) ≡ None → n ≡ length ch.state.secrets → answer_of peer_tokens chs (Revoke c (record { secret = secret; next_point = next_point })) ≡ revoked (Ok n)
 revoke_answer chs c ch secret next_point n found none e = rw (found, none) (ap (λ k. revoked (Ok k)) (sym e))
 
 pub keep_answer : (chs : Channels) (c n : ℕ) (ch : ChannelBook) (claims : List ClaimParts) → slice_get chs c ≡ Some ch → keep_refusal ch n claims ≡ None → answer_of peer_tokens chs (Keep c n claims) ≡ kept (Ok tt)
@@ -136,13 +137,13 @@ step_done history new channels seat c x y step m no_memory k found none message 
     }
 
 pub revoke_done : (history new : List Entry) (channels : List (OutPoint × ChannelBook)) (seat c : ℕ) (x y : ChannelBook) (secret : List ℕ) (next_point : Key) (n : ℕ) (no_memory : Reply) → AreLeft history channels
-    → slice_get (values_of channels) c ≡ Some x → receive_refusal peer_tokens x.state (RevokeAndAck secret next_point) ≡ None → n ≡ length x.state.secrets → y ≡ with_state (λ s. after s (RevokeAndAck secret next_point)) x
-    → new ≡ history ++ entry seat (Revoke c secret next_point) ∷ [] → IsDone no_memory (revoked (Ok n)) history new (set_value_at channels c y) seat (Revoke c secret next_point)
+    → slice_get (values_of channels) c ≡ Some x → receive_refusal peer_tokens x.state (RevokeAndAck (record { secret = secret; next_point = next_point })) ≡ None → n ≡ length x.state.secrets → y ≡ with_state (λ s. after s (RevokeAndAck (record { secret = secret; next_point = next_point }))) x
+    → new ≡ history ++ entry seat (Revoke c (record { secret = secret; next_point = next_point })) ∷ [] → IsDone no_memory (revoked (Ok n)) history new (set_value_at channels c y) seat (Revoke c (record { secret = secret; next_point = next_point }))
 revoke_done history new channels seat c x y secret next_point n no_memory k found none number written_as is =
     let answer = revoke_answer (replay history) c x secret next_point n (stands history channels k c x found) none number in
     record {
-      called = taken history new seat (Revoke c secret next_point) (revoked (Ok n)) no_memory answer refl is;
-      keeps = keeping_at (with_state (λ s. after s (RevokeAndAck secret next_point))) (λ ch. refl) history new channels seat (Revoke c secret next_point) (revoked (Ok n)) c x y refl k answer refl is found written_as tt;
+      called = taken history new seat (Revoke c (record { secret = secret; next_point = next_point })) (revoked (Ok n)) no_memory answer refl is;
+      keeps = keeping_at (with_state (λ s. after s (RevokeAndAck (record { secret = secret; next_point = next_point })))) (λ ch. refl) history new channels seat (Revoke c (record { secret = secret; next_point = next_point })) (revoked (Ok n)) c x y refl k answer refl is found written_as tt;
     }
 
 pub sign_done : (history new : List Entry) (channels : List (OutPoint × ChannelBook)) (seat c : ℕ) (x y : ChannelBook) (m : Message) (no_memory : Reply) → AreLeft history channels

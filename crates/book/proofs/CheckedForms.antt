@@ -43,13 +43,13 @@ pushed n h = by_push IsOp n h (λ b short reads. omega (arith, short)) (λ some 
 
 -- ---- each form
 
-to_local_checked : (revocation : List ℕ) (delay : ℕ) (delayed : List ℕ) → delay < 2 ^ 16 → is_key revocation ≡ true → is_key delayed ≡ true → IsChecked (to_local_form revocation delay delayed)
-to_local_checked revocation delay delayed h k l =
+to_local_checked : (revocation : List ℕ) (delay_blocks : ℕ) (delayed : List ℕ) → delay_blocks < 2 ^ 16 → is_key revocation ≡ true → is_key delayed ≡ true → IsChecked (to_local_form revocation delay_blocks delayed)
+to_local_checked revocation delay_blocks delayed h k l =
     let m = key_length revocation k in
     let n = key_length delayed l in
     record {
-      each = All-from_recursion IsOp (to_local revocation delay delayed) (tt, (omega (arith, m), (tt, (pushed delay (omega arith), (tt, (tt, (omega (arith, n), (tt, (tt, tt)))))))));
-      listed = to_local-listed revocation delay delayed h k l m n;
+      each = All-from_recursion IsOp (to_local revocation delay_blocks delayed) (tt, (omega (arith, m), (tt, (pushed delay_blocks (omega arith), (tt, (tt, (omega (arith, n), (tt, (tt, tt)))))))));
+      listed = to_local-listed revocation delay_blocks delayed h k l m n;
     }
 
 key_hash_checked : (hash : List ℕ) → length hash ≡ 20 → IsChecked (key_hash_form hash)
@@ -69,16 +69,16 @@ offered_checked hash remote local payment k l r p =
       listed = offered-listed hash remote local payment k l m n r p;
     }
 
-received_checked : (hash remote local payment : List ℕ) (expiry : ℕ) → expiry < 2 ^ 32 → is_key remote ≡ true → is_key local ≡ true → length hash ≡ 20 → length payment ≡ 20
-    → IsChecked (received_form hash remote local payment expiry)
-received_checked hash remote local payment expiry h k l r p =
+received_checked : (hash remote local payment : List ℕ) (expiry_height : ℕ) → expiry_height < 2 ^ 32 → is_key remote ≡ true → is_key local ≡ true → length hash ≡ 20 → length payment ≡ 20
+    → IsChecked (received_form hash remote local payment expiry_height)
+received_checked hash remote local payment expiry_height h k l r p =
     let m = key_length remote k in
     let n = key_length local l in
     let one : (1 ≤ 2) × (2 ≤ 16) = (omega arith, omega arith) in
     record {
-      each = All-from_recursion IsOp (received hash remote local payment expiry)
-          (tt, (tt, (omega (arith, r), (tt, (tt, (tt, (tt, (omega (arith, m), (tt, (tt, (pushed 32 (omega arith), (tt, (tt, (tt, (omega (arith, p), (tt, (one, (tt, (omega (arith, n), (one, (tt, (tt, (tt, (pushed expiry h, (tt, (tt, (tt, (tt, (tt, tt)))))))))))))))))))))))))))));
-      listed = received-listed hash remote local payment expiry h k l m n r p;
+      each = All-from_recursion IsOp (received hash remote local payment expiry_height)
+          (tt, (tt, (omega (arith, r), (tt, (tt, (tt, (tt, (omega (arith, m), (tt, (tt, (pushed 32 (omega arith), (tt, (tt, (tt, (omega (arith, p), (tt, (one, (tt, (omega (arith, n), (one, (tt, (tt, (tt, (pushed expiry_height h, (tt, (tt, (tt, (tt, (tt, tt)))))))))))))))))))))))))))));
+      listed = received-listed hash remote local payment expiry_height h k l m n r p;
     }
 
 -- ---- the keys of a commitment
@@ -106,22 +106,22 @@ are_keys terms owner point = record { revocation = revocation_form _ point; dela
 abbrev AreForms : List Claimable → Type 0
 AreForms os = AllByRecursion (λ o. IsChecked o.form) os
 
-htlc_checked : (k : KeyBytes) → AreKeys k → (d : Direction) (h : Htlc) → h.expiry < LOCKTIME_THRESHOLD → IsChecked (htlc_form k d h)
+htlc_checked : (k : KeyBytes) → AreKeys k → (d : Direction) (h : Htlc) → h.expiry_height < LOCKTIME_THRESHOLD → IsChecked (htlc_form k d h)
 htlc_checked k keys Offered h low = offered_checked (hash160 k.revocation) k.remote_htlc k.local_htlc (ripemd160 h.hash) keys.remote_htlc keys.local_htlc (length-ripemd160 _) (length-ripemd160 _)
 htlc_checked k keys Received h low =
-    received_checked (hash160 k.revocation) k.remote_htlc k.local_htlc (ripemd160 h.hash) h.expiry (omega (arith, low)) keys.remote_htlc keys.local_htlc (length-ripemd160 _) (length-ripemd160 _)
+    received_checked (hash160 k.revocation) k.remote_htlc k.local_htlc (ripemd160 h.hash) h.expiry_height (omega (arith, low)) keys.remote_htlc keys.local_htlc (length-ripemd160 _) (length-ripemd160 _)
 
-forms_on : (c : Contents) → AreKeys c.keys → c.delay < 2 ^ 16 → (index : ℕ) (place : Place) (kind : OutputKind) → HasHeight kind → AreForms (claims_on c index place kind)
-forms_on c keys short index place ToLocal low = (to_local_checked c.keys.revocation c.delay c.keys.delayed short keys.revocation keys.delayed, tt)
+forms_on : (c : Contents) → AreKeys c.keys → c.delay_blocks < 2 ^ 16 → (index : ℕ) (place : Place) (kind : OutputKind) → HasHeight kind → AreForms (claims_on c index place kind)
+forms_on c keys short index place ToLocal low = (to_local_checked c.keys.revocation c.delay_blocks c.keys.delayed short keys.revocation keys.delayed, tt)
 forms_on c keys short index place ToRemote low = (key_hash_checked (hash160 c.keys.remote) (length-ripemd160 _), tt)
 forms_on c keys short index place (ToHtlc d h) low =
-    (htlc_checked c.keys keys d h low, (to_local_checked c.keys.revocation c.delay c.keys.delayed short keys.revocation keys.delayed, tt))
+    (htlc_checked c.keys keys d h low, (to_local_checked c.keys.revocation c.delay_blocks c.keys.delayed short keys.revocation keys.delayed, tt))
 
 forms_append : (os ps : List Claimable) → AreForms os → AreForms ps → AreForms (os ++ ps)
 forms_append [] ps a b = b
 forms_append (o ∷ os) ps a b = (a.0, forms_append os ps a.1 b)
 
-forms_from : (c : Contents) → AreKeys c.keys → c.delay < 2 ^ 16 → (index : ℕ) (os : List CommitmentOutput) → AllByRecursion (λ o. IsOutput c.delay c.keys o) os → AreForms (claims_from c index os)
+forms_from : (c : Contents) → AreKeys c.keys → c.delay_blocks < 2 ^ 16 → (index : ℕ) (os : List CommitmentOutput) → AllByRecursion (λ o. IsOutput c.delay_blocks c.keys o) os → AreForms (claims_from c index os)
 unfolding claims_by
 forms_from c keys short index [] h = tt
 forms_from c keys short index (o ∷ os) h =
@@ -132,11 +132,11 @@ unfolding commitment_of
 keys_in terms view owner number point = are_keys terms owner point
 
 -- a side's delay is below 2^16, by the type of terms
-short_delay : (terms : Terms) (side : Side) → (party side terms).delay < 2 ^ 16
+short_delay : (terms : Terms) (side : Side) → (party side terms).delay_blocks < 2 ^ 16
 short_delay terms A = terms.short_a
 short_delay terms B = terms.short_b
 
-delay_in : (terms : Terms) (view : View) (owner : Side) (number : ℕ) (point : List ℕ) → (commitment_of terms view owner number point).delay < 2 ^ 16
+delay_in : (terms : Terms) (view : View) (owner : Side) (number : ℕ) (point : List ℕ) → (commitment_of terms view owner number point).delay_blocks < 2 ^ 16
 unfolding commitment_of
 delay_in terms view owner number point = short_delay terms owner
 
@@ -146,4 +146,4 @@ unfolding claimable_in
 forms_are_checked terms view owner number point pays =
     let c = commitment_of terms view owner number point in
     forms_from c (keys_in terms view owner number point) (delay_in terms view owner number point) 0 c.outputs
-    (recursion_from_All (λ o. IsOutput c.delay c.keys o) c.outputs (outputs_stand terms view owner number point pays).each)
+    (recursion_from_All (λ o. IsOutput c.delay_blocks c.keys o) c.outputs (outputs_stand terms view owner number point pays).each)

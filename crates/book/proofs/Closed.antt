@@ -5,9 +5,10 @@ use Rattle.std.specs.List.{AllByRecursion, list_any}
 use Rattle.std.proofs.lemmas.Bool.{eqb-true, and_parts}
 use Rattle.std.proofs.lemmas.Option.{none-some, same_Some}
 use Rattle.channel.specs.States.{Signing, State, after, after_sign}
+use Rattle.updates.specs.declared.messages.PeerStep.TheVariants.{Update as Updated, CommitmentSigned}
 use Rattle.channel.specs.declared.messages.Message.TheVariants.{RevokeAndAck}
 use Rattle.book.specs.declared.calls.Step.{Step}
-use Rattle.book.specs.declared.calls.Step.TheVariants.{Own, Updated, Signed}
+use Rattle.book.specs.declared.calls.Step.TheVariants.{Own, Peer}
 use Rattle.book.specs.declared.calls.Call.{Call}
 use Rattle.book.specs.declared.calls.Call.TheVariants.{Open, Step as Stepping, Sign, Revoke, Keep, Release, Close}
 use Rattle.book.specs.declared.calls.Entry.{Entry}
@@ -27,8 +28,8 @@ IsNewest ch = (n : ℕ) → ch.closed ≡ Some n → n ≡ ch.state.number
 
 step_stays : (tokens_of : Signing) (step : Step) (ch : ChannelBook) → book_step_refusal tokens_of ch step ≡ None → IsNewest ch → IsNewest (with_state (stepped step) ch)
 step_stays tokens_of (Own u) ch none h = h
-step_stays tokens_of (Updated u) ch none h = h
-step_stays tokens_of (Signed tokens) ch none h = λ n e. absurd (true≢false (sym (ap (λ b. b && true) (ap is_some e)) ∙ (passed _ _ _ none).0))
+step_stays tokens_of (Peer (Updated u)) ch none h = h
+step_stays tokens_of (Peer (CommitmentSigned tokens)) ch none h = λ n e. absurd (true≢false (sym (ap (λ b. b && true) (ap is_some e)) ∙ (passed _ _ _ none).0))
 
 call_stays : (tokens_of : Signing) (call : Call) (chs : Channels) → AllByRecursion IsNewest chs → is_accepted (answer_of tokens_of chs call) ≡ true → AllByRecursion IsNewest (channels_after call chs)
 call_stays tokens_of (Open o) chs h ok = all_grown IsNewest (opened_by o) chs h (λ n e. absurd (none-some n e))
@@ -38,7 +39,7 @@ call_stays tokens_of (Stepping c step) chs h ok =
     all_set IsNewest (with_state (stepped step)) c chs h
     (at_found (λ x. IsNewest (with_state (stepped step) x)) (slice_get chs c) found.0 found.1 (step_stays tokens_of step found.0 (unless_ok _ _ _ found.2) newest))
 call_stays tokens_of (Sign c) chs h ok = all_changed IsNewest (with_state after_sign) (λ ch k. k) c chs h
-call_stays tokens_of (Revoke c secret next_point) chs h ok = all_changed IsNewest (with_state (λ s. after s (RevokeAndAck secret next_point))) (λ ch k. k) c chs h
+call_stays tokens_of (Revoke c revocation) chs h ok = all_changed IsNewest (with_state (λ s. after s (RevokeAndAck revocation))) (λ ch k. k) c chs h
 call_stays tokens_of (Keep c n claims) chs h ok = all_changed IsNewest (with_kept n) (λ ch k. k) c chs h
 call_stays tokens_of (Release c batch) chs h ok = h
 call_stays tokens_of (Close c) chs h ok = all_changed IsNewest with_closed (λ ch k n e. sym (same_Some ch.state.number n e)) c chs h
@@ -77,7 +78,7 @@ still_shut : (call : Call) (c : ℕ) (chs : Channels) → IsShut c chs → IsShu
 still_shut (Open o) c chs h = still_there (opened_by o) c chs h
 still_shut (Stepping d step) c chs h = unseen is_closed (with_state (stepped step)) (λ ch. refl) d c chs ∙ h
 still_shut (Sign d) c chs h = unseen is_closed (with_state after_sign) (λ ch. refl) d c chs ∙ h
-still_shut (Revoke d secret next_point) c chs h = unseen is_closed (with_state (λ s. after s (RevokeAndAck secret next_point))) (λ ch. refl) d c chs ∙ h
+still_shut (Revoke d revocation) c chs h = unseen is_closed (with_state (λ s. after s (RevokeAndAck revocation))) (λ ch. refl) d c chs ∙ h
 still_shut (Keep d n claims) c chs h = unseen is_closed (with_kept n) (λ ch. refl) d c chs ∙ h
 still_shut (Release d batch) c chs h = h
 still_shut (Close d) c chs h = still_closed d c chs h
@@ -115,7 +116,7 @@ not_taken tokens_of c (Sign d) chs shut ok = by (d == c) refl
     by true e =
         let found = asked_ok _ (slice_get chs d) _ ok in
         absurd (true≢false (sym (is_shut c d chs found.0 e found.1 shut) ∙ (passed _ _ _ (unless_ok _ _ _ found.2)).0))
-not_taken tokens_of c (Revoke d secret next_point) chs shut ok = refl
+not_taken tokens_of c (Revoke d revocation) chs shut ok = refl
 not_taken tokens_of c (Keep d n claims) chs shut ok = refl
 not_taken tokens_of c (Release d batch) chs shut ok = refl
 not_taken tokens_of c (Close d) chs shut ok = refl

@@ -9,11 +9,12 @@ use Rattle.terms.specs.Bases.{IsSeedOf}
 use Rattle.updates.specs.declared.changes.Update.TheVariants.{Add, Fulfil as Fulfilling, Fail as Failing, Fee}
 use Rattle.updates.specs.declared.changes.OwnUpdate.TheVariants.{Offer, Fulfil, Fail, SetFee}
 use Rattle.updates.specs.declared.errors.ChannelError.TheVariants.{AmountZero, UnknownHtlc, NotYourTurn}
+use Rattle.updates.specs.declared.messages.PeerStep.TheVariants.{Update as Updated, CommitmentSigned}
 use Rattle.channel.specs.declared.messages.Message.TheVariants.{RevokeAndAck}
 use Rattle.channel.specs.Points.{secret_at, point_at}
 use Rattle.channel.proofs.Samples.{key, secret, point_key, tokens_of, tokens}
 use Rattle.book.specs.declared.calls.Opening.{Opening}
-use Rattle.book.specs.declared.calls.Step.TheVariants.{Own, Updated, Signed}
+use Rattle.book.specs.declared.calls.Step.TheVariants.{Own, Peer}
 use Rattle.book.specs.declared.calls.Call.{Call}
 use Rattle.book.specs.declared.calls.Call.TheVariants.{Open, Step as Stepping, Sign, Revoke, Keep, Close}
 use Rattle.book.specs.declared.calls.Entry.{Entry}
@@ -30,17 +31,17 @@ abbrev hash : List ℕ
 hash = replicate 32 9
 
 abbrev htlc : ℕ → ℕ → ℕ → Htlc
-htlc id amount expiry = record { id = id; amount = amount; hash = hash; expiry = expiry }
+htlc id amount_msat expiry_height = record { id = id; amount_msat = amount_msat; hash = hash; expiry_height = expiry_height }
 
 -- of one's own updates only a fulfil is taken; of the peer's messages all but a signature
 barred : map is_barred
-    (Own (Offer 7 hash 500) ∷ Own (Fulfil 0 hash) ∷ Own (Fail 0) ∷ Own (SetFee 5) ∷ Updated (Add (htlc 0 7 500)) ∷ Updated (Fulfilling 0 hash) ∷ Updated (Failing 0) ∷ Updated (Fee 5) ∷ Signed (tokens 1 []) ∷ [])
+    (Own (Offer 7 hash 500) ∷ Own (Fulfil 0 hash) ∷ Own (Fail 0) ∷ Own (SetFee 5) ∷ Peer (Updated (Add (htlc 0 7 500))) ∷ Peer (Updated (Fulfilling 0 hash)) ∷ Peer (Updated (Failing 0)) ∷ Peer (Updated (Fee 5)) ∷ Peer (CommitmentSigned (tokens 1 [])) ∷ [])
     ≡ true ∷ false ∷ true ∷ true ∷ false ∷ false ∷ false ∷ false ∷ true ∷ []
 barred = refl
 
 -- the same by channel
 shut_out : map (is_shut_out 3)
-    (Sign 3 ∷ Sign 2 ∷ Stepping 3 (Signed (tokens 1 [])) ∷ Stepping 4 (Signed (tokens 1 [])) ∷ Stepping 3 (Own (Fail 0)) ∷ Stepping 3 (Own (Fulfil 0 hash)) ∷ Revoke 3 secret (key 2) ∷ Keep 3 0 [] ∷ Close 3 ∷ [])
+    (Sign 3 ∷ Sign 2 ∷ Stepping 3 (Peer (CommitmentSigned (tokens 1 []))) ∷ Stepping 4 (Peer (CommitmentSigned (tokens 1 []))) ∷ Stepping 3 (Own (Fail 0)) ∷ Stepping 3 (Own (Fulfil 0 hash)) ∷ Revoke 3 (record { secret = secret; next_point = key 2 }) ∷ Keep 3 0 [] ∷ Close 3 ∷ [])
     ≡ true ∷ false ∷ true ∷ false ∷ true ∷ false ∷ false ∷ false ∷ false ∷ []
 shut_out = refl
 
@@ -56,11 +57,11 @@ module _ (bases : BaseKeys) (seed : List ℕ) (own : IsSeedOf seed bases) where
   abbrev terms_of : ℕ → Terms
   terms_of index = record {
     funding = record { txid = replicate 32 5; index = index };
-    capacity = 100000;
+    capacity_sat = 100000;
     opener = A;
-    feerate = 1000;
-    a = record { dust = 546; delay = 144; minimum = 1000; start = 80000000; bases = bases };
-    b = record { dust = 546; delay = 144; minimum = 1000; start = 20000000; bases = bases };
+    feerate_per_kw = 1000;
+    a = record { dust_sat = 546; delay_blocks = 144; minimum_msat = 1000; start_msat = 80000000; bases = bases };
+    b = record { dust_sat = 546; delay_blocks = 144; minimum_msat = 1000; start_msat = 20000000; bases = bases };
     limited = lit≤ tt;
     whole = refl;
     short_a = lit< tt;
@@ -72,7 +73,7 @@ module _ (bases : BaseKeys) (seed : List ℕ) (own : IsSeedOf seed bases) where
 
   -- B has two channels, and received a signature in the second one
   abbrev before : List Call
-  before = Open (opening 0) ∷ Open (opening 1) ∷ Stepping 1 (Updated (Add (htlc 0 1000000 500))) ∷ Stepping 1 (Signed (tokens 1 (1000000 ∷ []))) ∷ []
+  before = Open (opening 0) ∷ Open (opening 1) ∷ Stepping 1 (Peer (Updated (Add (htlc 0 1000000 500)))) ∷ Stepping 1 (Peer (CommitmentSigned (tokens 1 (1000000 ∷ [])))) ∷ []
 
   -- each channel is closed with its own newest commitment, as often as it is asked
   closings : answers_from (history_from [] before) (Close 1 ∷ Close 0 ∷ Close 1 ∷ Close 2 ∷ [])
@@ -81,19 +82,19 @@ module _ (bases : BaseKeys) (seed : List ℕ) (own : IsSeedOf seed bases) where
 
   -- the second channel is closed, after one more update of the peer
   abbrev history : List Entry
-  history = history_from (history_from [] before) (Stepping 1 (Updated (Add (htlc 1 2000000 501))) ∷ Close 1 ∷ [])
+  history = history_from (history_from [] before) (Stepping 1 (Peer (Updated (Add (htlc 1 2000000 501)))) ∷ Close 1 ∷ [])
 
   -- it takes no signature and signs nothing, makes no offer, failure or fee, and still takes the peer's updates; a fulfil, a revocation and penalties are refused for their own reasons
   refused : map (reply_of tokens_of history)
-      (Stepping 1 (Signed (tokens 2 (1000000 ∷ 2000000 ∷ []))) ∷ Sign 1 ∷ Stepping 1 (Own (Offer 1000000 hash 500)) ∷ Stepping 1 (Own (Fail 0)) ∷ Stepping 1 (Own (SetFee 5))
-      ∷ Stepping 1 (Own (Fulfil 7 hash)) ∷ Stepping 1 (Updated (Add (htlc 2 3000000 502))) ∷ Revoke 1 secret (key 2) ∷ Keep 1 0 [] ∷ [])
+      (Stepping 1 (Peer (CommitmentSigned (tokens 2 (1000000 ∷ 2000000 ∷ [])))) ∷ Sign 1 ∷ Stepping 1 (Own (Offer 1000000 hash 500)) ∷ Stepping 1 (Own (Fail 0)) ∷ Stepping 1 (Own (SetFee 5))
+      ∷ Stepping 1 (Own (Fulfil 7 hash)) ∷ Stepping 1 (Peer (Updated (Add (htlc 2 3000000 502)))) ∷ Revoke 1 (record { secret = secret; next_point = key 2 }) ∷ Keep 1 0 [] ∷ [])
       ≡ stepped (Err ClosedToSteps) ∷ signed (Err ClosedToSigning) ∷ stepped (Err ClosedToSteps) ∷ stepped (Err ClosedToSteps) ∷ stepped (Err ClosedToSteps)
       ∷ stepped (Err (Refused UnknownHtlc)) ∷ stepped (Ok []) ∷ revoked (Err (Refused NotYourTurn)) ∷ kept (Err NotRevoked) ∷ []
   refused = refl
 
   -- before it was closed it took that signature, and answered it with the secret of the commitment that is now on the chain
-  taken_before : reply_of tokens_of (history_from (history_from [] before) (Stepping 1 (Updated (Add (htlc 1 2000000 501))) ∷ [])) (Stepping 1 (Signed (tokens 2 (1000000 ∷ 2000000 ∷ []))))
-      ≡ stepped (Ok (RevokeAndAck (secret_at seed 1) (point_at seed 3) ∷ []))
+  taken_before : reply_of tokens_of (history_from (history_from [] before) (Stepping 1 (Peer (Updated (Add (htlc 1 2000000 501)))) ∷ [])) (Stepping 1 (Peer (CommitmentSigned (tokens 2 (1000000 ∷ 2000000 ∷ [])))))
+      ≡ stepped (Ok (RevokeAndAck (record { secret = secret_at seed 1; next_point = point_at seed 3 }) ∷ []))
   taken_before = refl
 
   -- the other channel is not closed

@@ -49,7 +49,7 @@ shown (closed r) = (closing, number_of close_error_number r)
 -- out of memory has number 0 for each call
 module _ (o : Opening) (taken : Step) (secret : List ℕ) (point : Key) (claims : List ClaimParts) (batch : Batch) where
   no_memory : map shown (map no_memory_of
-      (calls.Open o ∷ calls.Step 1 taken ∷ calls.Sign 2 ∷ calls.Revoke 3 secret point ∷ calls.Keep 4 5 claims ∷ calls.Release 6 batch ∷ calls.Close 7 ∷ []))
+      (calls.Open o ∷ calls.Step 1 taken ∷ calls.Sign 2 ∷ calls.Revoke 3 (record { secret = secret; next_point = point }) ∷ calls.Keep 4 5 claims ∷ calls.Release 6 batch ∷ calls.Close 7 ∷ []))
       ≡ (opening, Some 0) ∷ (stepping, Some 0) ∷ (signing, Some 0) ∷ (revoking, Some 0) ∷ (keeping, Some 0) ∷ (releasing, Some 0) ∷ (closing, Some 0) ∷ []
   no_memory = refl
 

@@ -113,7 +113,7 @@ many_after : (call : Call) (ps : Preimages) (chs : Channels) → length ps ≡ l
 many_after (Open o) ps chs same = length-append ps ([] ∷ []) ∙ ap (λ n. n + 1) same ∙ sym (length-append chs (opened_by o ∷ []))
 many_after (Stepping c step) ps chs same = as_long _ c ps ∙ same ∙ sym (as_long _ c chs)
 many_after (Sign c) ps chs same = same ∙ sym (as_long _ c chs)
-many_after (Revoke c secret next_point) ps chs same = same ∙ sym (as_long _ c chs)
+many_after (Revoke c revocation) ps chs same = same ∙ sym (as_long _ c chs)
 many_after (Keep c n claims) ps chs same = same ∙ sym (as_long _ c chs)
 many_after (Release c batch) ps chs same = same
 many_after (Close c) ps chs same = same ∙ sym (as_long _ c chs)
@@ -140,7 +140,7 @@ added tokens_of chs c (Stepping d step) ps same ok =
     at_written (cons_option (preimage_in step) []) d c ps (subst (λ n. d < n) (sym same) (taken_within tokens_of chs d step ok))
     ∙ ap (λ more. at_or ps c ++ more) (chosen (d == c) (preimage_in step))
 added tokens_of chs c (Sign d) ps same ok = sym (append-nil (at_or ps c))
-added tokens_of chs c (Revoke d secret next_point) ps same ok = sym (append-nil (at_or ps c))
+added tokens_of chs c (Revoke d revocation) ps same ok = sym (append-nil (at_or ps c))
 added tokens_of chs c (Keep d n claims) ps same ok = sym (append-nil (at_or ps c))
 added tokens_of chs c (Release d batch) ps same ok = sym (append-nil (at_or ps c))
 added tokens_of chs c (Close d) ps same ok = sym (append-nil (at_or ps c))

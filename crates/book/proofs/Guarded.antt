@@ -7,7 +7,8 @@ use Rattle.keys.specs.declared.compressed.Key.{Key}
 use Rattle.claim.specs.Claims.{ClaimParts}
 use Rattle.channel.specs.States.{Signing, State}
 use Rattle.book.specs.declared.calls.Step.{Step}
-use Rattle.book.specs.declared.calls.Step.TheVariants.{Own, Updated, Signed}
+use Rattle.updates.specs.declared.messages.PeerStep.TheVariants.{Update as Updated, CommitmentSigned}
+use Rattle.book.specs.declared.calls.Step.TheVariants.{Own, Peer}
 use Rattle.book.specs.declared.calls.Call.{Call}
 use Rattle.book.specs.declared.calls.Call.TheVariants.{Open, Step as Stepping, Sign, Revoke, Keep, Release, Close}
 use Rattle.book.specs.declared.calls.Entry.{Entry}
@@ -43,15 +44,15 @@ each_is tokens_of (e ∷ es) ok = let h = and_parts (is_taken tokens_of es e) (a
 -- a step leaves the secrets
 step_leaves : (step : Step) (s : State) → length (stepped step s).secrets ≡ length s.secrets
 step_leaves (Own u) s = refl
-step_leaves (Updated u) s = refl
-step_leaves (Signed tokens) s = refl
+step_leaves (Peer (Updated u)) s = refl
+step_leaves (Peer (CommitmentSigned tokens)) s = refl
 
 -- ---- there are as many secrets as revocations came
 
 revoked_once : (c d : ℕ) (secret : List ℕ) (next_point : Key) (chs : Channels) (ch : ChannelBook) → slice_get chs d ≡ Some ch → (here : Bool) → (d == c) ≡ here
-    → count_of (slice_get (channels_after (Revoke d secret next_point) chs) c) ≡ (if here then suc (count_of (slice_get chs c)) else count_of (slice_get chs c))
+    → count_of (slice_get (channels_after (Revoke d (record { secret = secret; next_point = next_point })) chs) c) ≡ (if here then suc (count_of (slice_get chs c)) else count_of (slice_get chs c))
 revoked_once c d secret next_point chs ch found true e =
-    subst (λ k. count_of (slice_get (channels_after (Revoke d secret next_point) chs) k) ≡ suc (count_of (slice_get chs k))) (eqb-true d c e)
+    subst (λ k. count_of (slice_get (channels_after (Revoke d (record { secret = secret; next_point = next_point })) chs) k) ≡ suc (count_of (slice_get chs k))) (eqb-true d c e)
     (ap count_of (at_here _ d chs) ∙ rw found (omega (arith, length-append ch.state.secrets (secret ∷ []))))
 revoked_once c d secret next_point chs ch found false e = ap count_of (at_other _ d c chs (eqb-false d c e))
 
@@ -60,7 +61,7 @@ counted_once : (c : ℕ) (call : Call) (tokens_of : Signing) (chs : Channels) �
 counted_once c (Open o) tokens_of chs ok = as_before (λ (ch : ChannelBook). length ch.state.secrets) 0 (opened_by o) refl c chs
 counted_once c (Stepping d step) tokens_of chs ok = ap (λ o. unwrap_or o 0) (unseen (λ (ch : ChannelBook). length ch.state.secrets) (with_state (stepped step)) (λ ch. step_leaves step ch.state) d c chs)
 counted_once c (Sign d) tokens_of chs ok = ap (λ o. unwrap_or o 0) (unseen (λ (ch : ChannelBook). length ch.state.secrets) _ (λ ch. refl) d c chs)
-counted_once c (Revoke d secret next_point) tokens_of chs ok = let found = asked_ok _ (slice_get chs d) _ ok in revoked_once c d secret next_point chs found.0 found.1 (d == c) refl
+counted_once c (Revoke d revocation) tokens_of chs ok = let found = asked_ok _ (slice_get chs d) _ ok in revoked_once c d revocation.secret revocation.next_point chs found.0 found.1 (d == c) refl
 counted_once c (Keep d n claims) tokens_of chs ok = ap (λ o. unwrap_or o 0) (unseen (λ (ch : ChannelBook). length ch.state.secrets) (with_kept n) (λ ch. refl) d c chs)
 counted_once c (Release d batch) tokens_of chs ok = refl
 counted_once c (Close d) tokens_of chs ok = ap (λ o. unwrap_or o 0) (unseen (λ (ch : ChannelBook). length ch.state.secrets) with_closed (λ ch. refl) d c chs)
@@ -102,8 +103,8 @@ kept_once : (c n : ℕ) (call : Call) (tokens_of : Signing) (chs : Channels) →
 kept_once c n (Open o) tokens_of chs ok = unchanged c n (Open o) chs (as_before (λ (ch : ChannelBook). ch.kept) [] (opened_by o) refl c chs)
 kept_once c n (Stepping d step) tokens_of chs ok = unchanged c n (Stepping d step) chs (ap (λ o. unwrap_or o []) (unseen (λ (ch : ChannelBook). ch.kept) _ (λ ch. refl) d c chs))
 kept_once c n (Sign d) tokens_of chs ok = unchanged c n (Sign d) chs (ap (λ o. unwrap_or o []) (unseen (λ (ch : ChannelBook). ch.kept) _ (λ ch. refl) d c chs))
-kept_once c n (Revoke d secret next_point) tokens_of chs ok =
-    unchanged c n (Revoke d secret next_point) chs (ap (λ o. unwrap_or o []) (unseen (λ (ch : ChannelBook). ch.kept) _ (λ ch. refl) d c chs))
+kept_once c n (Revoke d revocation) tokens_of chs ok =
+    unchanged c n (Revoke d revocation) chs (ap (λ o. unwrap_or o []) (unseen (λ (ch : ChannelBook). ch.kept) _ (λ ch. refl) d c chs))
 kept_once c n (Keep d m claims) tokens_of chs ok =
     let found = asked_ok _ (slice_get chs d) _ ok in
     let keeping = keeps found.0 m claims (unless_ok _ _ _ found.2) in
@@ -137,7 +138,7 @@ revokes_alone : (c n : ℕ) (chs : Channels) (call : Call) → is_revocation c c
 revokes_alone c n chs (Open o) e kept = true≢false (sym e)
 revokes_alone c n chs (Stepping d step) e kept = true≢false (sym e)
 revokes_alone c n chs (Sign d) e kept = true≢false (sym e)
-revokes_alone c n chs (Revoke d secret next_point) e kept = some_none n (sym kept)
+revokes_alone c n chs (Revoke d revocation) e kept = some_none n (sym kept)
 revokes_alone c n chs (Keep d m claims) e kept = true≢false (sym e)
 revokes_alone c n chs (Release d batch) e kept = true≢false (sym e)
 revokes_alone c n chs (Close d) e kept = true≢false (sym e)
@@ -204,7 +205,7 @@ allowed tokens_of (Stepping d step) es before ok = refl
 allowed tokens_of (Sign c) es before ok =
     let found = asked_ok _ (at c es) _ ok in
     allowed_to_sign tokens_of c es before found.0 found.1 (none_missing found.0 (unless_ok _ _ _ found.2))
-allowed tokens_of (Revoke d secret next_point) es before ok = refl
+allowed tokens_of (Revoke d revocation) es before ok = refl
 allowed tokens_of (Keep d n claims) es before ok = refl
 allowed tokens_of (Release d batch) es before ok = refl
 allowed tokens_of (Close d) es before ok = refl

@@ -11,7 +11,7 @@ use Rattle.terms.specs.declared.sides.Side.{Side}
 use Rattle.terms.specs.declared.agreement.Terms.{Terms}
 use Rattle.terms.specs.declared.views.View.{View}
 use Rattle.terms.specs.Sides.{other}
-use Rattle.commit.specs.Sums.{total_of}
+use Rattle.commit.specs.Sums.{total_msat_of}
 use Rattle.penalty.specs.Views.{has_heights}
 use Rattle.penalty.specs.Paying.{refusal_of}
 use Rattle.channel.specs.Numbered.{SharesOut, AreNumbered}
@@ -107,7 +107,7 @@ payable terms view s =
     let b : length view.b.offered ≤ 483 = s.few_of_b in
     let few : nat_lt 3998 (length view.a.offered + length view.b.offered) ≡ false = less_false 3998 (length view.a.offered + length view.b.offered) (omega (arith, a, b)) in
     let heights : has_heights view ≡ true = and_from _ _ s.heights_of_a s.heights_of_b in
-    let whole : (total_of view == MSAT_PER_SAT * terms.capacity) ≡ true = eq-eqb (total_of view) (MSAT_PER_SAT * terms.capacity) s.whole in
+    let whole : (total_msat_of view == MSAT_PER_SAT * terms.capacity_sat) ≡ true = eq-eqb (total_msat_of view) (MSAT_PER_SAT * terms.capacity_sat) s.whole in
     rw (few, heights, whole) refl
 
 -- so does each of the peer's commitments

@@ -35,15 +35,15 @@ abbrev entry : Call → Entry
 entry call = record { seat = 0; call = call }
 
 abbrev side : ℕ → BaseKeys → Party
-side start bases = record { dust = 546; delay = 144; minimum = 1000; start = start; bases = bases }
+side start_msat bases = record { dust_sat = 546; delay_blocks = 144; minimum_msat = 1000; start_msat = start_msat; bases = bases }
 
 module _ (bases : BaseKeys) (seed : List ℕ) (own : IsSeedOf seed bases) where
   -- a channel of 1,000 satoshis, of which each side has half, and one of 100,000; no fee is paid
   abbrev small : Terms
-  small = record { funding = record { txid = replicate 32 5; index = 0 }; capacity = 1000; opener = A; feerate = 0; a = side 500000 bases; b = side 500000 bases; limited = lit≤ tt; whole = refl; short_a = lit< tt; short_b = lit< tt }
+  small = record { funding = record { txid = replicate 32 5; index = 0 }; capacity_sat = 1000; opener = A; feerate_per_kw = 0; a = side 500000 bases; b = side 500000 bases; limited = lit≤ tt; whole = refl; short_a = lit< tt; short_b = lit< tt }
 
   abbrev large : Terms
-  large = record { funding = record { txid = replicate 32 5; index = 0 }; capacity = 100000; opener = A; feerate = 0; a = side 80000000 bases; b = side 20000000 bases; limited = lit≤ tt; whole = refl; short_a = lit< tt; short_b = lit< tt }
+  large = record { funding = record { txid = replicate 32 5; index = 0 }; capacity_sat = 100000; opener = A; feerate_per_kw = 0; a = side 80000000 bases; b = side 20000000 bases; limited = lit≤ tt; whole = refl; short_a = lit< tt; short_b = lit< tt }
 
   abbrev small_opening : Opening
   small_opening = record { terms = small; side = A; seed = seed; first_point = point_key; next_point = key 1; token = 0 ∷ []; own = own }
@@ -53,7 +53,7 @@ module _ (bases : BaseKeys) (seed : List ℕ) (own : IsSeedOf seed bases) where
 
   -- the channel is opened, A offers an HTLC and signs, B revokes its commitment 0, and A keeps its penalties
   abbrev history : Opening → List ClaimParts → List Entry
-  history o claims = entry (Open o) ∷ entry (Stepping 0 (Own (Offer 1000 hash 500))) ∷ entry (Sign 0) ∷ entry (Revoke 0 secret (key 2)) ∷ entry (Keep 0 0 claims) ∷ []
+  history o claims = entry (Open o) ∷ entry (Stepping 0 (Own (Offer 1000 hash 500))) ∷ entry (Sign 0) ∷ entry (Revoke 0 (record { secret = secret; next_point = key 2 })) ∷ entry (Keep 0 0 claims) ∷ []
 
   there : (o : Opening) (claims : List ClaimParts) → Contains (history o claims) (entry (Keep 0 0 claims))
   there o claims = (4, lit< tt, refl)
@@ -71,7 +71,7 @@ module _ (bases : BaseKeys) (seed : List ℕ) (own : IsSeedOf seed bases) where
 
   -- A's state in the large channel, once the commitment is revoked
   abbrev then : State
-  then = after (after_sign (after_update (Add (record { id = 0; amount = 1000; hash = hash; expiry = 500 })) (opened_state large A seed point_key (key 1)))) (RevokeAndAck secret (key 2))
+  then = after (after_sign (after_update (Add (record { id = 0; amount_msat = 1000; hash = hash; expiry_height = 500 })) (opened_state large A seed point_key (key 1)))) (RevokeAndAck (record { secret = secret; next_point = key 2 }))
 
   -- claims that are its penalty set are kept, and are exact
   module _ (claims : List ClaimParts) (is_set : is_penalty_set then 0 claims ≡ true) (whole : AllByRecursion IsWhole claims) where

@@ -20,7 +20,8 @@ use Rattle.filling.specs.Refusals.{are_mixed, share_outpoint, do_exceed, all_slo
 use Rattle.channel.specs.States.{Signing, State}
 use Rattle.book.specs.declared.calls.Batch.{Batch}
 use Rattle.book.specs.declared.calls.Step.{Step}
-use Rattle.book.specs.declared.calls.Step.TheVariants.{Own, Updated, Signed}
+use Rattle.updates.specs.declared.messages.PeerStep.TheVariants.{Update as Updated, CommitmentSigned}
+use Rattle.book.specs.declared.calls.Step.TheVariants.{Own, Peer}
 use Rattle.book.specs.declared.calls.Call.{Call}
 use Rattle.book.specs.declared.calls.Call.TheVariants.{Open, Step as Stepping, Sign, Revoke, Keep, Release, Close}
 use Rattle.book.specs.declared.calls.Entry.{Entry}
@@ -56,14 +57,14 @@ all_at P (y ∷ xs) (suc n) x h e = all_at P xs n x h.1 e
 
 step_owns : (step : Step) (ch : ChannelBook) → OwnsBases ch → OwnsBases (with_state (stepped step) ch)
 step_owns (Own u) ch h = h
-step_owns (Updated u) ch h = h
-step_owns (Signed tokens) ch h = h
+step_owns (Peer (Updated u)) ch h = h
+step_owns (Peer (CommitmentSigned tokens)) ch h = h
 
 call_owns : (call : Call) (chs : Channels) → AllByRecursion OwnsBases chs → AllByRecursion OwnsBases (channels_after call chs)
 call_owns (Open o) chs h = all_grown OwnsBases _ chs h o.own
 call_owns (Stepping c step) chs h = all_changed OwnsBases (with_state (stepped step)) (step_owns step) c chs h
 call_owns (Sign c) chs h = all_changed OwnsBases _ (λ ch k. k) c chs h
-call_owns (Revoke c secret next_point) chs h = all_changed OwnsBases _ (λ ch k. k) c chs h
+call_owns (Revoke c revocation) chs h = all_changed OwnsBases _ (λ ch k. k) c chs h
 call_owns (Keep c n claims) chs h = all_changed OwnsBases _ (λ ch k. k) c chs h
 call_owns (Release c batch) chs h = h
 call_owns (Close c) chs h = all_changed OwnsBases _ (λ ch k. k) c chs h
@@ -101,14 +102,14 @@ before_the_last x (suc c) (y ∷ ys) ch at = before_the_last x c ys ch at
 
 step_grows : (step : Step) (ch : ChannelBook) → Grew ch (with_state (stepped step) ch)
 step_grows (Own u) ch = record { seed = refl; secrets = λ secret h. h }
-step_grows (Updated u) ch = record { seed = refl; secrets = λ secret h. h }
-step_grows (Signed tokens) ch = record { seed = refl; secrets = λ secret h. h }
+step_grows (Peer (Updated u)) ch = record { seed = refl; secrets = λ secret h. h }
+step_grows (Peer (CommitmentSigned tokens)) ch = record { seed = refl; secrets = λ secret h. h }
 
 later : (call : Call) (c : ℕ) (chs : Channels) (ch : ChannelBook) → slice_get chs c ≡ Some ch → IsLater c ch (channels_after call chs)
 later (Open o) c chs ch at = record { new = ch; there = before_the_last _ c chs ch at; grew = same_knowledge ch }
 later (Stepping d step) c chs ch at = changed (with_state (stepped step)) (step_grows step) d c chs ch at
 later (Sign d) c chs ch at = changed _ (λ x. record { seed = refl; secrets = λ secret h. h }) d c chs ch at
-later (Revoke d secret next_point) c chs ch at = changed _ (λ x. record { seed = refl; secrets = λ s h. Contains-append_left x.state.secrets (secret ∷ []) s h }) d c chs ch at
+later (Revoke d revocation) c chs ch at = changed _ (λ x. record { seed = refl; secrets = λ s h. Contains-append_left x.state.secrets (revocation.secret ∷ []) s h }) d c chs ch at
 later (Keep d n claims) c chs ch at = changed _ (λ x. record { seed = refl; secrets = λ secret h. h }) d c chs ch at
 later (Release d batch) c chs ch at = record { new = ch; there = at; grew = same_knowledge ch }
 later (Close d) c chs ch at = changed _ (λ x. record { seed = refl; secrets = λ secret h. h }) d c chs ch at

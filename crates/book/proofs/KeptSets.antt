@@ -19,7 +19,8 @@ use Rattle.penalty.specs.Sets.{AreClaimsOn}
 use Rattle.penalty.specs.Paying.{CanPay}
 use Rattle.channel.specs.declared.limits.TheConstants.{LAST_NUMBER}
 use Rattle.channel.specs.declared.commitments.CommitmentState.{CommitmentState}
-use Rattle.channel.specs.declared.messages.Message.TheVariants.{Updated as UpdateMessage, CommitmentSigned, RevokeAndAck}
+use Rattle.updates.specs.declared.messages.PeerStep.TheVariants.{Update as Updated, CommitmentSigned}
+use Rattle.channel.specs.declared.messages.Message.TheVariants.{Step as StepMessage, RevokeAndAck}
 use Rattle.channel.specs.Numbered.{SharesOut}
 use Rattle.channel.specs.States.{Signing, State, update_of, peers_next, sign_refusal as channel_refusal, after_sign, after}
 use Rattle.channel.specs.Peers.{IsLived, starts, updated_once, signed_once, received_once}
@@ -27,7 +28,7 @@ use Rattle.channel.specs.Recording.{AreByNumber, SidesNumber}
 use Rattle.channel.specs.Tokens.{peer_tokens}
 use Rattle.claim.specs.Opcodes.{◌>>=◌}
 use Rattle.book.specs.declared.calls.Step.{Step}
-use Rattle.book.specs.declared.calls.Step.TheVariants.{Own, Updated, Signed}
+use Rattle.book.specs.declared.calls.Step.TheVariants.{Own, Peer}
 use Rattle.book.specs.declared.calls.Call.{Call}
 use Rattle.book.specs.declared.calls.Call.TheVariants.{Open, Step as Stepping, Sign, Revoke, Keep, Release, Close}
 use Rattle.book.specs.declared.calls.Entry.{Entry}
@@ -64,8 +65,8 @@ at_found P o y there p x same = subst P (same_Some y x (sym there ∙ same)) p
 
 step_lives : (tokens_of : Signing) (step : Step) (s : State) → step_refusal tokens_of s step ≡ None → IsLived tokens_of s → IsLived tokens_of (stepped step s)
 step_lives tokens_of (Own u) s none l = updated_once (update_of s u) none l
-step_lives tokens_of (Updated u) s none l = received_once (UpdateMessage u) none l
-step_lives tokens_of (Signed tokens) s none l = received_once (CommitmentSigned tokens) none l
+step_lives tokens_of (Peer (Updated u)) s none l = received_once (StepMessage (Updated u)) none l
+step_lives tokens_of (Peer (CommitmentSigned tokens)) s none l = received_once (StepMessage (CommitmentSigned tokens)) none l
 
 -- the channel does not refuse to sign what the book does not refuse
 channel_signs : (ch : ChannelBook) → sign_refusal ch ≡ None → channel_refusal ch.state ≡ None
@@ -91,12 +92,12 @@ call_lives tokens_of (Sign c) chs h ok =
     let lives = all_at (Lives tokens_of) chs c found.0 h found.1 in
     all_set (Lives tokens_of) (with_state after_sign) c chs h
     (at_found (λ x. Lives tokens_of (with_state after_sign x)) (slice_get chs c) found.0 found.1 (signed_once (channel_signs found.0 (unless_ok _ _ _ found.2)) lives))
-call_lives tokens_of (Revoke c secret next_point) chs h ok =
+call_lives tokens_of (Revoke c revocation) chs h ok =
     let found = asked_ok _ (slice_get chs c) _ ok in
     let lives = all_at (Lives tokens_of) chs c found.0 h found.1 in
-    let revoked : State → State = λ s. after s (RevokeAndAck secret next_point) in
+    let revoked : State → State = λ s. after s (RevokeAndAck revocation) in
     all_set (Lives tokens_of) (with_state revoked) c chs h
-    (at_found (λ x. Lives tokens_of (with_state revoked x)) (slice_get chs c) found.0 found.1 (received_once (RevokeAndAck secret next_point) (unless_ok _ _ _ found.2) lives))
+    (at_found (λ x. Lives tokens_of (with_state revoked x)) (slice_get chs c) found.0 found.1 (received_once (RevokeAndAck revocation) (unless_ok _ _ _ found.2) lives))
 call_lives tokens_of (Keep c n claims) chs h ok = all_changed (Lives tokens_of) (with_kept n) (λ ch k. k) c chs h
 call_lives tokens_of (Release c batch) chs h ok = h
 call_lives tokens_of (Close c) chs h ok = all_changed (Lives tokens_of) with_closed (λ ch k. k) c chs h
@@ -159,14 +160,14 @@ after_signing : (n : ℕ) (os : List Claimable) (s : State) → claimable_at s n
 after_signing n os s e =
     more_known (λ c k. claimable_in (revoked_contents s c k)) n os s.signed (s.signed ++ peers_next s ∷ []) s.secrets s.secrets (λ c f. got_before s.signed (peers_next s ∷ []) n c f) (λ k f. f) e
 
-after_revocation : (n : ℕ) (os : List Claimable) (secret : List ℕ) (next_point : Key) (s : State) → claimable_at s n ≡ Some os → claimable_at (after s (RevokeAndAck secret next_point)) n ≡ Some os
+after_revocation : (n : ℕ) (os : List Claimable) (secret : List ℕ) (next_point : Key) (s : State) → claimable_at s n ≡ Some os → claimable_at (after s (RevokeAndAck (record { secret = secret; next_point = next_point }))) n ≡ Some os
 after_revocation n os secret next_point s e =
     more_known (λ c k. claimable_in (revoked_contents s c k)) n os s.signed s.signed s.secrets (s.secrets ++ secret ∷ []) (λ c f. f) (λ k f. got_before s.secrets (secret ∷ []) n k f) e
 
 after_step : (n : ℕ) (os : List Claimable) (step : Step) (ch : ChannelBook) → claimable_at ch.state n ≡ Some os → claimable_at (with_state (stepped step) ch).state n ≡ Some os
 after_step n os (Own u) ch e = e
-after_step n os (Updated u) ch e = e
-after_step n os (Signed tokens) ch e = e
+after_step n os (Peer (Updated u)) ch e = e
+after_step n os (Peer (CommitmentSigned tokens)) ch e = e
 
 abbrev Lets : ℕ → List Claimable → Option ChannelBook → Type 0
 Lets n os o = claimable_by o n ≡ Some os
@@ -188,8 +189,8 @@ still_lets : (call : Call) (n : ℕ) (os : List Claimable) (c : ℕ) (chs : Chan
 still_lets (Open o) n os c chs h = still_opened n os (opened_by o) c chs h
 still_lets (Stepping d step) n os c chs h = still_changed n os (with_state (stepped step)) (after_step n os step) d c chs h
 still_lets (Sign d) n os c chs h = still_changed n os (with_state after_sign) (λ ch e. after_signing n os ch.state e) d c chs h
-still_lets (Revoke d secret next_point) n os c chs h =
-    still_changed n os (with_state (λ s. after s (RevokeAndAck secret next_point))) (λ ch e. after_revocation n os secret next_point ch.state e) d c chs h
+still_lets (Revoke d revocation) n os c chs h =
+    still_changed n os (with_state (λ s. after s (RevokeAndAck revocation))) (λ ch e. after_revocation n os revocation.secret revocation.next_point ch.state e) d c chs h
 still_lets (Keep d m claims) n os c chs h = still_changed n os (with_kept m) (λ ch e. e) d c chs h
 still_lets (Release d batch) n os c chs h = h
 still_lets (Close d) n os c chs h = still_changed n os with_closed (λ ch e. e) d c chs h

@@ -2,7 +2,8 @@
 use Rattle.std.proofs.Common.{◌≡◌, ℕ, ◌*◌, true, false, List, [], ◌∷◌, Some, None, refl}
 use Rattle.updates.specs.declared.changes.Update.TheVariants.{Fulfil as Fulfilling, Fail as Failing}
 use Rattle.updates.specs.declared.changes.OwnUpdate.TheVariants.{Fulfil, Fail}
-use Rattle.book.specs.declared.calls.Step.TheVariants.{Own, Updated}
+use Rattle.updates.specs.declared.messages.PeerStep.TheVariants.{Update as Updated}
+use Rattle.book.specs.declared.calls.Step.TheVariants.{Own, Peer}
 use Rattle.book.specs.declared.calls.Call.{Call}
 use Rattle.book.specs.declared.calls.Call.TheVariants.{Step as Stepping, Sign}
 use Rattle.book.specs.declared.calls.Entry.{Entry}
@@ -19,9 +20,9 @@ abbrev history : List Entry
 history =
     by 0 (Stepping 1 (Own (Fulfil 0 (5 ∷ []))))
     ∷ by 1 (Stepping 0 (Own (Fulfil 0 (6 ∷ []))))
-    ∷ by 0 (Stepping 1 (Updated (Fulfilling 2 (7 ∷ []))))
+    ∷ by 0 (Stepping 1 (Peer (Updated (Fulfilling 2 (7 ∷ [])))))
     ∷ by 0 (Stepping 1 (Own (Fail 3)))
-    ∷ by 2 (Stepping 1 (Updated (Failing 4)))
+    ∷ by 2 (Stepping 1 (Peer (Updated (Failing 4))))
     ∷ by 0 (Sign 1)
     ∷ by 0 (Stepping 1 (Own (Fulfil 8 (5 ∷ []))))
     ∷ []

@@ -49,7 +49,7 @@ tested_of : (c n : ℕ) (chs : Channels) (call : Call) → number_kept c chs cal
 tested_of c n chs (Open o) e = absurd (none-some n e)
 tested_of c n chs (Step d step) e = absurd (none-some n e)
 tested_of c n chs (Sign d) e = absurd (none-some n e)
-tested_of c n chs (Revoke d secret next_point) e = absurd (none-some n e)
+tested_of c n chs (Revoke d revocation) e = absurd (none-some n e)
 tested_of c n chs (Keep d m claims) e = by (d == c && is_set_in (slice_get chs c) m claims) refl e
   where
     by : (t : Bool) → (d == c && is_set_in (slice_get chs c) m claims) ≡ t → (if t then Some m else None) ≡ Some n → IsTested c n chs (Keep d m claims)

@@ -99,7 +99,7 @@ step_answer : (chs : Channels) (c : ℕ) (ch : ChannelBook) (step : Step) (e : S
 step_answer chs c ch step e found is = rw (found, is) refl
 
 revoke_answer : (chs : Channels) (c : ℕ) (ch : ChannelBook) (secret : List ℕ) (next_point : Key) (r : ChannelError) → slice_get chs c ≡ Some ch
-    → receive_refusal peer_tokens ch.state (RevokeAndAck secret next_point) ≡ Some r → answer_of peer_tokens chs (Revoke c secret next_point) ≡ revoked (Err (Refused r))
+    → receive_refusal peer_tokens ch.state (RevokeAndAck (record { secret = secret; next_point = next_point })) ≡ Some r → answer_of peer_tokens chs (Revoke c (record { secret = secret; next_point = next_point })) ≡ revoked (Err (Refused r))
 revoke_answer chs c ch secret next_point r found is = rw (found, is) refl
 
 sign_answer : (chs : Channels) (c : ℕ) (ch : ChannelBook) (e : SignError) → slice_get chs c ≡ Some ch → sign_refusal ch ≡ Some e → answer_of peer_tokens chs (Sign c) ≡ signed (Err e)
@@ -131,11 +131,11 @@ module _ (history new : List Entry) (channels : List (OutPoint × ChannelBook)) 
       let first = book_step_refusal peer_tokens x step in
       by_first (Stepping c step) (λ r. stepped (Err r)) (Refused refuses.NoMemory) e first (λ r. refl) (step_answer (replay history) c x step e there) (to_step first e is)
 
-  pub revoke_refused : (secret : List ℕ) (next_point : Key) (r : ChannelError) → IsRefusal (receive_refusal peer_tokens x.state (RevokeAndAck secret next_point)) r
-      → IsCall (revoked (Err (Refused refuses.NoMemory))) (revoked (Err (Refused r))) history new seat (Revoke c secret next_point)
+  pub revoke_refused : (secret : List ℕ) (next_point : Key) (r : ChannelError) → IsRefusal (receive_refusal peer_tokens x.state (RevokeAndAck (record { secret = secret; next_point = next_point }))) r
+      → IsCall (revoked (Err (Refused refuses.NoMemory))) (revoked (Err (Refused r))) history new seat (Revoke c (record { secret = secret; next_point = next_point }))
   revoke_refused secret next_point r is =
-      let first = receive_refusal peer_tokens x.state (RevokeAndAck secret next_point) in
-      by_first (Revoke c secret next_point) (λ e. revoked (Err (Refused e))) refuses.NoMemory r first (λ e. refl) (revoke_answer (replay history) c x secret next_point r there) (to_take first r is)
+      let first = receive_refusal peer_tokens x.state (RevokeAndAck (record { secret = secret; next_point = next_point })) in
+      by_first (Revoke c (record { secret = secret; next_point = next_point })) (λ e. revoked (Err (Refused e))) refuses.NoMemory r first (λ e. refl) (revoke_answer (replay history) c x secret next_point r there) (to_take first r is)
 
   pub sign_refused : (e : SignError) → IsSignRefusal (sign_refusal x) e → IsCall (signed (Err signs.NoMemory)) (signed (Err e)) history new seat (Sign c)
   sign_refused e is = by_first (Sign c) (λ r. signed (Err r)) signs.NoMemory e (sign_refusal x) (λ r. refl) (sign_answer (replay history) c x e there) (to_sign (sign_refusal x) e is)

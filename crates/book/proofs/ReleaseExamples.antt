@@ -74,11 +74,11 @@ module _ (bases : BaseKeys) (seed : List ℕ) (own : IsSeedOf seed bases) where
   abbrev terms : Terms
   terms = record {
     funding = record { txid = replicate 32 5; index = 0 };
-    capacity = 100000;
+    capacity_sat = 100000;
     opener = A;
-    feerate = 1000;
-    a = record { dust = 546; delay = 144; minimum = 1000; start = 80000000; bases = bases };
-    b = record { dust = 546; delay = 144; minimum = 1000; start = 20000000; bases = bases };
+    feerate_per_kw = 1000;
+    a = record { dust_sat = 546; delay_blocks = 144; minimum_msat = 1000; start_msat = 80000000; bases = bases };
+    b = record { dust_sat = 546; delay_blocks = 144; minimum_msat = 1000; start_msat = 20000000; bases = bases };
     limited = lit≤ tt;
     whole = refl;
     short_a = lit< tt;

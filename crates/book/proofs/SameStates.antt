@@ -50,31 +50,31 @@ outpoint_decides a b =
     (Decides-and _ _ (bytes_eq-Decides a.txid b.txid) (Decides-eqb a.index b.index))
 
 abbrev pub party_test : Party → Party → Bool
-party_test a b = a.dust == b.dust && (a.delay == b.delay && (a.minimum == b.minimum && (a.start == b.start && bases_test a.bases b.bases)))
+party_test a b = a.dust_sat == b.dust_sat && (a.delay_blocks == b.delay_blocks && (a.minimum_msat == b.minimum_msat && (a.start_msat == b.start_msat && bases_test a.bases b.bases)))
 
 pub party_decides : (a b : Party) → Decides (party_test a b) (a ≡ b)
 party_decides a b =
     Decides-like (party_test a b)
-    (λ h. λ i. record { dust = h.0 i; delay = h.1.0 i; minimum = h.1.1.0 i; start = h.1.1.1.0 i; bases = h.1.1.1.1 i })
-    (λ e. (ap (λ (x : Party). x.dust) e, (ap (λ (x : Party). x.delay) e, (ap (λ (x : Party). x.minimum) e, (ap (λ (x : Party). x.start) e, ap (λ (x : Party). x.bases) e)))))
-    (Decides-and _ _ (Decides-eqb a.dust b.dust) (Decides-and _ _ (Decides-eqb a.delay b.delay) (Decides-and _ _ (Decides-eqb a.minimum b.minimum) (Decides-and _ _ (Decides-eqb a.start b.start)
+    (λ h. λ i. record { dust_sat = h.0 i; delay_blocks = h.1.0 i; minimum_msat = h.1.1.0 i; start_msat = h.1.1.1.0 i; bases = h.1.1.1.1 i })
+    (λ e. (ap (λ (x : Party). x.dust_sat) e, (ap (λ (x : Party). x.delay_blocks) e, (ap (λ (x : Party). x.minimum_msat) e, (ap (λ (x : Party). x.start_msat) e, ap (λ (x : Party). x.bases) e)))))
+    (Decides-and _ _ (Decides-eqb a.dust_sat b.dust_sat) (Decides-and _ _ (Decides-eqb a.delay_blocks b.delay_blocks) (Decides-and _ _ (Decides-eqb a.minimum_msat b.minimum_msat) (Decides-and _ _ (Decides-eqb a.start_msat b.start_msat)
     (bases_decides a.bases b.bases)))))
 
 -- with a test of the opener
 abbrev pub terms_test : Bool → Terms → Terms → Bool
-terms_test openers t u = outpoint_test t.funding u.funding && (t.capacity == u.capacity && (openers && (t.feerate == u.feerate && (party_test t.a u.a && party_test t.b u.b))))
+terms_test openers t u = outpoint_test t.funding u.funding && (t.capacity_sat == u.capacity_sat && (openers && (t.feerate_per_kw == u.feerate_per_kw && (party_test t.a u.a && party_test t.b u.b))))
 
 pub terms_decides : (t u : Terms) (openers : Bool) → Decides openers (t.opener ≡ u.opener) → Decides (terms_test openers t u) (t ≡ u)
 terms_decides t u openers same =
     Decides-like (terms_test openers t u)
     (λ h. same_terms t u (record { funding_is = h.0; capacity_is = h.1.0; opener_is = h.1.1.0; feerate_is = h.1.1.1.0; a_is = h.1.1.1.1.0; b_is = h.1.1.1.1.1 }))
-    (λ e. (ap (λ (x : Terms). x.funding) e, (ap (λ (x : Terms). x.capacity) e, (ap (λ (x : Terms). x.opener) e, (ap (λ (x : Terms). x.feerate) e, (ap (λ (x : Terms). x.a) e, ap (λ (x : Terms). x.b) e))))))
-    (Decides-and _ _ (outpoint_decides t.funding u.funding) (Decides-and _ _ (Decides-eqb t.capacity u.capacity) (Decides-and _ _ same (Decides-and _ _ (Decides-eqb t.feerate u.feerate)
+    (λ e. (ap (λ (x : Terms). x.funding) e, (ap (λ (x : Terms). x.capacity_sat) e, (ap (λ (x : Terms). x.opener) e, (ap (λ (x : Terms). x.feerate_per_kw) e, (ap (λ (x : Terms). x.a) e, ap (λ (x : Terms). x.b) e))))))
+    (Decides-and _ _ (outpoint_decides t.funding u.funding) (Decides-and _ _ (Decides-eqb t.capacity_sat u.capacity_sat) (Decides-and _ _ same (Decides-and _ _ (Decides-eqb t.feerate_per_kw u.feerate_per_kw)
     (Decides-and _ _ (party_decides t.a u.a) (party_decides t.b u.b))))))
 
-pub share_decides : (a b : Share) (xs ys : List Htlc) (r : Bool) → xs ≡ a.offered → ys ≡ b.offered → a.balance ≡ b.balance → Decides r (xs ≡ ys) → Decides r (a ≡ b)
-share_decides a b xs ys r of_a of_b balance h =
-    Decides-like r (λ e. λ i. record { balance = balance i; offered = (sym of_a ∙ e ∙ of_b) i }) (λ e. of_a ∙ ap (λ (x : Share). x.offered) e ∙ sym of_b) h
+pub share_decides : (a b : Share) (xs ys : List Htlc) (r : Bool) → xs ≡ a.offered → ys ≡ b.offered → a.balance_msat ≡ b.balance_msat → Decides r (xs ≡ ys) → Decides r (a ≡ b)
+share_decides a b xs ys r of_a of_b balance_msat h =
+    Decides-like r (λ e. λ i. record { balance_msat = balance_msat i; offered = (sym of_a ∙ e ∙ of_b) i }) (λ e. of_a ∙ ap (λ (x : Share). x.offered) e ∙ sym of_b) h
 
 -- ---- the state of a number
 

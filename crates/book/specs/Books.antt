@@ -3,11 +3,12 @@ use Rattle.std.specs.Prelude.{ℕ, zero, suc, ◌+◌, ◌==◌, nat_lt, Bool, t
 use Rattle.std.specs.List.{list_any}
 use Rattle.tx.specs.declared.input.OutPoint.{OutPoint}
 use Rattle.updates.specs.declared.changes.OwnUpdate.TheVariants.{Offer, Fulfil, Fail, SetFee}
-use Rattle.channel.specs.declared.messages.Message.TheVariants.{Updated as UpdateMessage, CommitmentSigned, RevokeAndAck}
+use Rattle.updates.specs.declared.messages.PeerStep.TheVariants.{Update as Updated, CommitmentSigned}
+use Rattle.channel.specs.declared.messages.Message.TheVariants.{Step as StepMessage, RevokeAndAck}
 use Rattle.channel.specs.States.{State, update_of, state_at_opening, after_update, after_sign, after}
 use Rattle.book.specs.declared.calls.Opening.{Opening}
 use Rattle.book.specs.declared.calls.Step.{Step}
-use Rattle.book.specs.declared.calls.Step.TheVariants.{Own, Updated, Signed}
+use Rattle.book.specs.declared.calls.Step.TheVariants.{Own, Peer}
 use Rattle.book.specs.declared.calls.Call.{Call}
 use Rattle.book.specs.declared.calls.Call.TheVariants.{Open, Step as Stepping, Sign, Revoke, Keep, Release, Close}
 use Rattle.book.specs.declared.calls.Entry.{Entry}
@@ -30,8 +31,7 @@ at_index f (suc n) (x ∷ xs) = x ∷ at_index f n xs
 
 abbrev pub stepped : Step → State → State
 stepped (Own u) s = after_update (update_of s u) s
-stepped (Updated u) s = after s (UpdateMessage u)
-stepped (Signed tokens) s = after s (CommitmentSigned tokens)
+stepped (Peer step) s = after s (StepMessage step)
 
 abbrev pub opened_by : Opening → ChannelBook
 opened_by o =
@@ -52,8 +52,8 @@ abbrev pub channels_after : Call → Channels → Channels
 channels_after (Open o) chs = chs ++ opened_by o ∷ []
 channels_after (Stepping c step) chs = at_index (with_state (stepped step)) c chs
 channels_after (Sign c) chs = at_index (with_state after_sign) c chs
-channels_after (Revoke c secret next_point) chs =
-    at_index (with_state (λ s. after s (RevokeAndAck secret next_point))) c chs
+channels_after (Revoke c revocation) chs =
+    at_index (with_state (λ s. after s (RevokeAndAck revocation))) c chs
 channels_after (Keep c n claims) chs = at_index (with_kept n) c chs
 channels_after (Release c batch) chs = chs
 channels_after (Close c) chs = at_index with_closed c chs
@@ -79,12 +79,12 @@ is_closed ch = is_some ch.closed
 -- whether a closed channel refuses a step: a received signature, whose answer would reveal the secret of the commitment that was broadcast; and an update of one's own but a fulfil, whose preimage the book
 -- wants for its claims
 abbrev pub is_barred : Step → Bool
-is_barred (Own (Offer amount hash expiry)) = true
+is_barred (Own (Offer amount_msat hash expiry_height)) = true
 is_barred (Own (Fulfil id preimage)) = false
 is_barred (Own (Fail id)) = true
-is_barred (Own (SetFee rate)) = true
-is_barred (Updated u) = false
-is_barred (Signed tokens) = true
+is_barred (Own (SetFee feerate_per_kw)) = true
+is_barred (Peer (Updated u)) = false
+is_barred (Peer (CommitmentSigned tokens)) = true
 
 -- ---- the peer's revoked commitments
 

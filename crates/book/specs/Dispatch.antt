@@ -30,7 +30,7 @@ abbrev pub no_memory_of : Call → Reply
 no_memory_of (Open o) = opened (Err open_memory)
 no_memory_of (Step c step) = stepped (Err (Refused refusal_memory))
 no_memory_of (Sign c) = signed (Err sign_memory)
-no_memory_of (Revoke c secret next_point) = revoked (Err (Refused refusal_memory))
+no_memory_of (Revoke c revocation) = revoked (Err (Refused refusal_memory))
 no_memory_of (Keep c n claims) = kept (Err keep_memory)
 no_memory_of (Release c batch) = released (Err (Unfilled fill_memory))
 no_memory_of (Close c) = closed (Err close_memory)

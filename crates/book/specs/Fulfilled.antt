@@ -33,7 +33,7 @@ abbrev pub preimages_after : Call → Preimages → Preimages
 preimages_after (Open o) ps = ps ++ [] ∷ []
 preimages_after (Stepping c step) ps = at_index (λ own. own ++ cons_option (preimage_in step) []) c ps
 preimages_after (Sign c) ps = ps
-preimages_after (Revoke c secret next_point) ps = ps
+preimages_after (Revoke c revocation) ps = ps
 preimages_after (Keep c n claims) ps = ps
 preimages_after (Release c batch) ps = ps
 preimages_after (Close c) ps = ps

@@ -16,7 +16,7 @@ use Rattle.book.specs.Accepted.{all_accepted, AreWhole}
 
 -- whether a call is a revocation that came in a channel, and whether it signs in that channel
 abbrev pub is_revocation : ℕ → Call → Bool
-is_revocation c (Revoke d secret next_point) = d == c
+is_revocation c (Revoke d revocation) = d == c
 is_revocation c call = false
 
 -- the number of revocations that came in a channel, which is also the number of the commitment that the next one revokes

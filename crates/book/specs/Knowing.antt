@@ -10,7 +10,7 @@ use Rattle.updates.specs.declared.changes.Update.TheVariants.{Fulfil as Fulfilli
 use Rattle.updates.specs.declared.changes.OwnUpdate.TheVariants.{Fulfil}
 use Rattle.commit.specs.Commitments.{Contents}
 use Rattle.channel.specs.declared.commitments.CommitmentState.{CommitmentState}
-use Rattle.channel.specs.declared.messages.Tokens.{Tokens}
+use Rattle.updates.specs.declared.messages.Tokens.{Tokens}
 use Rattle.channel.specs.Tokens.{contents_of, peer_tokens}
 use Rattle.channel.specs.States.{State}
 use Rattle.channel.specs.Rights.{rights_of}
@@ -18,7 +18,8 @@ use Rattle.resolve.specs.declared.known.SignedCommitment.{SignedCommitment}
 use Rattle.resolve.specs.declared.known.RevokedCommitment.{RevokedCommitment}
 use Rattle.resolve.specs.declared.known.Known.{Known}
 use Rattle.book.specs.declared.calls.Step.{Step}
-use Rattle.book.specs.declared.calls.Step.TheVariants.{Own, Updated}
+use Rattle.updates.specs.declared.messages.PeerStep.TheVariants.{Update as Updated}
+use Rattle.book.specs.declared.calls.Step.TheVariants.{Own, Peer}
 use Rattle.book.specs.declared.calls.Call.{Call}
 use Rattle.book.specs.declared.calls.Call.TheVariants.{Step as Stepping}
 use Rattle.book.specs.declared.calls.Entry.{Entry}
@@ -85,7 +86,7 @@ revoked_at s kept n = slice_get s.signed n >>= (λ c. option_map (λ secret. rev
 -- the preimage of a fulfil, made or received
 abbrev pub preimage_in : Step → Option (List ℕ)
 preimage_in (Own (Fulfil id preimage)) = Some preimage
-preimage_in (Updated (Fulfilling id preimage)) = Some preimage
+preimage_in (Peer (Updated (Fulfilling id preimage))) = Some preimage
 preimage_in step = None
 
 -- the same for a call of this channel

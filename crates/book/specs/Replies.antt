@@ -11,13 +11,14 @@ use Rattle.filling.specs.Filling.{filling_of}
 use Rattle.filling.specs.Filled.{Filling}
 use Rattle.channel.specs.declared.limits.TheConstants.{LAST_NUMBER}
 use Rattle.channel.specs.declared.messages.Message.{Message}
-use Rattle.channel.specs.declared.messages.Message.TheVariants.{Updated as UpdateMessage, CommitmentSigned, RevokeAndAck}
+use Rattle.updates.specs.declared.messages.PeerStep.TheVariants.{Update as Updated}
+use Rattle.channel.specs.declared.messages.Message.TheVariants.{Step as StepMessage, RevokeAndAck}
 use Rattle.channel.specs.Points.{point_at}
 use Rattle.channel.specs.States.{Signing, State, update_of, first_of, update_refusal, receive_refusal, answers, signature_message}
 use Rattle.book.specs.declared.limits.TheConstants.{MAX_CHANNELS}
 use Rattle.book.specs.declared.calls.Opening.{Opening}
 use Rattle.book.specs.declared.calls.Step.{Step}
-use Rattle.book.specs.declared.calls.Step.TheVariants.{Own, Updated, Signed}
+use Rattle.book.specs.declared.calls.Step.TheVariants.{Own, Peer}
 use Rattle.book.specs.declared.calls.Call.{Call}
 use Rattle.book.specs.declared.calls.Call.TheVariants.{Open, Step as Stepping, Sign, Revoke, Keep, Release, Close}
 use Rattle.book.specs.declared.calls.Entry.{Entry}
@@ -83,8 +84,7 @@ open_refusal sign cs o =
 -- the channel's refusal
 abbrev pub step_refusal : Signing → State → Step → Option ChannelError
 step_refusal tokens_of s (Own u) = update_refusal s (update_of s u)
-step_refusal tokens_of s (Updated u) = receive_refusal tokens_of s (UpdateMessage u)
-step_refusal tokens_of s (Signed tokens) = receive_refusal tokens_of s (CommitmentSigned tokens)
+step_refusal tokens_of s (Peer step) = receive_refusal tokens_of s (StepMessage step)
 
 -- ChannelClosed, else the channel's refusal
 abbrev pub book_step_refusal : Signing → ChannelBook → Step → Option StepError
@@ -93,9 +93,8 @@ book_step_refusal tokens_of ch step =
 
 -- the message of one's own update, or the answer to a received message
 abbrev pub messages_of : State → Step → List Message
-messages_of s (Own u) = UpdateMessage (update_of s u) ∷ []
-messages_of s (Updated u) = answers s (UpdateMessage u)
-messages_of s (Signed tokens) = answers s (CommitmentSigned tokens)
+messages_of s (Own u) = StepMessage (Updated (update_of s u)) ∷ []
+messages_of s (Peer step) = answers s (StepMessage step)
 
 abbrev pub if_missing : Option ℕ → Option SignError → Option SignError
 if_missing (Some n) later = Some (PenaltiesMissing n)
@@ -129,8 +128,8 @@ answer_of sign chs (Stepping c step) = stepped (asked NoChannelToStep (slice_get
     unless (λ e. e) (book_step_refusal sign ch step) (messages_of ch.state step)))
 answer_of sign chs (Sign c) = signed (asked NoChannelToSign (slice_get chs c) (λ ch.
     unless (λ e. e) (sign_refusal ch) (signature_message sign ch.state)))
-answer_of sign chs (Revoke c secret p) = revoked (asked NoChannelToStep (slice_get chs c) (λ k.
-    unless Refused (receive_refusal sign k.state (RevokeAndAck secret p)) (length k.state.secrets)))
+answer_of sign chs (Revoke c revocation) = revoked (asked NoChannelToStep (slice_get chs c) (λ k.
+    unless Refused (receive_refusal sign k.state (RevokeAndAck revocation)) (length k.state.secrets)))
 answer_of sign chs (Keep c n claims) = kept (asked NoChannelToKeep (slice_get chs c) (λ ch.
     unless (λ e. e) (keep_refusal ch n claims) tt))
 answer_of sign chs (Release c batch) = released (asked NoChannelToRelease (slice_get chs c) (λ ch.

@@ -40,9 +40,8 @@ impl Book {
             Call::Sign { channel } => Reply::Signed(self.sign(seat, channel)),
             Call::Revoke {
                 channel,
-                secret,
-                next_point,
-            } => Reply::Revoked(self.revoke(seat, channel, secret, next_point)),
+                revocation,
+            } => Reply::Revoked(self.revoke(seat, channel, revocation)),
             Call::Keep {
                 channel,
                 number,

@@ -5,7 +5,6 @@ ghost use Rattle.tx.specs.declared.limits.TheConstants.{MAX_INPUTS as max_inputs
 ghost use Rattle.terms.specs.Agreement.{party};
 ghost use Rattle.terms.specs.Bases.{IsSeedOf};
 
-use channel::Tokens;
 use claim::Claim;
 use keys::{Base, Key, Signer};
 use lists::List;
@@ -13,7 +12,7 @@ use sighash::Token;
 use std::alloc::Global;
 use terms::{BaseKeys, Side, Terms};
 use tx::{MAX_INPUTS, MAX_OUTPUTS, TxOut};
-use updates::{OwnUpdate, Update};
+use updates::{OwnUpdate, PeerStep, Revocation};
 
 /// How a side opens a channel: the terms, in which its own base keys are those of its seed, and what its peer sent before the channel was opened.
 #[derive(Clone, Copy, Debug)]
@@ -115,14 +114,11 @@ impl Batch {
     }
 }
 
-/// A step of a channel: one's own update, or a received message other than a revocation.
+/// A step of a channel: an update of this side, or a received message other than a revocation.
 #[derive(Debug, Drop)]
 pub enum Step {
     Own(OwnUpdate),
-    /// A received update.
-    Updated(Update),
-    /// A received `commitment_signed`.
-    Signed(Tokens),
+    Peer(PeerStep),
 }
 
 /// A call of a book. Channels are named by their index in the order in which they were opened.
@@ -139,11 +135,10 @@ pub enum Call {
     Sign {
         channel: u64,
     },
-    /// Receives a `revoke_and_ack` (BOLT 2): the secret of the revoked commitment, and the point for the number two above its.
+    /// Receives a `revoke_and_ack` (BOLT 2).
     Revoke {
         channel: u64,
-        secret: [u8; 32],
-        next_point: Key,
+        revocation: Revocation,
     },
     /// Keeps the penalties of the peer's revoked commitment of this number.
     Keep {

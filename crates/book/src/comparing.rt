@@ -11,13 +11,13 @@ use terms::{Share, Side, Terms, View};
 fn is_same_share(a: &Share, b: &Share) -> bool
     ensures { IsTrue result ↔ (a.now ≡ b.now) }
 {
-    a.balance == b.balance && a.offered.values() == b.offered.values()
+    a.balance_msat == b.balance_msat && a.offered.values() == b.offered.values()
 }
 
 fn is_same_view(a: &View, b: &View) -> bool
     ensures { IsTrue result ↔ (a.now ≡ b.now) }
 {
-    is_same_share(&a.a, &b.a) && is_same_share(&a.b, &b.b) && a.feerate == b.feerate
+    is_same_share(&a.a, &b.a) && is_same_share(&a.b, &b.b) && a.feerate_per_kw == b.feerate_per_kw
 }
 
 fn are_same_terms(a: &Terms, b: &Terms) -> bool

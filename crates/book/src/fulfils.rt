@@ -8,7 +8,7 @@ ghost use Rattle.book.specs.Fulfilled.{kept_by, HasRoom, HasRoomAt};
 
 use crate::calls::Step;
 use std::alloc::{AllocError, Global};
-use updates::{OwnUpdate, Update};
+use updates::{OwnUpdate, PeerStep, Update};
 
 /// By channel, the preimages of its fulfils in the order in which they came, with repeats.
 #[derive(Drop)]
@@ -22,7 +22,7 @@ fn preimage_in(step: &Step) -> Option<[u8; 32]>
 {
     match step {
         Step::Own(OwnUpdate::Fulfil { preimage, .. }) => Some(*preimage),
-        Step::Updated(Update::Fulfil { preimage, .. }) => Some(*preimage),
+        Step::Peer(PeerStep::Update(Update::Fulfil { preimage, .. })) => Some(*preimage),
         _ => None,
     }
 }

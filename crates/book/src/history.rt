@@ -15,14 +15,13 @@ use claim::Claim;
 use filling::{FillError, Filled};
 use forms::SharedPatterns;
 use indexmap::IndexMap;
-use keys::Key;
 use lists::List;
 use penalty::{PenaltySet, RevokedState};
 use resolve::Known;
 use std::alloc::{AllocError, Global};
 use std::marker::Model;
 use tx::OutPoint;
-use updates::ChannelError;
+use updates::{ChannelError, Revocation};
 
 /// A node's book. A contract sees it as its history, the oldest entry first.
 #[derive(Drop)]
@@ -155,10 +154,7 @@ impl Book {
             Ok(()) => {}
             Err(_) => return Err(OpenError::NoMemory),
         }
-        let open = match OpenChannel::open(self.alloc, &opening, first_channel(&self.channels)) {
-            Ok(open) => open,
-            Err(error) => return Err(error),
-        };
+        let open = OpenChannel::open(self.alloc, &opening, first_channel(&self.channels))?;
         let index = self.channels.len() as u64;
         match self.channels.insert(opening.terms.funding, open) {
             Ok(old) => drop(old),
@@ -197,10 +193,7 @@ impl Book {
             Err(_) => return Err(StepError::Refused(ChannelError::NoMemory)),
         }
         let open = &mut self.channels[index];
-        let taken = match open.step(step) {
-            Ok(taken) => taken,
-            Err(error) => return Err(error),
-        };
+        let taken = open.step(step)?;
         let Taken { step, message } = taken;
         self.fulfils.add_preimage(index, &step);
         let call = Call::Step { channel, step };
@@ -213,11 +206,10 @@ impl Book {
         &mut self,
         seat: u32,
         channel: u64,
-        secret: [u8; 32],
-        next_point: Key,
+        revocation: Revocation,
     ) -> Result<u64, StepError>
         ensures { IsCall (revoked (Err (StepError.Refused refusal_memory)))
-            (revoked result) self.old self.new seat (Call.Revoke channel secret next_point) }
+            (revoked result) self.old self.new seat (Call.Revoke channel revocation) }
     {
         let index = channel as usize;
         if index >= self.channels.len() {
@@ -228,14 +220,13 @@ impl Book {
             Err(_) => return Err(StepError::Refused(ChannelError::NoMemory)),
         }
         let open = &mut self.channels[index];
-        let number = match open.revoke(secret, next_point) {
+        let number = match open.revoke(&revocation) {
             Ok(number) => number,
             Err(refusal) => return Err(StepError::Refused(refusal)),
         };
         let call = Call::Revoke {
             channel,
-            secret,
-            next_point,
+            revocation,
         };
         self.entries.push(Entry { seat, call }).unwrap();
         Ok(number)
@@ -256,10 +247,7 @@ impl Book {
             Err(_) => return Err(SignError::NoMemory),
         }
         let open = &mut self.channels[index];
-        let message = match open.sign() {
-            Ok(message) => message,
-            Err(error) => return Err(error),
-        };
+        let message = open.sign()?;
         let call = Call::Sign { channel };
         self.entries.push(Entry { seat, call }).unwrap();
         Ok(message)
@@ -288,10 +276,7 @@ impl Book {
         }
         let alloc = self.alloc;
         let open = &mut self.channels[index];
-        match open.keep(alloc, number, claims.values(), None) {
-            Ok(()) => {}
-            Err(error) => return Err(error),
-        }
+        open.keep(alloc, number, claims.values(), None)?;
         // By these calls the proof knows that the claims were accepted, and the peer's commitments can pay what they are for.
         hold_whole(claims.values());
         sides_are_sound();
@@ -328,10 +313,7 @@ impl Book {
         }
         let alloc = self.alloc;
         let open = &mut self.channels[index];
-        match open.keep(alloc, number, set.claims(), Some(set.state())) {
-            Ok(()) => {}
-            Err(error) => return Err(error),
-        }
+        open.keep(alloc, number, set.claims(), Some(set.state()))?;
         hold_whole(set.claims());
         sides_are_sound();
         let call = Call::Keep {

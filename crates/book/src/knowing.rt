@@ -10,7 +10,7 @@ ghost use Rattle.resolve.specs.Known.{refusal_of};
 ghost use Rattle.resolve.specs.Numbered.{is_next};
 ghost use Rattle.book.specs.Knowing.{below, signed_parts, signed_by_peer, own_at, theirs_at, revoked_parts, revoked_by, revoked_at, flag_at, IsKnownOf};
 
-use channel::{Channel, CommitmentState, Tokens};
+use channel::{Channel, CommitmentState};
 use forms::SharedPatterns;
 use keys::Signer;
 use lists::List;
@@ -21,6 +21,7 @@ use resolve::{
 };
 use std::alloc::{AllocError, Global};
 use terms::Terms;
+use updates::Tokens;
 
 // A commitment that the channel recorded.
 fn known_commitment(
@@ -206,10 +207,7 @@ fn revoked_commitments(
     let mut revoked = RevokedCommitments::new(alloc);
     for number in 0..channel.peer_number() {
         let commitment = revoked_of(alloc, channel, number, flags)?;
-        match push_next(&mut revoked, commitment) {
-            Ok(()) => {}
-            Err(error) => return Err(error),
-        }
+        push_next(&mut revoked, commitment)?;
     }
     Ok(revoked)
 }

@@ -18,7 +18,7 @@
 //! book and the chain, and `world` plays two books.
 //!
 //! ```rust
-//! assert!(rt; a.revoke(0, 0, came.secret, came.next_point).is_ok());
+//! assert!(rt; a.revoke(0, 0, came).is_ok());
 //! assert!(rt; matches!(a.sign(0, 0), Err(SignError::PenaltiesMissing(0))));
 //! assert!(rt; a.keep(3, 0, 0, claims).is_ok());
 //! assert!(rt; a.sign(0, 0).is_ok());

@@ -2,7 +2,8 @@
 
 ghost use Rattle.std.specs.Prelude.{◌≡◌, [], IfOk, OnErr, MatchResult, Some, None};
 ghost use Rattle.std.specs.List.{cons_option};
-ghost use Rattle.updates.specs.Refusals.{IsRefusal, OkUnless, IsFirst};
+ghost use Rattle.terms.specs.Refusals.{OkUnless, IsFirst};
+ghost use Rattle.updates.specs.Refusals.{IsRefusal};
 ghost use Rattle.channel.specs.Tokens.{peer_tokens as tokens_of};
 ghost use Rattle.book.specs.Books.{stepped, is_barred};
 ghost use Rattle.book.specs.Replies.{step_refusal, messages_of};
@@ -15,16 +16,16 @@ use crate::judging::are_penalties;
 use crate::knowing::known_of;
 use crate::releasing::{FilledTwice, filled};
 use crate::revoking::state_at;
-use channel::{Channel, Message, Tokens};
+use channel::{Channel, Message};
 use claim::Claim;
 use filling::{FillError, Filled};
 use forms::SharedPatterns;
-use keys::{Key, Signer};
+use keys::Signer;
 use penalty::RevokedState;
 use resolve::Known;
 use std::alloc::{AllocError, Global};
 use std::marker::Model;
-use updates::{ChannelError, OwnUpdate};
+use updates::{ChannelError, OwnUpdate, PeerStep, Revocation};
 
 /// A channel, and which of the peer's revoked commitments have their penalties kept. Contracts see it as a `ChannelBook`.
 #[derive(Drop)]
@@ -60,30 +61,6 @@ pub(crate) struct Taken {
     pub(crate) message: Option<Message>,
 }
 
-// Receives tokens, and returns them with the message that answers them.
-fn receive_tokens(channel: &mut Channel, tokens: Tokens) -> Result<Taken, ChannelError>
-    ensures step { IfOk result (λ t. t.step ≡ Step.Signed tokens) }
-    ensures message { IfOk result (λ t. cons_option t.message [] ≡ messages_of channel.old
-        (Step.Signed tokens)) }
-    ensures ok { IfOk result (λ _. channel.new ≡ stepped (Step.Signed tokens) channel.old) }
-    ensures tested { OkUnless result
-        (step_refusal tokens_of channel.old (Step.Signed tokens)) IsRefusal }
-    ensures err { OnErr result (channel.new ≡ channel.old) }
-{
-    let received = Message::CommitmentSigned(tokens);
-    let message = match channel.receive(&received) {
-        Ok(message) => message,
-        Err(refusal) => return Err(refusal),
-    };
-    match received {
-        Message::CommitmentSigned(tokens) => Ok(Taken {
-            step: Step::Signed(tokens),
-            message,
-        }),
-        _ => unreachable!(),
-    }
-}
-
 // Takes a step, and returns it with the message that it sends or that answers it.
 fn take(channel: &mut Channel, step: Step) -> Result<Taken, ChannelError>
     ensures step { IfOk result (λ t. t.step ≡ step) }
@@ -100,14 +77,13 @@ fn take(channel: &mut Channel, step: Step) -> Result<Taken, ChannelError>
             }),
             Err(refusal) => Err(refusal),
         },
-        Step::Updated(update) => match channel.receive(&Message::Updated(update)) {
+        Step::Peer(step) => match channel.receive_step(&step) {
             Ok(message) => Ok(Taken {
-                step: Step::Updated(update),
+                step: Step::Peer(step),
                 message,
             }),
             Err(refusal) => Err(refusal),
         },
-        Step::Signed(tokens) => receive_tokens(channel, tokens),
     }
 }
 
@@ -116,9 +92,9 @@ fn is_barred(step: &Step) -> bool
     ensures { result ≡ is_barred step.now }
 {
     match step {
-        Step::Own(OwnUpdate::Fulfil { .. }) | Step::Updated(_) => false,
+        Step::Own(OwnUpdate::Fulfil { .. }) | Step::Peer(PeerStep::Update(_)) => false,
         Step::Own(OwnUpdate::Offer { .. }) | Step::Own(OwnUpdate::Fail { .. }) => true,
-        Step::Own(OwnUpdate::SetFee { .. }) | Step::Signed(_) => true,
+        Step::Own(OwnUpdate::SetFee { .. }) | Step::Peer(PeerStep::CommitmentSigned(_)) => true,
     }
 }
 
@@ -199,10 +175,7 @@ impl OpenChannel {
         ensures ok { IfOk result (λ ch. ch ≡ opened_by opening.now) }
         ensures tested { OkUnless result (token_refusal opening.now) IsOpenRefusal }
     {
-        let channel = match OpenChannel::channel_of(alloc, opening) {
-            Ok(channel) => channel,
-            Err(error) => return Err(error),
-        };
+        let channel = OpenChannel::channel_of(alloc, opening)?;
         match patterns_beside(alloc, another) {
             Ok(patterns) => Ok(OpenChannel::new(alloc, channel, patterns)),
             Err(_) => Err(OpenError::NoMemory),
@@ -229,12 +202,12 @@ impl OpenChannel {
     }
 
     /// Receives a revocation and returns its number. A refusal changes nothing.
-    pub(crate) fn revoke(&mut self, secret: [u8; 32], next_point: Key) -> Result<u64, ChannelError>
+    pub(crate) fn revoke(&mut self, revocation: &Revocation) -> Result<u64, ChannelError>
         ensures number { IfOk result (λ n. n ≡ length self.old.state.secrets) }
         ensures ok { IfOk result (λ _. self.new ≡ with_state
-            (λ s. after s (RevokeAndAck secret next_point)) self.old) }
+            (λ s. after s (RevokeAndAck revocation.now)) self.old) }
         ensures tested { OkUnless result
-            (receive_refusal tokens_of self.old.state (RevokeAndAck secret next_point)) IsRefusal }
+            (receive_refusal tokens_of self.old.state (RevokeAndAck revocation.now)) IsRefusal }
         ensures err { OnErr result (self.new ≡ self.old) }
     {
         match self.flags.reserve(1) {
@@ -242,13 +215,7 @@ impl OpenChannel {
             Err(_) => return Err(ChannelError::NoMemory),
         }
         let number = self.flags.len() as u64;
-        match self
-            .channel
-            .receive(&Message::RevokeAndAck { secret, next_point })
-        {
-            Ok(_) => {}
-            Err(refusal) => return Err(refusal),
-        }
+        self.channel.receive_revocation(revocation)?;
         self.flags.push(false).unwrap();
         Ok(number)
     }
@@ -276,10 +243,7 @@ impl OpenChannel {
         ensures tested { OkUnless result (sign_refusal self.old) IsSignRefusal }
         ensures err { OnErr result (self.new ≡ self.old) }
     {
-        match self.check_sign() {
-            Ok(()) => {}
-            Err(error) => return Err(error),
-        }
+        self.check_sign()?;
         match self.channel.signed() {
             Ok(message) => Ok(message),
             Err(refusal) => match refusal {
@@ -321,10 +285,7 @@ impl OpenChannel {
             (fill_refusal batch.now.claims batch.now.outputs (rights_of self.now.state)
             batch.now.preimages) IsFillRefusal }
     {
-        let filled = match self.release(alloc, batch) {
-            Ok(filled) => filled,
-            Err(error) => return Err(error),
-        };
+        let filled = self.release(alloc, batch)?;
         match filled.tx().copy() {
             Ok(copy) => Ok(FilledTwice { filled, copy }),
             Err(_) => Err(FillError::NoMemory),
@@ -422,10 +383,7 @@ impl OpenChannel {
         ensures tested { OkUnless result (keep_refusal self.old number claims.now) IsKeepRefusal }
         ensures err { OnErr result (self.new ≡ self.old) }
     {
-        match self.check_keep(alloc, number, claims, state) {
-            Ok(()) => {}
-            Err(error) => return Err(error),
-        }
+        self.check_keep(alloc, number, claims, state)?;
         match self.kept.push(number) {
             Ok(()) => {}
             Err(_) => return Err(KeepError::NoMemory),

@@ -16,8 +16,8 @@ use Rattle.updates.specs.declared.changes.Update.{Update}
 use Rattle.claim.specs.Claims.{ClaimParts, IsWhole}
 use Rattle.channel.specs.States.{Signing}
 use Rattle.channel.specs.Tokens.{peer_tokens}
-use Rattle.texts.specs.declared.steps.PlainReceived.{PlainReceived}
-use Rattle.texts.specs.declared.steps.PlainReceived.TheVariants.{Updated as UpdateMessage}
+use Rattle.updates.specs.declared.messages.PeerStep.{PeerStep}
+use Rattle.updates.specs.declared.messages.PeerStep.TheVariants.{Update as Updated, CommitmentSigned}
 use Rattle.texts.specs.declared.steps.PlainStep.TheVariants.{Receive}
 use Rattle.texts.specs.declared.calls.PlainCall.{PlainCall}
 use Rattle.texts.specs.declared.calls.PlainCall.TheVariants as plain
@@ -36,7 +36,7 @@ use Rattle.book.specs.declared.calls.Batch.{Batch}
 use Rattle.book.specs.declared.calls.Call.{Call}
 use Rattle.book.specs.declared.calls.Call.TheVariants.{Open, Step as Stepping, Sign, Revoke, Keep, Release, Close}
 use Rattle.book.specs.declared.calls.Step.{Step}
-use Rattle.book.specs.declared.calls.Step.TheVariants.{Own, Updated, Signed}
+use Rattle.book.specs.declared.calls.Step.TheVariants.{Own, Peer}
 use Rattle.book.specs.declared.calls.Entry.{Entry}
 use Rattle.book_dump.specs.declared.errors.LoadError.TheVariants as loads
 use Rattle.book.specs.Accepted.{is_taken, first_refused_after, all_accepted}
@@ -103,10 +103,10 @@ call_back : (c : Call) → HasWholeClaims c → call_of (plain_call c) ≡ Ok c
 unfolding call_of
 call_back (Open o) h = rw (openings_come_back o) refl
 call_back (Stepping channel (Own u)) h = refl
-call_back (Stepping channel (Updated u)) h = refl
-call_back (Stepping channel (Signed tokens)) h = refl
+call_back (Stepping channel (Peer (Updated u))) h = refl
+call_back (Stepping channel (Peer (CommitmentSigned tokens))) h = refl
 call_back (Sign channel) h = refl
-call_back (Revoke channel secret next_point) h = refl
+call_back (Revoke channel revocation) h = refl
 call_back (Keep channel number claims) h = rw (each_claim claims h) refl
 call_back (Release channel batch) h = rw (each_claim batch.claims h, same_batches batch) refl
 call_back (Close channel) h = refl
@@ -141,13 +141,13 @@ from_each tokens_of i before (e ∷ es) h none =
 
 -- a received update, read back from the message that was written
 received_again : (channel : ℕ) (u : Update) (d : Data) → d ≡ update_data u → update_of (update_data u) ≡ Some u
-    → ((m : PlainReceived) → received_of d ≡ Some m → call_in (receive_data channel d) ≡ Some (plain.Step channel (Receive m)))
-    → call_in (step_data channel (Updated u)) ≡ Some (plain.Step channel (plain_step (Updated u)))
+    → ((m : PeerStep) → received_of d ≡ Some m → call_in (receive_data channel d) ≡ Some (plain.Step channel (Receive m)))
+    → call_in (step_data channel (Peer (Updated u))) ≡ Some (plain.Step channel (plain_step (Peer (Updated u))))
 received_again channel u d same back go =
-    subst (λ e. call_in (receive_data channel e) ≡ Some (plain.Step channel (plain_step (Updated u)))) same (go (UpdateMessage u) (ap received_of same ∙ updated_again u back))
+    subst (λ e. call_in (receive_data channel e) ≡ Some (plain.Step channel (plain_step (Peer (Updated u))))) same (go (Updated u) (ap received_of same ∙ updated_again u back))
 
-pub update_again : {A E : Type 0} (channel : ℕ) (s : Step) (u : Update) (d : Data) (r : Result A E) → s ≡ Updated u → d ≡ update_data u → update_of (update_data u) ≡ Some u
-    → IfOk r (λ _. (m : PlainReceived) → received_of d ≡ Some m → call_in (receive_data channel d) ≡ Some (plain.Step channel (Receive m)))
+pub update_again : {A E : Type 0} (channel : ℕ) (s : Step) (u : Update) (d : Data) (r : Result A E) → s ≡ Peer (Updated u) → d ≡ update_data u → update_of (update_data u) ≡ Some u
+    → IfOk r (λ _. (m : PeerStep) → received_of d ≡ Some m → call_in (receive_data channel d) ≡ Some (plain.Step channel (Receive m)))
     → IfOk r (λ _. HasStepTokens s → call_in (step_data channel s) ≡ Some (plain.Step channel (plain_step s)))
 update_again channel s u d (Ok v) is same back go =
     λ tokens. subst (λ (t : Step). call_in (step_data channel t) ≡ Some (plain.Step channel (plain_step t))) (sym is) (received_again channel u d same back go)
@@ -181,7 +181,7 @@ same_close : (c : Call) → has_close (plain_call c) ≡ is_close c
 same_close (Open o) = refl
 same_close (Stepping channel step) = refl
 same_close (Sign channel) = refl
-same_close (Revoke channel secret next_point) = refl
+same_close (Revoke channel revocation) = refl
 same_close (Keep channel number claims) = refl
 same_close (Release channel batch) = refl
 same_close (Close channel) = refl

@@ -20,15 +20,16 @@ use Rattle.commit.specs.Commitments.{Contents, commitment_of, htlcs_of}
 use Rattle.commit.specs.Signing.{commitment_digest, htlc_digest}
 use Rattle.channel.specs.declared.commitments.CommitmentState.{CommitmentState}
 use Rattle.channel.specs.declared.limits.TheConstants.{LAST_NUMBER}
-use Rattle.channel.specs.declared.messages.Tokens.{Tokens}
-use Rattle.channel.specs.declared.messages.Message.TheVariants.{CommitmentSigned}
+use Rattle.updates.specs.declared.messages.Tokens.{Tokens}
+use Rattle.updates.specs.declared.messages.PeerStep.TheVariants.{Update as Updated, CommitmentSigned}
+use Rattle.channel.specs.declared.messages.Message.TheVariants.{Step as StepMessage}
 use Rattle.channel.specs.Points.{point_at}
 use Rattle.channel.specs.States.{State, first_of, own_next, all_eq, same_tokens, receive_tests}
 use Rattle.channel.specs.Tokens.{contents_of, funding_key, htlc_key, peer_tokens}
 use Rattle.texts.specs.CallWriting.{AreTokens}
 use Rattle.book.specs.declared.calls.Opening.{Opening}
 use Rattle.book.specs.declared.calls.Step.{Step}
-use Rattle.book.specs.declared.calls.Step.TheVariants.{Own, Updated, Signed}
+use Rattle.book.specs.declared.calls.Step.TheVariants.{Own, Peer}
 use Rattle.book.specs.declared.calls.Call.{Call}
 use Rattle.book.specs.declared.calls.Call.TheVariants.{Open, Step as Stepping, Sign, Revoke, Keep, Release, Close}
 use Rattle.book.specs.declared.calls.Entry.{Entry}
@@ -37,7 +38,6 @@ use Rattle.book.specs.declared.errors.OpenError.TheVariants.{BookFull, SameFundi
 use Rattle.book.specs.Books.{Channels, replayed}
 use Rattle.book.specs.Replies.{is_accepted, answer_of, open_refusal, step_refusal}
 use Rattle.book.specs.Accepted.{is_taken, first_refused_after}
-use Rattle.book_dump.specs.Dumping.{plain_tokens}
 use Rattle.book_dump.specs.Again.{HasStepTokens, HasTokens}
 use Rattle.book.proofs.CheckedForms.{derived_form}
 use Rattle.book.proofs.Accepting.{asked_ok, unless_ok, some_none, passed, not_false, step_passes}
@@ -87,7 +87,7 @@ same_forms (s ∷ ss) (t ∷ ts) same forms =
     let parts = and_parts (bytes_eq s t) (all_eq ss ts) same in
     (same_form s t parts.0 forms.0, same_forms ss ts parts.1 forms.1)
 
-are_tokens : (terms : Terms) (c : CommitmentState) (tokens : Tokens) → same_tokens tokens (peer_tokens terms c) ≡ true → AreTokens (plain_tokens tokens)
+are_tokens : (terms : Terms) (c : CommitmentState) (tokens : Tokens) → same_tokens tokens (peer_tokens terms c) ≡ true → AreTokens tokens
 are_tokens terms c tokens same =
     let parts = and_parts (bytes_eq tokens.commitment (peer_tokens terms c).commitment) (all_eq tokens.htlcs (peer_tokens terms c).htlcs) same in
     (same_form tokens.commitment (peer_tokens terms c).commitment parts.0 (commitment_form terms c), same_forms tokens.htlcs (peer_tokens terms c).htlcs parts.1 (htlc_forms terms c))
@@ -108,7 +108,7 @@ opening_token chs o none =
     let token = passed (not (bytes_eq o.token (peer_tokens o.terms first).commitment)) WrongToken None funding.1 in
     same_form o.token (peer_tokens o.terms first).commitment (not_false _ token.0) (commitment_form o.terms first)
 
-signature_tokens : (s : State) (tokens : Tokens) → first_refusal (receive_tests peer_tokens s (CommitmentSigned tokens)) ≡ None → AreTokens (plain_tokens tokens)
+signature_tokens : (s : State) (tokens : Tokens) → first_refusal (receive_tests peer_tokens s (StepMessage (CommitmentSigned tokens))) ≡ None → AreTokens tokens
 signature_tokens s tokens none =
     let same =
     last_passed (nat_le LAST_NUMBER s.number, NotYourTurn) (covers_nothing s.held.theirs s.held.own, NoUpdates)
@@ -118,14 +118,14 @@ signature_tokens s tokens none =
 
 step_tokens : (s : State) (step : Step) → step_refusal peer_tokens s step ≡ None → HasStepTokens step
 step_tokens s (Own u) none = tt
-step_tokens s (Updated u) none = tt
-step_tokens s (Signed tokens) none = signature_tokens s tokens none
+step_tokens s (Peer (Updated u)) none = tt
+step_tokens s (Peer (CommitmentSigned tokens)) none = signature_tokens s tokens none
 
 call_tokens : (chs : Channels) (call : Call) → is_accepted (answer_of peer_tokens chs call) ≡ true → HasTokens call
 call_tokens chs (Open o) ok = opening_token chs o (unless_ok (λ e. e) (open_refusal peer_tokens chs o) (length chs) ok)
 call_tokens chs (Stepping c step) ok = let found = asked_ok _ (slice_get chs c) _ ok in step_tokens found.0.state step (step_passes found.0 step peer_tokens (unless_ok _ _ _ found.2))
 call_tokens chs (Sign c) ok = tt
-call_tokens chs (Revoke c secret next_point) ok = tt
+call_tokens chs (Revoke c revocation) ok = tt
 call_tokens chs (Keep c number claims) ok = tt
 call_tokens chs (Release c batch) ok = tt
 call_tokens chs (Close c) ok = tt

@@ -53,13 +53,13 @@ same_batch b c h =
 
 -- ---- what the constructors return
 
-pub agrees : (t : ProposedTerms) → CanAgree t.capacity t.a.start t.b.start → t.a.delay < 2 ^ 16 → t.b.delay < 2 ^ 16 → can_agree t ≡ true
+pub agrees : (t : ProposedTerms) → CanAgree t.capacity_sat t.a.start_msat t.b.start_msat → t.a.delay_blocks < 2 ^ 16 → t.b.delay_blocks < 2 ^ 16 → can_agree t ≡ true
 agrees t h a b =
     and_from _ _
     (and_from _ _
-    (and_from (nat_le t.capacity MAX_VALUE) _ (le-leb t.capacity MAX_VALUE h.limited) (eq-eqb (t.a.start + t.b.start) (MSAT_PER_SAT * t.capacity) h.whole))
-    (lt-ltb t.a.delay (2 ^ 16) a))
-    (lt-ltb t.b.delay (2 ^ 16) b)
+    (and_from (nat_le t.capacity_sat MAX_VALUE) _ (le-leb t.capacity_sat MAX_VALUE h.limited) (eq-eqb (t.a.start_msat + t.b.start_msat) (MSAT_PER_SAT * t.capacity_sat) h.whole))
+    (lt-ltb t.a.delay_blocks (2 ^ 16) a))
+    (lt-ltb t.b.delay_blocks (2 ^ 16) b)
 
 -- the terms of an opening, by whether the sides can agree on them
 abbrev terms_by : (o : PlainOpening) (agreed : Bool) → can_agree o.terms ≡ agreed → Option Terms

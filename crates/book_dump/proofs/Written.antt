@@ -21,7 +21,8 @@ use Rattle.texts.specs.Writing.{bytes_data, side_data, terms_data, output_data, 
 use Rattle.texts.specs.ClaimWriting.{outpoint_data, slot_data, shell_data, claim_data}
 use Rattle.texts.specs.CallWriting.{signature_data, revocation_data, open_data, own_data, receive_data, sign_data, revoke_data, keep_data, release_data, close_data, entry_data, dump_data}
 use Rattle.book.specs.declared.calls.Step.{Step}
-use Rattle.book.specs.declared.calls.Step.TheVariants.{Own, Updated, Signed}
+use Rattle.updates.specs.declared.messages.PeerStep.TheVariants.{Update as Updated, CommitmentSigned}
+use Rattle.book.specs.declared.calls.Step.TheVariants.{Own, Peer}
 use Rattle.book.specs.declared.calls.Call.{Call}
 use Rattle.book.specs.declared.calls.Call.TheVariants.{Open, Step as Stepping, Sign, Revoke, Keep, Release, Close}
 use Rattle.book.specs.declared.calls.Entry.{Entry}
@@ -61,30 +62,30 @@ whole_bytes bytes = refl
 
 whole_own : (channel : ℕ) (u : OwnUpdate) → has_float (own_data channel u) ≡ false
 unfolding own_data
-whole_own channel (Offer amount hash expiry) = refl
+whole_own channel (Offer amount_msat hash expiry_height) = refl
 whole_own channel (Fulfil id preimage) = refl
 whole_own channel (Fail id) = refl
-whole_own channel (SetFee rate) = refl
+whole_own channel (SetFee feerate_per_kw) = refl
 
 whole_update : (channel : ℕ) (u : Update) → has_float (receive_data channel (update_data u)) ≡ false
 unfolding receive_data update_data add_data
 whole_update channel (Add htlc) = refl
 whole_update channel (Fulfilling id preimage) = refl
 whole_update channel (Failing id) = refl
-whole_update channel (Fee rate) = refl
+whole_update channel (Fee feerate_per_kw) = refl
 
 whole_step : (channel : ℕ) (s : Step) → has_float (step_data channel s) ≡ false
 unfolding receive_data signature_data
 whole_step channel (Own u) = whole_own channel u
-whole_step channel (Updated u) = whole_update channel u
-whole_step channel (Signed tokens) = rw (each_whole bytes_data whole_bytes tokens.htlcs) refl
+whole_step channel (Peer (Updated u)) = whole_update channel u
+whole_step channel (Peer (CommitmentSigned tokens)) = rw (each_whole bytes_data whole_bytes tokens.htlcs) refl
 
 whole_call : (c : Call) → has_float (call_data c) ≡ false
 unfolding open_data terms_data outpoint_data sign_data revoke_data revocation_data keep_data release_data close_data
 whole_call (Open o) = rw (whole_side o.terms.opener, whole_side o.side) refl
 whole_call (Stepping channel step) = whole_step channel step
 whole_call (Sign channel) = refl
-whole_call (Revoke channel secret next_point) = refl
+whole_call (Revoke channel revocation) = refl
 whole_call (Keep channel number claims) = rw (each_whole claim_data whole_claim claims) refl
 whole_call (Release channel batch) =
     rw (each_whole claim_data whole_claim batch.claims, each_whole output_data whole_output batch.outputs, each_whole bytes_data whole_bytes batch.preimages) refl
@@ -144,23 +145,23 @@ flat_bytes bytes = omega arith
 
 deep_own : (channel : ℕ) (u : OwnUpdate) → depth (own_data channel u) ≤ 5
 unfolding own_data
-deep_own channel (Offer amount hash expiry) = omega arith
+deep_own channel (Offer amount_msat hash expiry_height) = omega arith
 deep_own channel (Fulfil id preimage) = omega arith
 deep_own channel (Fail id) = omega arith
-deep_own channel (SetFee rate) = omega arith
+deep_own channel (SetFee feerate_per_kw) = omega arith
 
 deep_update : (channel : ℕ) (u : Update) → depth (receive_data channel (update_data u)) ≤ 5
 unfolding receive_data update_data add_data
 deep_update channel (Add htlc) = omega arith
 deep_update channel (Fulfilling id preimage) = omega arith
 deep_update channel (Failing id) = omega arith
-deep_update channel (Fee rate) = omega arith
+deep_update channel (Fee feerate_per_kw) = omega arith
 
 deep_step : (channel : ℕ) (s : Step) → depth (step_data channel s) ≤ 5
 unfolding receive_data signature_data
 deep_step channel (Own u) = deep_own channel u
-deep_step channel (Updated u) = deep_update channel u
-deep_step channel (Signed tokens) = go _ (each_deep bytes_data 0 flat_bytes tokens.htlcs)
+deep_step channel (Peer (Updated u)) = deep_update channel u
+deep_step channel (Peer (CommitmentSigned tokens)) = go _ (each_deep bytes_data 0 flat_bytes tokens.htlcs)
   where
     go : (d : ℕ) → d ≤ 0 → suc (max 0 (max 0 (max 0 (max (suc (max 0 (max 0 (max (suc d) 0)))) 0)))) ≤ 5
     go d h = let z : d ≡ 0 = omega arith in rw z (omega arith)
@@ -170,7 +171,7 @@ unfolding open_data terms_data outpoint_data sign_data revoke_data revocation_da
 deep_call (Open o) = rw (flat_side o.terms.opener, flat_side o.side) (omega arith)
 deep_call (Stepping channel step) = deep_step channel step
 deep_call (Sign channel) = omega arith
-deep_call (Revoke channel secret next_point) = omega arith
+deep_call (Revoke channel revocation) = omega arith
 deep_call (Keep channel number claims) = go _ (each_deep claim_data 3 deep_claim claims)
   where
     go : (d : ℕ) → d ≤ 3 → suc (max 0 (max 0 (max 0 (max (suc d) 0)))) ≤ 5

@@ -10,17 +10,18 @@ use Rattle.book.specs.declared.calls.Opening.{Opening}
 use Rattle.book.specs.declared.calls.Call.{Call}
 use Rattle.book.specs.declared.calls.Call.TheVariants.{Open, Step as Stepping, Sign, Revoke, Keep, Release, Close}
 use Rattle.book.specs.declared.calls.Step.{Step}
-use Rattle.book.specs.declared.calls.Step.TheVariants.{Own, Updated, Signed}
+use Rattle.updates.specs.declared.messages.PeerStep.TheVariants.{Update as Updated, CommitmentSigned}
+use Rattle.book.specs.declared.calls.Step.TheVariants.{Own, Peer}
 use Rattle.book.specs.declared.calls.Entry.{Entry}
 use Rattle.book_dump.specs.Openings.{opening_of}
 use Rattle.book_dump.specs.Loading.{claim_of, entry_of}
-use Rattle.book_dump.specs.Dumping.{plain_opening, plain_tokens, plain_entry, history_entry_data}
+use Rattle.book_dump.specs.Dumping.{plain_opening, plain_entry, history_entry_data}
 
 abbrev pub HasWholeClaims : Call → Type 0
 HasWholeClaims (Open o) = ⊤
 HasWholeClaims (Stepping channel step) = ⊤
 HasWholeClaims (Sign channel) = ⊤
-HasWholeClaims (Revoke channel secret next_point) = ⊤
+HasWholeClaims (Revoke channel revocation) = ⊤
 HasWholeClaims (Keep channel number claims) = AllByRecursion IsWhole claims
 HasWholeClaims (Release channel batch) = AllByRecursion IsWhole batch.claims
 HasWholeClaims (Close channel) = ⊤
@@ -28,14 +29,14 @@ HasWholeClaims (Close channel) = ⊤
 -- received tokens have a token's form
 abbrev pub HasStepTokens : Step → Type 0
 HasStepTokens (Own u) = ⊤
-HasStepTokens (Updated u) = ⊤
-HasStepTokens (Signed tokens) = AreTokens (plain_tokens tokens)
+HasStepTokens (Peer (Updated u)) = ⊤
+HasStepTokens (Peer (CommitmentSigned tokens)) = AreTokens tokens
 
 abbrev pub HasTokens : Call → Type 0
 HasTokens (Open o) = IsTrue (is_token o.token)
 HasTokens (Stepping channel step) = HasStepTokens step
 HasTokens (Sign channel) = ⊤
-HasTokens (Revoke channel secret next_point) = ⊤
+HasTokens (Revoke channel revocation) = ⊤
 HasTokens (Keep channel number claims) = ⊤
 HasTokens (Release channel batch) = ⊤
 HasTokens (Close channel) = ⊤

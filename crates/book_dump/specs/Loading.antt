@@ -6,10 +6,7 @@ use Rattle.paths.specs.Listing.{CheckedScript, listing}
 use Rattle.claim.specs.Judgement.{judgement_of, bare_shell}
 use Rattle.claim.specs.Claims.{ClaimParts}
 use Rattle.tx.specs.Parts.{Output}
-use Rattle.channel.specs.declared.messages.Tokens.{Tokens}
 use Rattle.claim.specs.Opcodes.{◌>>=◌}
-use Rattle.texts.specs.declared.steps.PlainSignature.{PlainSignature}
-use Rattle.texts.specs.declared.steps.PlainReceived.TheVariants.{Updated as UpdateMessage, Signed as SignatureMessage}
 use Rattle.texts.specs.declared.steps.PlainStep.{PlainStep}
 use Rattle.texts.specs.declared.steps.PlainStep.TheVariants.{Own as OwnUpdate, Receive}
 use Rattle.texts.specs.declared.calls.PlainCall.{PlainCall}
@@ -19,7 +16,7 @@ use Rattle.texts.specs.declared.claims.PlainClaim.{PlainClaim}
 use Rattle.book_dump.specs.declared.errors.EntryError.{EntryError}
 use Rattle.book_dump.specs.declared.errors.EntryError.TheVariants.{NoMemory, BadShape, BadClaim}
 use Rattle.book.specs.declared.calls.Step.{Step}
-use Rattle.book.specs.declared.calls.Step.TheVariants.{Own, Updated, Signed}
+use Rattle.book.specs.declared.calls.Step.TheVariants.{Own, Peer}
 use Rattle.book.specs.declared.calls.Call.{Call}
 use Rattle.book.specs.declared.calls.Call.TheVariants.{Open, Step as Stepping, Sign, Revoke, Keep, Release, Close}
 use Rattle.book.specs.declared.calls.Entry.{Entry}
@@ -60,13 +57,9 @@ claims_of (p ∷ ps) = claim_of p >>= (λ c. claims_of ps >>= (λ cs. Some (c �
 
 -- ---- calls
 
-abbrev pub tokens_of : PlainSignature → Tokens
-tokens_of s = record { commitment = s.commitment; htlcs = s.htlcs }
-
 abbrev pub step_of : PlainStep → Step
 step_of (OwnUpdate u) = Own u
-step_of (Receive (UpdateMessage u)) = Updated u
-step_of (Receive (SignatureMessage s)) = Signed (tokens_of s)
+step_of (Receive step) = Peer step
 
 -- the value, or BadShape if there is none
 abbrev pub shaped : {A : Type 0} → Option A → Result A EntryError
@@ -86,7 +79,7 @@ unfoldable pub call_of : PlainCall → Result Call EntryError
 call_of (plain.Open o) = shaped (option_map Open (opening_of o))
 call_of (plain.Step channel step) = Ok (Stepping channel (step_of step))
 call_of (plain.Sign channel) = Ok (Sign channel)
-call_of (plain.Revoke channel r) = Ok (Revoke channel r.secret r.next_point)
+call_of (plain.Revoke channel revocation) = Ok (Revoke channel revocation)
 call_of (plain.Keep channel number claims) = with_claims (claims_of claims) (λ cs. Ok (Keep channel number cs))
 call_of (plain.Release channel claims outputs preimages) = with_claims (claims_of claims) (release_of channel outputs preimages)
 call_of (plain.Close channel) = Ok (Close channel)

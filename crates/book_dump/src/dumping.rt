@@ -19,18 +19,19 @@ use serde_json::Value;
 use std::alloc::{AllocError, Global};
 use terms::{Party, ProposedParty, ProposedTerms, Terms};
 use texts::{
-    PlainOpening, PlainRevocation, WriteValue, write_close, write_dump, write_entry, write_keep,
-    write_own, write_receive, write_release, write_revoke, write_sign, write_signature,
+    PlainOpening, WriteValue, write_close, write_dump, write_entry, write_keep, write_own,
+    write_receive, write_release, write_revoke, write_sign, write_signature,
 };
+use updates::PeerStep;
 
 fn plain_party(party: &Party) -> ProposedParty
     ensures { result ≡ plain_party party.now }
 {
     ProposedParty {
-        dust: party.dust,
-        delay: party.delay,
-        minimum: party.minimum,
-        start: party.start,
+        dust_sat: party.dust_sat,
+        delay_blocks: party.delay_blocks,
+        minimum_msat: party.minimum_msat,
+        start_msat: party.start_msat,
     }
 }
 
@@ -38,9 +39,9 @@ fn plain_terms(terms: &Terms) -> ProposedTerms
     ensures { result ≡ plain_terms terms.now }
 {
     ProposedTerms {
-        capacity: terms.capacity,
+        capacity_sat: terms.capacity_sat,
         opener: terms.opener,
-        feerate: terms.feerate,
+        feerate_per_kw: terms.feerate_per_kw,
         a: plain_party(&terms.a),
         b: plain_party(&terms.b),
     }
@@ -63,6 +64,21 @@ fn plain_opening(opening: &Opening) -> PlainOpening
     }
 }
 
+fn peer_step_value(alloc: Global, channel: u64, step: &PeerStep) -> Result<Value, AllocError>
+    ensures form { IfOk result (λ v. view v ≡ step_data channel (Step.Peer step.now)) }
+    ensures back { IfOk result (λ _. HasStepTokens (Step.Peer step.now)
+        → call_in (step_data channel (Step.Peer step.now)) ≡ Some
+        (PlainStepping channel (plain_step (Step.Peer step.now)))) }
+{
+    match step {
+        PeerStep::Update(update) => write_receive(alloc, channel, update.write_value(alloc)?),
+        PeerStep::CommitmentSigned(tokens) => {
+            let message = write_signature(alloc, &tokens.commitment, tokens.htlcs.values())?;
+            write_receive(alloc, channel, message)
+        }
+    }
+}
+
 fn step_value(alloc: Global, channel: u64, step: &Step) -> Result<Value, AllocError>
     ensures form { IfOk result (λ v. view v ≡ step_data channel step.now) }
     ensures back { IfOk result (λ _. HasStepTokens step.now
@@ -71,11 +87,7 @@ fn step_value(alloc: Global, channel: u64, step: &Step) -> Result<Value, AllocEr
 {
     match step {
         Step::Own(update) => write_own(alloc, channel, update),
-        Step::Updated(update) => write_receive(alloc, channel, update.write_value(alloc)?),
-        Step::Signed(tokens) => {
-            let message = write_signature(alloc, &tokens.commitment, tokens.htlcs.values())?;
-            write_receive(alloc, channel, message)
-        }
+        Step::Peer(step) => peer_step_value(alloc, channel, step),
     }
 }
 
@@ -108,15 +120,8 @@ fn call_value(alloc: Global, call: &Call) -> Result<Value, AllocError>
         Call::Sign { channel } => write_sign(alloc, *channel),
         Call::Revoke {
             channel,
-            secret,
-            next_point,
-        } => {
-            let revocation = PlainRevocation {
-                secret: *secret,
-                next_point: *next_point,
-            };
-            write_revoke(alloc, *channel, &revocation)
-        }
+            revocation,
+        } => write_revoke(alloc, *channel, revocation),
         Call::Keep {
             channel,
             number,

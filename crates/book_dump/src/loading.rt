@@ -8,13 +8,12 @@ ghost use Rattle.book_dump.specs.Loading.{Answers, Takes, shaped, with_claims, r
 use crate::errors::EntryError;
 use crate::openings::opening_of;
 use book::{Batch, Call, Entry, Step};
-use channel::Tokens;
 use claim::{AcceptError, Claim, accept};
 use lists::List;
 use paths::{CheckError, Checked, check};
 use script::{ParseError, Script};
 use std::alloc::Global;
-use texts::{PlainCall, PlainClaim, PlainEntry, PlainReceived, PlainStep};
+use texts::{PlainCall, PlainClaim, PlainEntry, PlainStep};
 use tx::TxOut;
 
 // Parses a script.
@@ -35,10 +34,7 @@ fn script_of(alloc: Global, bytes: &[u8]) -> Result<Script, EntryError>
 fn checked_of(alloc: Global, bytes: &[u8]) -> Result<Checked, EntryError>
     ensures { Takes result (checked_of bytes.now) }
 {
-    let script = match script_of(alloc, bytes) {
-        Ok(script) => script,
-        Err(error) => return Err(error),
-    };
+    let script = script_of(alloc, bytes)?;
     match check(alloc, script) {
         Ok(checked) => Ok(checked),
         Err(error) => match error {
@@ -60,10 +56,7 @@ pub fn claim_of(alloc: Global, plain: PlainClaim) -> Result<Claim, EntryError>
         place,
         shell,
     } = plain;
-    let checked = match checked_of(alloc, script.bytes()) {
-        Ok(checked) => checked,
-        Err(error) => return Err(error),
-    };
+    let checked = checked_of(alloc, script.bytes())?;
     match accept(alloc, checked, path, slots.into_vec(), place, shell) {
         Ok(claim) => Ok(claim),
         Err(error) => match error {
@@ -79,10 +72,7 @@ pub fn claims_of(alloc: Global, plains: List<PlainClaim>) -> Result<List<Claim>,
 {
     let mut claims = Vec::new(alloc);
     for plain in plains.into_vec() {
-        match claim_of(alloc, plain) {
-            Ok(claim) => claims.push(claim)?,
-            Err(error) => return Err(error),
-        }
+        claims.push(claim_of(alloc, plain)?)?;
     }
     // They are kept for as long as the book lives.
     claims.shrink_to_fit();
@@ -94,11 +84,7 @@ fn step_of(plain: PlainStep) -> Step
 {
     match plain {
         PlainStep::Own(update) => Step::Own(update),
-        PlainStep::Receive(PlainReceived::Updated(update)) => Step::Updated(update),
-        PlainStep::Receive(PlainReceived::Signed(signature)) => Step::Signed(Tokens {
-            commitment: signature.commitment,
-            htlcs: signature.htlcs,
-        }),
+        PlainStep::Receive(step) => Step::Peer(step),
     }
 }
 
@@ -166,15 +152,10 @@ pub fn call_of(alloc: Global, plain: PlainCall) -> Result<Call, EntryError>
         PlainCall::Revoke {
             channel,
             revocation,
-        } => {
-            let secret = revocation.secret;
-            let next_point = revocation.next_point;
-            Ok(Call::Revoke {
-                channel,
-                secret,
-                next_point,
-            })
-        }
+        } => Ok(Call::Revoke {
+            channel,
+            revocation,
+        }),
         PlainCall::Keep {
             channel,
             number,

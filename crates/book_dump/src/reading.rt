@@ -25,10 +25,7 @@ fn value_in(alloc: Global, text: &str) -> Result<Value, LoadError>
 pub(crate) fn dump_in(alloc: Global, text: &str) -> Result<PlainDump, LoadError>
     ensures { Loads result (dump_in text.now) }
 {
-    let value = match value_in(alloc, text) {
-        Ok(value) => value,
-        Err(error) => return Err(error),
-    };
+    let value = value_in(alloc, text)?;
     match PlainDump::read_value(alloc, &value) {
         Ok(dump) => Ok(dump),
         Err(error) => match error {

@@ -11,11 +11,10 @@ use book::errors::{CloseError, KeepError, OpenError, ReleaseError, SignError, St
 use book::{Batch, Book, Call, Entry, Opening, Step};
 use claim::Claim;
 use filling::FillError;
-use keys::Key;
 use lists::List;
 use std::alloc::Global;
 use texts::PlainEntry;
-use updates::ChannelError;
+use updates::{ChannelError, Revocation};
 
 // Why an entry is not added to a book.
 #[derive(Clone, Copy, Debug, PartialEq, Eq, Drop)]
@@ -115,13 +114,11 @@ fn enter_revoke(
     book: &mut Book,
     seat: u32,
     channel: u64,
-    secret: [u8; 32],
-    next_point: Key,
+    revocation: Revocation,
 ) -> Result<(), Stop>
-    ensures { Enters result book.old book.new
-        (by_seat seat (Call.Revoke channel secret next_point)) }
+    ensures { Enters result book.old book.new (by_seat seat (Call.Revoke channel revocation)) }
 {
-    match book.revoke(seat, channel, secret, next_point) {
+    match book.revoke(seat, channel, revocation) {
         Ok(_) => Ok(()),
         Err(error) => Err(stop_of_step(&error)),
     }
@@ -171,9 +168,8 @@ fn enter(book: &mut Book, entry: Entry) -> Result<(), Stop>
         Call::Sign { channel } => enter_sign(book, seat, channel),
         Call::Revoke {
             channel,
-            secret,
-            next_point,
-        } => enter_revoke(book, seat, channel, secret, next_point),
+            revocation,
+        } => enter_revoke(book, seat, channel, revocation),
         Call::Keep {
             channel,
             number,
@@ -219,10 +215,7 @@ pub(crate) fn book_of(alloc: Global, history: List<PlainEntry>) -> Result<Book, 
 {
     let mut book = Book::new(alloc);
     for plain in history.into_vec() {
-        match take_one(alloc, &mut book, plain) {
-            Ok(()) => {}
-            Err(error) => return Err(error),
-        }
+        take_one(alloc, &mut book, plain)?;
     }
     Ok(book)
 }

@@ -8,12 +8,11 @@ use book::{Batch, Book, Step};
 use channel::{Channel, Message};
 use claim::Claim;
 use forms::patterns;
-use keys::Key;
 use lists::List;
 use penalty::{RevokedState, penalties};
 use std::alloc::Global;
 use std::collections::VecDeque;
-use updates::OwnUpdate;
+use updates::{OwnUpdate, Revocation};
 
 /// The seat of all calls.
 pub const SEAT: u32 = 0;
@@ -72,24 +71,16 @@ fn take_step(book: &mut Book, channel: u64, step: Step) -> Result<(), StepError>
 }
 
 // The book takes a revocation.
-fn take_secret(
-    book: &mut Book,
-    channel: u64,
-    secret: [u8; 32],
-    next_point: Key,
-) -> Result<(), StepError> {
-    let _number = book.revoke(SEAT, channel, secret, next_point)?;
+fn take_revocation(book: &mut Book, channel: u64, revocation: Revocation) -> Result<(), StepError> {
+    let _number = book.revoke(SEAT, channel, revocation)?;
     Ok(())
 }
 
 // The book receives a message.
 fn receive(book: &mut Book, channel: u64, message: Message) -> Result<(), StepError> {
     match message {
-        Message::Updated(update) => take_step(book, channel, Step::Updated(update)),
-        Message::CommitmentSigned(tokens) => take_step(book, channel, Step::Signed(tokens)),
-        Message::RevokeAndAck { secret, next_point } => {
-            take_secret(book, channel, secret, next_point)
-        }
+        Message::Step(step) => take_step(book, channel, Step::Peer(step)),
+        Message::RevokeAndAck(revocation) => take_revocation(book, channel, revocation),
     }
 }
 
@@ -178,7 +169,11 @@ impl Node {
     /// Receives a revocation with a secret of zeros.
     pub fn revoke_zeros(&mut self, index: usize) -> Result<Result<u64, StepError>> {
         let point = self.line(index)?.channel.terms().a.bases.funding;
-        Ok(self.book.revoke(SEAT, index as u64, [0; 32], point))
+        let revocation = Revocation {
+            secret: [0; 32],
+            next_point: point,
+        };
+        Ok(self.book.revoke(SEAT, index as u64, revocation))
     }
 
     /// Keeps the penalties of the peer's commitment of a number.

@@ -72,7 +72,7 @@ pub fn open_side(alloc: Global, number: u32, side: Side) -> Result<Opened> {
 }
 
 /// The same for a channel of so many satoshis, of which A has four fifths.
-pub fn open_side_with(alloc: Global, number: u32, side: Side, capacity: u32) -> Result<Opened> {
+pub fn open_side_with(alloc: Global, number: u32, side: Side, capacity_sat: u32) -> Result<Opened> {
     let seed_a = channel_seed(0x0a, number);
     let seed_b = channel_seed(0x0b, number);
     let (a, b) = (Signer::new(alloc, &seed_a), Signer::new(alloc, &seed_b));
@@ -80,12 +80,12 @@ pub fn open_side_with(alloc: Global, number: u32, side: Side, capacity: u32) -> 
         index: number,
         ..FUNDING
     };
-    let capacity = u64::from(capacity);
+    let capacity_sat = u64::from(capacity_sat);
     let terms = terms_of(
         funding,
-        capacity,
-        party(&a, capacity * 800),
-        party(&b, capacity * 200),
+        capacity_sat,
+        party(&a, capacity_sat * 800),
+        party(&b, capacity_sat * 200),
     )?;
     match side {
         Side::A => open_by(alloc, terms, Side::A, &seed_a, a, &b),

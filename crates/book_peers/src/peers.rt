@@ -47,11 +47,11 @@ pub struct Peers {
 }
 
 /// An update that offers an HTLC.
-pub fn offer(amount: u64, expiry: u32) -> OwnUpdate {
+pub fn offer(amount_msat: u64, expiry_height: u32) -> OwnUpdate {
     OwnUpdate::Offer {
-        amount,
+        amount_msat,
         hash: sha256(&PREIMAGE),
-        expiry,
+        expiry_height,
     }
 }
 

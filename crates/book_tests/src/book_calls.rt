@@ -214,7 +214,7 @@ const CLOSED: [Row; 14] = [
     Row::Offer(1, Some(StepError::NoSuchChannel)),
     Row::Update(OwnUpdate::Fail { id: 0 }, Some(StepError::ChannelClosed)),
     Row::Update(
-        OwnUpdate::SetFee { rate: 5 },
+        OwnUpdate::SetFee { feerate_per_kw: 5 },
         Some(StepError::ChannelClosed),
     ),
     Row::Sign(0, Some(SignError::ChannelClosed)),

@@ -1,11 +1,12 @@
 // Calls as values: `Book::call` accepts each of the seven.
 
 use crate::pairs::{Pair, batch_of, first_claims};
-use crate::two_books::{Revocation, offer, opening};
+use crate::two_books::{offer, opening};
 use book::{Book, Call, Reply};
 use std::alloc::Global;
 use std::process::Abort;
 use terms::Side;
+use updates::Revocation;
 
 // The sorts of calls.
 #[derive(Clone, Copy)]
@@ -31,7 +32,7 @@ const SORTS: [Sort; 7] = [
 
 // A call in the first channel, which B revoked.
 fn call_of(rt: &impl Abort, alloc: Global, sort: Sort, came: Revocation) -> Call {
-    let Revocation { secret, next_point } = came;
+    let secret = came.secret;
     let channel = 0;
     match sort {
         Sort::Open => Call::Open(opening(rt, alloc, Side::A)),
@@ -42,8 +43,7 @@ fn call_of(rt: &impl Abort, alloc: Global, sort: Sort, came: Revocation) -> Call
         Sort::Sign => Call::Sign { channel },
         Sort::Revoke => Call::Revoke {
             channel,
-            secret,
-            next_point,
+            revocation: came,
         },
         Sort::Keep => Call::Keep {
             channel,

@@ -1,6 +1,6 @@
 // Two books that share a channel, and what A's answers.
 
-use crate::two_books::{FIRST, Revocation, offer, offered, opened, opening, penalties_of, signed};
+use crate::two_books::{FIRST, offer, offered, opened, opening, penalties_of, signed};
 use book::errors::{CloseError, KeepError, OpenError, ReleaseError, SignError, StepError};
 use book::{Batch, Book, Step, filled};
 use channel::{Message, opening_points};
@@ -11,7 +11,7 @@ use lists::List;
 use std::alloc::Global;
 use std::process::Abort;
 use terms::Side;
-use updates::OwnUpdate;
+use updates::{OwnUpdate, Revocation};
 
 // The books, and the newest revocation that B's sent. At first this is a secret of zeros.
 #[derive(Drop)]
@@ -60,8 +60,8 @@ impl Pair {
     }
 
     // A offers an HTLC and signs it. B's answer is its revocation of its commitment 0.
-    pub(crate) fn offer_and_sign(&mut self, rt: &impl Abort, amount: u64) -> bool {
-        self.came = offered(rt, &mut self.a, &mut self.b, amount);
+    pub(crate) fn offer_and_sign(&mut self, rt: &impl Abort, amount_msat: u64) -> bool {
+        self.came = offered(rt, &mut self.a, &mut self.b, amount_msat);
         true
     }
 
@@ -69,7 +69,7 @@ impl Pair {
     pub(crate) fn agree(&mut self, rt: &impl Abort) -> bool {
         assert!(rt; self.revoke(0) == Ok(0));
         let came = signed(rt, &mut self.b, &mut self.a);
-        self.b.revoke(0, 0, came.secret, came.next_point) == Ok(0)
+        self.b.revoke(0, 0, came) == Ok(0)
     }
 
     // B fulfils the HTLC.
@@ -94,7 +94,7 @@ impl Pair {
     // Why B does not take a signature of A.
     pub(crate) fn sign_to_b(&mut self, rt: &impl Abort) -> Option<StepError> {
         match self.a.sign(0, 0).expect(rt, "a signature") {
-            Message::CommitmentSigned(tokens) => self.b.step(0, 0, Step::Signed(tokens)).err(),
+            Message::Step(step) => self.b.step(0, 0, Step::Peer(step)).err(),
             _ => None,
         }
     }
@@ -108,13 +108,16 @@ impl Pair {
     }
 
     pub(crate) fn revoke(&mut self, channel: u64) -> Result<u64, StepError> {
-        let came = self.came;
-        self.a.revoke(0, channel, came.secret, came.next_point)
+        self.a.revoke(0, channel, self.came)
     }
 
     // The revocation with a secret of zeros.
     pub(crate) fn revoke_by_zeros(&mut self) -> Result<u64, StepError> {
-        self.a.revoke(0, 0, [0; 32], self.came.next_point)
+        let revocation = Revocation {
+            secret: [0; 32],
+            ..self.came
+        };
+        self.a.revoke(0, 0, revocation)
     }
 
     pub(crate) fn keep_none(&mut self, channel: u64, number: u64) -> Option<KeepError> {
@@ -132,10 +135,10 @@ impl Pair {
         rt: &impl Abort,
         channel: u64,
         number: u64,
-        balances: [u64; 2],
+        balances_msat: [u64; 2],
         of: u64,
     ) -> Option<KeepError> {
-        let set = penalties_of(rt, self.alloc, balances, of, self.came.secret);
+        let set = penalties_of(rt, self.alloc, balances_msat, of, self.came.secret);
         self.a.keep_set(3, channel, number, set).err()
     }
 

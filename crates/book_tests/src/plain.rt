@@ -9,19 +9,19 @@ pub(crate) const HASH: [u8; 32] = [
 
 // Terms of 100,000 satoshis, of which A begins with 80,000.
 pub(crate) const TERMS: ProposedTerms = ProposedTerms {
-    capacity: 100_000,
+    capacity_sat: 100_000,
     opener: Side::A,
-    feerate: 1000,
+    feerate_per_kw: 1000,
     a: ProposedParty {
-        dust: 546,
-        delay: 144,
-        minimum: 1000,
-        start: 80_000_000,
+        dust_sat: 546,
+        delay_blocks: 144,
+        minimum_msat: 1000,
+        start_msat: 80_000_000,
     },
     b: ProposedParty {
-        dust: 546,
-        delay: 144,
-        minimum: 1000,
-        start: 20_000_000,
+        dust_sat: 546,
+        delay_blocks: 144,
+        minimum_msat: 1000,
+        start_msat: 20_000_000,
     },
 };

@@ -40,9 +40,9 @@ const CHANNEL_EVENTS: [(&str, Event); 7] = [
             side: Side::A,
             channel: 3,
             update: OwnUpdate::Offer {
-                amount: 1_000_000,
+                amount_msat: 1_000_000,
                 hash: HASH,
-                expiry: 500,
+                expiry_height: 500,
             },
         },
     ),
@@ -70,7 +70,7 @@ const CHANNEL_EVENTS: [(&str, Event); 7] = [
         Event::Own {
             side: Side::A,
             channel: 3,
-            update: OwnUpdate::SetFee { rate: 4 },
+            update: OwnUpdate::SetFee { feerate_per_kw: 4 },
         },
     ),
     (
@@ -209,9 +209,9 @@ const READ_UPDATES: [(&str, Update); 4] = [
         "[\"add\",1,2,\"66687aadf862bd776c8fc18b8e9f8e20089714856ee233b3902a591d0d5f2925\",3]",
         Update::Add(Htlc {
             id: 1,
-            amount: 2,
+            amount_msat: 2,
             hash: HASH,
-            expiry: 3,
+            expiry_height: 3,
         }),
     ),
     (
@@ -222,7 +222,7 @@ const READ_UPDATES: [(&str, Update); 4] = [
         },
     ),
     ("[\"fail\",1]", Update::Fail { id: 1 }),
-    ("[\"fee\",9]", Update::Fee { rate: 9 }),
+    ("[\"fee\",9]", Update::Fee { feerate_per_kw: 9 }),
 ];
 
 const NO_UPDATES: [&str; 1] = ["[\"signed\",9]"];

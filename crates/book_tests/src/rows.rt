@@ -174,7 +174,7 @@ fn is_shown(rt: &impl Abort, alloc: Global, pair: &Pair, row: &Row) -> bool {
 fn is_answered(rt: &impl Abort, alloc: Global, pair: &mut Pair, row: &Row) -> bool {
     match *row {
         Row::Open(wanted) => pair.open_again(rt) == wanted,
-        Row::Offered(amount) => pair.offer_and_sign(rt, amount),
+        Row::Offered(amount_msat) => pair.offer_and_sign(rt, amount_msat),
         Row::Agreed => pair.agree(rt),
         Row::Fulfilled => pair.fulfil(PREIMAGE),
         Row::Close(side, channel, wanted) => pair.close(side, channel) == wanted,
@@ -186,8 +186,8 @@ fn is_answered(rt: &impl Abort, alloc: Global, pair: &mut Pair, row: &Row) -> bo
         Row::RevokeByZeros(wanted) => pair.revoke_by_zeros() == wanted,
         Row::KeepNone(channel, number, wanted) => pair.keep_none(channel, number) == wanted,
         Row::KeepFirst(wanted) => pair.keep_first(rt) == wanted,
-        Row::KeepSet(channel, number, balances, of, wanted) => {
-            pair.keep_set(rt, channel, number, balances, of) == wanted
+        Row::KeepSet(channel, number, balances_msat, of, wanted) => {
+            pair.keep_set(rt, channel, number, balances_msat, of) == wanted
         }
         Row::Release(wanted) => is_released(pair.release(rt), wanted),
         Row::ReleaseTwice(wanted) => is_released(pair.release_twice(rt), wanted),

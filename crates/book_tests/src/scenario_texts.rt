@@ -69,9 +69,9 @@ const OFFER: Event = Event::Own {
     side: Side::A,
     channel: 0,
     update: OwnUpdate::Offer {
-        amount: 1_000_000,
+        amount_msat: 1_000_000,
         hash: HASH,
-        expiry: 501,
+        expiry_height: 501,
     },
 };
 

@@ -9,13 +9,13 @@ ghost use Rattle.terms.specs.Sides.{other};
 use book::{Book, Opening, Step};
 use channel::{Message, opening_points, opening_token};
 use forms::patterns;
-use keys::{Key, Signer};
+use keys::Signer;
 use parties::{FUNDING, party, view};
 use penalty::{PenaltySet, RevokedState, penalties};
 use std::alloc::Global;
 use std::process::Abort;
 use terms::{Side, Terms};
-use updates::OwnUpdate;
+use updates::{OwnUpdate, Revocation};
 
 // The terms of the channel of two signers.
 fn terms_of(rt: &impl Abort, a: &Signer, b: &Signer) -> Terms
@@ -69,36 +69,25 @@ const HASH: [u8; 32] = [
     0x51, 0x83, 0x1c, 0x58, 0x9e, 0xf5, 0x81, 0xd4, 0x12, 0xf2, 0xeb, 0xa4, 0x48, 0x34, 0xe7, 0x7c,
 ];
 
-pub(crate) fn offer(amount: u64, expiry: u32) -> Step {
+pub(crate) fn offer(amount_msat: u64, expiry_height: u32) -> Step {
     Step::Own(OwnUpdate::Offer {
-        amount,
+        amount_msat,
         hash: HASH,
-        expiry,
+        expiry_height,
     })
 }
 
 // The step of whoever gets this message.
 fn step_of(message: Message) -> Option<Step> {
     match message {
-        Message::Updated(update) => Some(Step::Updated(update)),
-        Message::CommitmentSigned(tokens) => Some(Step::Signed(tokens)),
-        _ => None,
+        Message::Step(step) => Some(Step::Peer(step)),
+        Message::RevokeAndAck(_) => None,
     }
-}
-
-// The contents of a revocation.
-#[derive(Clone, Copy)]
-pub(crate) struct Revocation {
-    pub(crate) secret: [u8; 32],
-    pub(crate) next_point: Key,
 }
 
 fn revocation_in(message: Option<Message>) -> Option<Revocation> {
     match message {
-        Some(Message::RevokeAndAck { secret, next_point }) => Some(Revocation {
-            secret,
-            next_point,
-        }),
+        Some(Message::RevokeAndAck(revocation)) => Some(revocation),
         _ => None,
     }
 }
@@ -116,8 +105,8 @@ pub(crate) fn signed(rt: &impl Abort, from: &mut Book, to: &mut Book) -> Revocat
 }
 
 // A's book offers an HTLC and signs it to B's, which answers with a revocation.
-pub(crate) fn offered(rt: &impl Abort, a: &mut Book, b: &mut Book, amount: u64) -> Revocation {
-    let sent = a.step(0, 0, offer(amount, 500)).expect(rt, "an offer");
+pub(crate) fn offered(rt: &impl Abort, a: &mut Book, b: &mut Book, amount_msat: u64) -> Revocation {
+    let sent = a.step(0, 0, offer(amount_msat, 500)).expect(rt, "an offer");
     assert!(rt; answer(rt, b, sent.expect(rt, "an update")).is_none());
     signed(rt, a, b)
 }
@@ -126,13 +115,13 @@ pub(crate) fn offered(rt: &impl Abort, a: &mut Book, b: &mut Book, amount: u64) 
 fn state_of(
     rt: &impl Abort,
     alloc: Global,
-    balances: [u64; 2],
+    balances_msat: [u64; 2],
     number: u64,
     secret: [u8; 32],
 ) -> RevokedState {
     let (a, b) = (Signer::new(alloc, &[1; 32]), Signer::new(alloc, &[2; 32]));
     let terms = terms_of(rt, &a, &b);
-    let view = view(alloc, balances, &[], &[]).expect(rt, "memory");
+    let view = view(alloc, balances_msat, &[], &[]).expect(rt, "memory");
     RevokedState::new(terms, view, Side::B, number, secret).expect(rt, "a state")
 }
 
@@ -143,11 +132,11 @@ pub(crate) const FIRST: [u64; 2] = [80_000_000, 20_000_000];
 pub(crate) fn penalties_of(
     rt: &impl Abort,
     alloc: Global,
-    balances: [u64; 2],
+    balances_msat: [u64; 2],
     number: u64,
     secret: [u8; 32],
 ) -> PenaltySet {
-    let state = state_of(rt, alloc, balances, number, secret);
+    let state = state_of(rt, alloc, balances_msat, number, secret);
     let patterns = patterns(alloc).expect(rt, "memory");
     penalties(alloc, &patterns, &state).expect(rt, "memory")
 }

@@ -7,9 +7,10 @@ use Rattle.terms.specs.declared.sides.Side.TheVariants.{A, B}
 use Rattle.terms.specs.declared.agreement.Terms.{Terms}
 use Rattle.terms.specs.Sides.{other}
 use Rattle.channel.specs.declared.limits.TheConstants.{LAST_NUMBER}
-use Rattle.channel.specs.declared.messages.Tokens.{Tokens}
+use Rattle.updates.specs.declared.messages.Tokens.{Tokens}
 use Rattle.channel.specs.declared.messages.Message.{Message}
-use Rattle.channel.specs.declared.messages.Message.TheVariants.{Updated, CommitmentSigned, RevokeAndAck}
+use Rattle.updates.specs.declared.messages.PeerStep.TheVariants.{Update as Updated, CommitmentSigned}
+use Rattle.channel.specs.declared.messages.Message.TheVariants.{Step, RevokeAndAck}
 use Rattle.channel.specs.Points.{secret_at, point_at}
 use Rattle.channel.specs.States.{Signing, State, first_of, state_at_opening, update_refusal, sign_refusal, sign_tests, receive_refusal, receive_tests, peers_next, after_update, after_sign, after, answers, signature_message}
 use Rattle.channel.specs.Peers.{World, opened_both, Acts, updates, signs, receives, Steps, by_a, by_b, IsReached, at_opening, then}
@@ -42,23 +43,23 @@ no_bit b e = ap bit e
 
 -- a makes an update
 
-agree_makes : (tokens_of : Signing) (a b : State) (to_a to_b : List Message) (u : Update) → Agree tokens_of a b to_a to_b → update_refusal a u ≡ None → Agree tokens_of (after_update u a) b to_a (to_b ++ Updated u ∷ [])
+agree_makes : (tokens_of : Signing) (a b : State) (to_a to_b : List Message) (u : Update) → Agree tokens_of a b to_a to_b → update_refusal a u ≡ None → Agree tokens_of (after_update u a) b to_a (to_b ++ Step (Updated u) ∷ [])
 agree_makes tokens_of a b to_a to_b u g e =
     let t = drained to_b b in
     let same = drained_same to_b b in
     let back = g.ba.meets in
     let known : IsBeginning a.held.theirs.known t.held.own.known = rw (same.known, ← back.known) (known_grows to_a a) in
     let settled : IsBeginning a.held.theirs.settled t.held.own.settled = begins_on _ _ _ g.ab.ahead (settled_grows tokens_of to_b b g.ab.flows g.b_kept) in
-    let takes : receive_refusal tokens_of t (Updated u) ≡ None = takes_made tokens_of a t u g.ab.meets known settled e in
-    let s1 = signatures_in-append to_b (Updated u ∷ []) in
-    let r1 = revocations_in-append to_b (Updated u ∷ []) in
+    let takes : receive_refusal tokens_of t (Step (Updated u)) ≡ None = takes_made tokens_of a t u g.ab.meets known settled e in
+    let s1 = signatures_in-append to_b (Step (Updated u) ∷ []) in
+    let r1 = revocations_in-append to_b (Step (Updated u) ∷ []) in
     let o1 = g.ab.one in
     let o2 = g.ba.one in
     record {
       a_kept = kept_updated a u e g.a_kept;
       b_kept = g.b_kept;
       ab = record {
-        flows = flows-append tokens_of to_b (Updated u ∷ []) b g.ab.flows (takes, tt);
+        flows = flows-append tokens_of to_b (Step (Updated u) ∷ []) b g.ab.flows (takes, tt);
         meets = rw drained-append (meets_made a t u g.ab.meets);
         ahead = g.ab.ahead;
         one = omega (arith, s1, o1);
@@ -116,19 +117,19 @@ agree_signs tokens_of a b to_a to_b g e =
 -- a receives
 
 agree_receives : (tokens_of : Signing) (a b : State) (m : Message) (rest to_b : List Message) → Agree tokens_of a b (m ∷ rest) to_b → Agree tokens_of (after a m) b rest (to_b ++ answers a m)
-agree_receives tokens_of a b (Updated u) rest to_b g =
+agree_receives tokens_of a b (Step (Updated u)) rest to_b g =
     let o1 = g.ab.one in
     let o2 = g.ba.one in
     rw append-nil (record {
-      a_kept = kept_after tokens_of a (Updated u) g.ba.flows.0 g.a_kept;
+      a_kept = kept_after tokens_of a (Step (Updated u)) g.ba.flows.0 g.a_kept;
       b_kept = g.b_kept;
       ab = record { flows = g.ab.flows; meets = meets_receives_made a (drained to_b b) u g.ab.meets; ahead = g.ab.ahead; one = omega (arith, o1) };
       ba = record { flows = g.ba.flows.1; meets = g.ba.meets; ahead = g.ba.ahead; one = omega (arith, o2) };
     })
-agree_receives tokens_of a b (CommitmentSigned tokens) rest to_b g =
+agree_receives tokens_of a b (Step (CommitmentSigned tokens)) rest to_b g =
     let t = drained to_b b in
-    let c = after a (CommitmentSigned tokens) in
-    let answer = RevokeAndAck (secret_at a.seed a.number) (point_at a.seed (a.number + 2)) in
+    let c = after a (Step (CommitmentSigned tokens)) in
+    let answer = RevokeAndAck (record { secret = secret_at a.seed a.number; next_point = point_at a.seed (a.number + 2) }) in
     let o1 = g.ab.one in
     let o2 = g.ba.one in
     let waits : b.awaiting ≡ true = waits_when b.awaiting (signatures_in rest + revocations_in to_b) (omega (arith, o2)) in
@@ -140,11 +141,11 @@ agree_receives tokens_of a b (CommitmentSigned tokens) rest to_b g =
     let signed : t.held.own.with_receiver ≡ a.held.theirs.known = same.receiver ∙ sym g.ba.meets.receiver ∙ rests.receiver in
     let covered : t.held.theirs.with_sender ≡ a.held.own.past_receiver = same.sender ∙ sym g.ba.meets.sender ∙ rests.sender in
     let u = drained_unrevoked to_b b none' in
-    let takes : receive_refusal tokens_of t answer ≡ None = takes_revocation tokens_of a t (point_at a.seed (a.number + 2)) g.ab.meets (below_last tokens_of a tokens (all_pass (receive_tests tokens_of a (CommitmentSigned tokens)) g.ba.flows.0)) (u.awaiting ∙ waits) in
+    let takes : receive_refusal tokens_of t answer ≡ None = takes_revocation tokens_of a t (point_at a.seed (a.number + 2)) g.ab.meets (below_last tokens_of a tokens (all_pass (receive_tests tokens_of a (Step (CommitmentSigned tokens))) g.ba.flows.0)) (u.awaiting ∙ waits) in
     let s1 = signatures_in-append to_b (answer ∷ []) in
     let r1 = revocations_in-append to_b (answer ∷ []) in
     record {
-      a_kept = kept_after tokens_of a (CommitmentSigned tokens) g.ba.flows.0 g.a_kept;
+      a_kept = kept_after tokens_of a (Step (CommitmentSigned tokens)) g.ba.flows.0 g.a_kept;
       b_kept = g.b_kept;
       ab = record {
         flows = flows-append tokens_of to_b (answer ∷ []) b g.ab.flows (takes, tt);
@@ -160,13 +161,13 @@ agree_receives tokens_of a b (CommitmentSigned tokens) rest to_b g =
       };
     }
   where
-    below_last : (tokens_of : Signing) (a : State) (tokens : Tokens) → AllPass (receive_tests tokens_of a (CommitmentSigned tokens)) → a.number < LAST_NUMBER
+    below_last : (tokens_of : Signing) (a : State) (tokens : Tokens) → AllPass (receive_tests tokens_of a (Step (CommitmentSigned tokens))) → a.number < LAST_NUMBER
     below_last tokens_of a tokens (t1, t2) = leb-false LAST_NUMBER a.number t1
 
     waits_when : (t : Bool) (n : ℕ) → suc n ≡ bit t → t ≡ true
     waits_when true n e = refl
     waits_when false n e = absurd (omega (arith, e))
-agree_receives tokens_of a b (RevokeAndAck secret next_point) rest to_b g =
+agree_receives tokens_of a b (RevokeAndAck revocation) rest to_b g =
     let t = drained to_b b in
     let o1 = g.ab.one in
     let o2 = g.ba.one in
@@ -176,11 +177,11 @@ agree_receives tokens_of a b (RevokeAndAck secret next_point) rest to_b g =
     let still = drained_unsigned to_b b none in
     let same : a.held.theirs.with_sender ≡ b.held.own.settled = sym g.ab.meets.sender ∙ still.sender ∙ g.b_kept.own_revoked in
     rw append-nil (record {
-      a_kept = kept_after tokens_of a (RevokeAndAck secret next_point) g.ba.flows.0 g.a_kept;
+      a_kept = kept_after tokens_of a (RevokeAndAck revocation) g.ba.flows.0 g.a_kept;
       b_kept = g.b_kept;
       ab = record {
         flows = g.ab.flows;
-        meets = meets_receives_revocation a t secret next_point g.ab.meets waits;
+        meets = meets_receives_revocation a t revocation.secret revocation.next_point g.ab.meets waits;
         ahead = rw same (begins b.held.own.settled);
         one = omega (arith, o1, w);
       };

@@ -10,22 +10,22 @@ use Rattle.terms.specs.declared.views.View.{View}
 use Rattle.updates.specs.declared.changes.Update.{Update}
 use Rattle.updates.specs.declared.fates.Fate.{Fate}
 use Rattle.updates.specs.declared.fates.Fate.TheVariants.{Live, Fulfilled, Failed}
-use Rattle.updates.specs.Updates.{fate, offers, total, if_live, pending, kept_if_live, live_in, live}
-use Rattle.updates.specs.Views.{balance, view_of, view_by, IsSound, IsSoundBy}
+use Rattle.updates.specs.Updates.{fate, offers, total, if_live, pending_msat, kept_if_live, live_in, live}
+use Rattle.updates.specs.Views.{balance_msat, view_of, view_by, IsSound, IsSoundBy}
 use Rattle.commit.specs.Sums.{millisatoshis_of}
 use Rattle.commit.specs.Commitments.{commitment_of}
 use Rattle.commit.specs.Building.{refusal_of}
 use Rattle.commit.proofs.Shared.{shared}
 use Rattle.channel.specs.Numbered.{SharesOut}
 
-amounts_kept : (f : Fate) (o : Htlc) (os : List Htlc) → millisatoshis_of (kept_if_live f o os) ≡ if_live f o.amount + millisatoshis_of os
-amounts_kept Live o os = sum_by-cons (λ (h : Htlc). h.amount) o os
+amounts_kept : (f : Fate) (o : Htlc) (os : List Htlc) → millisatoshis_of (kept_if_live f o os) ≡ if_live f o.amount_msat + millisatoshis_of os
+amounts_kept Live o os = sum_by-cons (λ (h : Htlc). h.amount_msat) o os
 amounts_kept Fulfilled o os = omega arith
 amounts_kept Failed o os = omega arith
 
 amounts_live : (os : List Htlc) (ends : List Update) → millisatoshis_of (live_in os ends) ≡ total if_live os ends
 amounts_live [] ends = refl
-amounts_live (o ∷ os) ends = amounts_kept (fate o.id ends) o (live_in os ends) ∙ ap (λ n. if_live (fate o.id ends) o.amount + n) (amounts_live os ends)
+amounts_live (o ∷ os) ends = amounts_kept (fate o.id ends) o (live_in os ends) ∙ ap (λ n. if_live (fate o.id ends) o.amount_msat + n) (amounts_live os ends)
 
 summed : (a b p q m n whole : ℕ) → m ≡ p → n ≡ q → a + b + p + q ≡ whole → a + m + (b + n) ≡ whole
 summed a b p q m n whole e f h = omega (arith, e, f, h)
@@ -40,8 +40,8 @@ shares_of terms xs ys s = record {
   heights_of_a = s.heights_of_a;
   heights_of_b = s.heights_of_b;
   whole =
-      summed (balance terms.a.start xs ys) (balance terms.b.start ys xs) (pending xs ys) (pending ys xs) (millisatoshis_of (live xs ys)) (millisatoshis_of (live ys xs))
-      (MSAT_PER_SAT * terms.capacity) (amounts_live (offers xs) ys) (amounts_live (offers ys) xs) s.sum;
+      summed (balance_msat terms.a.start_msat xs ys) (balance_msat terms.b.start_msat ys xs) (pending_msat xs ys) (pending_msat ys xs) (millisatoshis_of (live xs ys)) (millisatoshis_of (live ys xs))
+      (MSAT_PER_SAT * terms.capacity_sat) (amounts_live (offers xs) ys) (amounts_live (offers ys) xs) s.sum;
 }
 
 pub shares_by : (terms : Terms) (side : Side) (mine others : List Update) → IsSoundBy terms side mine others → SharesOut terms (view_by terms side mine others)

@@ -11,7 +11,7 @@ use Rattle.terms.specs.Sides.{other}
 use Rattle.updates.specs.Steady.{Held, holding_signed, holding_signature, holding_revocation}
 use Rattle.channel.specs.declared.limits.TheConstants.{LAST_NUMBER}
 use Rattle.channel.specs.declared.commitments.CommitmentState.{CommitmentState}
-use Rattle.channel.specs.declared.messages.Tokens.{Tokens}
+use Rattle.updates.specs.declared.messages.Tokens.{Tokens}
 use Rattle.channel.specs.Points.{point_at}
 use Rattle.channel.specs.States.{State, state_at_opening, first_of}
 use Rattle.channel.specs.Tokens.{peer_tokens}

@@ -12,8 +12,9 @@ use Rattle.updates.specs.Views.{view_by}
 use Rattle.updates.specs.Refusals.{covers_nothing}
 use Rattle.channel.specs.declared.commitments.CommitmentState.{CommitmentState}
 use Rattle.channel.specs.declared.limits.TheConstants.{LAST_NUMBER}
-use Rattle.channel.specs.declared.messages.Tokens.{Tokens}
-use Rattle.channel.specs.declared.messages.Message.TheVariants.{Updated, CommitmentSigned, RevokeAndAck}
+use Rattle.updates.specs.declared.messages.Tokens.{Tokens}
+use Rattle.updates.specs.declared.messages.PeerStep.TheVariants.{Update as Updated, CommitmentSigned}
+use Rattle.channel.specs.declared.messages.Message.TheVariants.{Step, RevokeAndAck}
 use Rattle.channel.specs.Points.{secret_at, point_at, is_foreign}
 use Rattle.channel.specs.States.{Signing, State, update_refusal, sign_refusal, sign_tests, receive_refusal, receive_tests, all_eq, same_tokens, next_commitment, peers_next, own_next, after_update, after_sign, after, signature_message}
 use Rattle.channel.proofs.Secrets.{secrets_below, takes_own}
@@ -42,7 +43,7 @@ pub record Meets (a t : State) : Type 0 where
   pub secrets : t.secrets ≡ secrets_below a.seed a.number
 
 -- the sender makes an update, and its message comes
-pub meets_made : (a t : State) (u : Update) → Meets a t → Meets (after_update u a) (after t (Updated u))
+pub meets_made : (a t : State) (u : Update) → Meets a t → Meets (after_update u a) (after t (Step (Updated u)))
 meets_made a t u m = record {
   terms = m.terms;
   side = m.side;
@@ -89,7 +90,7 @@ one_commitment a t m e point =
     (ap (λ l. view_by a.held.terms a.held.side l t.held.own.past_receiver) m.known ∙ ap (view_by a.held.terms a.held.side a.held.own.known) m.past)
 
 -- the sender signs, and its signature comes
-pub meets_signed : (a t : State) (tokens : Tokens) → Meets a t → a.awaiting ≡ false → own_next t ≡ peers_next a → Meets (after_sign a) (after t (CommitmentSigned tokens))
+pub meets_signed : (a t : State) (tokens : Tokens) → Meets a t → a.awaiting ≡ false → own_next t ≡ peers_next a → Meets (after_sign a) (after t (Step (CommitmentSigned tokens)))
 meets_signed a t tokens m e c = record {
   terms = m.terms;
   side = m.side;
@@ -124,7 +125,7 @@ meets_signed_back a t known past cs m = record {
 }
 
 -- the sender receives an update
-pub meets_receives_made : (a t : State) (u : Update) → Meets a t → Meets (after a (Updated u)) t
+pub meets_receives_made : (a t : State) (u : Update) → Meets a t → Meets (after a (Step (Updated u))) t
 meets_receives_made a t u m = record {
   terms = m.terms;
   side = m.side;
@@ -142,7 +143,7 @@ meets_receives_made a t u m = record {
 }
 
 -- the sender receives a signature, and its revocation comes
-pub meets_receives_signed : (a t : State) (tokens : Tokens) → Meets a t → t.held.own.with_receiver ≡ a.held.theirs.known → t.held.theirs.with_sender ≡ a.held.own.past_receiver → Meets (after a (CommitmentSigned tokens)) (after t (RevokeAndAck (secret_at a.seed a.number) (point_at a.seed (a.number + 2))))
+pub meets_receives_signed : (a t : State) (tokens : Tokens) → Meets a t → t.held.own.with_receiver ≡ a.held.theirs.known → t.held.theirs.with_sender ≡ a.held.own.past_receiver → Meets (after a (Step (CommitmentSigned tokens))) (after t (RevokeAndAck (record { secret = secret_at a.seed a.number; next_point = point_at a.seed (a.number + 2) })))
 meets_receives_signed a t tokens m signed covered = record {
   terms = m.terms;
   side = m.side;
@@ -160,7 +161,7 @@ meets_receives_signed a t tokens m signed covered = record {
 }
 
 -- the sender receives a revocation
-pub meets_receives_revocation : (a t : State) (secret : List ℕ) (next_point : Key) → Meets a t → a.awaiting ≡ true → Meets (after a (RevokeAndAck secret next_point)) t
+pub meets_receives_revocation : (a t : State) (secret : List ℕ) (next_point : Key) → Meets a t → a.awaiting ≡ true → Meets (after a (RevokeAndAck (record { secret = secret; next_point = next_point }))) t
 meets_receives_revocation a t secret next_point m e = record {
   terms = m.terms;
   side = m.side;
@@ -179,7 +180,7 @@ meets_receives_revocation a t secret next_point m e = record {
 
 -- what the sender sends isn't refused
 
-pub takes_made : (tokens_of : Signing) (a t : State) (u : Update) → Meets a t → IsBeginning a.held.theirs.known t.held.own.known → IsBeginning a.held.theirs.settled t.held.own.settled → update_refusal a u ≡ None → receive_refusal tokens_of t (Updated u) ≡ None
+pub takes_made : (tokens_of : Signing) (a t : State) (u : Update) → Meets a t → IsBeginning a.held.theirs.known t.held.own.known → IsBeginning a.held.theirs.settled t.held.own.settled → update_refusal a u ≡ None → receive_refusal tokens_of t (Step (Updated u)) ≡ None
 takes_made tokens_of a t u m known settled e =
     rw (m.terms, m.side)
     (update_accepted a.held.terms a.held.side a.held.own a.held.theirs t.held.theirs t.held.own u
@@ -204,14 +205,14 @@ takes_signed tokens_of a t m c e =
     let mine = tokens_of a.held.terms (peers_next a) in
     let one : tokens_of t.held.terms (own_next t) ≡ mine = ap (λ terms. tokens_of terms (own_next t)) m.terms ∙ ap (tokens_of a.held.terms) c in
     let same : not (same_tokens mine (tokens_of t.held.terms (own_next t))) ≡ false = ap (λ d. not (same_tokens mine d)) one ∙ ap not (tokens_same mine) in
-    none_refuses (receive_tests tokens_of t (CommitmentSigned mine)) (first, (news, (same, tt)))
+    none_refuses (receive_tests tokens_of t (Step (CommitmentSigned mine))) (first, (news, (same, tt)))
   where
     signs_when : (a : State) → AllPass (sign_tests a) → ((a.awaiting ≡ false) × (leb LAST_NUMBER a.peer_number ≡ false)) × (covers_nothing a.held.own a.held.theirs ≡ false)
     signs_when a (t1, (t2, t3)) = (or_parts a.awaiting (leb LAST_NUMBER a.peer_number) t1, t2)
 
-pub takes_revocation : (tokens_of : Signing) (a t : State) (next_point : Key) → Meets a t → a.number < LAST_NUMBER → t.awaiting ≡ true → receive_refusal tokens_of t (RevokeAndAck (secret_at a.seed a.number) next_point) ≡ None
+pub takes_revocation : (tokens_of : Signing) (a t : State) (next_point : Key) → Meets a t → a.number < LAST_NUMBER → t.awaiting ≡ true → receive_refusal tokens_of t (RevokeAndAck (record { secret = secret_at a.seed a.number; next_point = next_point })) ≡ None
 takes_revocation tokens_of a t next_point m l e =
     let secret = secret_at a.seed a.number in
     let kept : is_foreign t.secrets secret ≡ false = ap (λ s. is_foreign s secret) m.secrets ∙ takes_own a.seed a.number in
     let same : not (bytes_eq (point_of secret) t.point.bytes) ≡ false = ap (λ p. not (bytes_eq (point_of secret) p.bytes)) m.point ∙ ap not (bytes_same (point_of secret)) in
-    none_refuses (receive_tests tokens_of t (RevokeAndAck secret next_point)) (ap not e, (same, (kept, tt)))
+    none_refuses (receive_tests tokens_of t (RevokeAndAck (record { secret = secret; next_point = next_point }))) (ap not e, (same, (kept, tt)))

@@ -44,7 +44,7 @@ wrong = replicate 32 6
 
 -- a commitment in numbers: its number, both balances, the number of HTLCs of each side, and the feerate
 abbrev in_numbers : CommitmentState → List ℕ
-in_numbers c = c.number ∷ c.view.a.balance ∷ c.view.b.balance ∷ length c.view.a.offered ∷ length c.view.b.offered ∷ c.view.feerate ∷ []
+in_numbers c = c.number ∷ c.view.a.balance_msat ∷ c.view.b.balance_msat ∷ length c.view.a.offered ∷ length c.view.b.offered ∷ c.view.feerate_per_kw ∷ []
 
 -- the last of a list
 abbrev last_of : List ℕ → List CommitmentState → List ℕ
@@ -57,11 +57,11 @@ newest cs = last_of [] cs
 abbrev terms_0 : OutPoint → BaseKeys → Terms
 terms_0 funding bases = record {
   funding = funding;
-  capacity = 2000;
+  capacity_sat = 2000;
   opener = A;
-  feerate = 0;
-  a = record { dust = 546; delay = 144; minimum = 1; start = 1000000; bases = bases };
-  b = record { dust = 546; delay = 144; minimum = 0; start = 1000000; bases = bases };
+  feerate_per_kw = 0;
+  a = record { dust_sat = 546; delay_blocks = 144; minimum_msat = 1; start_msat = 1000000; bases = bases };
+  b = record { dust_sat = 546; delay_blocks = 144; minimum_msat = 0; start_msat = 1000000; bases = bases };
   limited = lit≤ tt;
   whole = refl;
   short_a = lit< tt;
@@ -84,11 +84,11 @@ steps_0 =
 abbrev terms_1 : OutPoint → BaseKeys → Terms
 terms_1 funding bases = record {
   funding = funding;
-  capacity = 2000;
+  capacity_sat = 2000;
   opener = A;
-  feerate = 253;
-  a = record { dust = 546; delay = 144; minimum = 1000; start = 600000; bases = bases };
-  b = record { dust = 546; delay = 144; minimum = 1; start = 1400000; bases = bases };
+  feerate_per_kw = 253;
+  a = record { dust_sat = 546; delay_blocks = 144; minimum_msat = 1000; start_msat = 600000; bases = bases };
+  b = record { dust_sat = 546; delay_blocks = 144; minimum_msat = 1; start_msat = 1400000; bases = bases };
   limited = lit≤ tt;
   whole = refl;
   short_a = lit< tt;
@@ -111,11 +111,11 @@ steps_1 =
 abbrev terms_2 : OutPoint → BaseKeys → Terms
 terms_2 funding bases = record {
   funding = funding;
-  capacity = 1000000;
+  capacity_sat = 1000000;
   opener = B;
-  feerate = 0;
-  a = record { dust = 546; delay = 144; minimum = 1; start = 500000000; bases = bases };
-  b = record { dust = 546; delay = 144; minimum = 1; start = 500000000; bases = bases };
+  feerate_per_kw = 0;
+  a = record { dust_sat = 546; delay_blocks = 144; minimum_msat = 1; start_msat = 500000000; bases = bases };
+  b = record { dust_sat = 546; delay_blocks = 144; minimum_msat = 1; start_msat = 500000000; bases = bases };
   limited = lit≤ tt;
   whole = refl;
   short_a = lit< tt;
@@ -138,11 +138,11 @@ steps_2 =
 abbrev terms_3 : OutPoint → BaseKeys → Terms
 terms_3 funding bases = record {
   funding = funding;
-  capacity = 2000;
+  capacity_sat = 2000;
   opener = B;
-  feerate = 253;
-  a = record { dust = 546; delay = 144; minimum = 0; start = 1000000; bases = bases };
-  b = record { dust = 546; delay = 144; minimum = 1; start = 1000000; bases = bases };
+  feerate_per_kw = 253;
+  a = record { dust_sat = 546; delay_blocks = 144; minimum_msat = 0; start_msat = 1000000; bases = bases };
+  b = record { dust_sat = 546; delay_blocks = 144; minimum_msat = 1; start_msat = 1000000; bases = bases };
   limited = lit≤ tt;
   whole = refl;
   short_a = lit< tt;
@@ -166,11 +166,11 @@ steps_3 =
 abbrev terms_4 : OutPoint → BaseKeys → Terms
 terms_4 funding bases = record {
   funding = funding;
-  capacity = 2000;
+  capacity_sat = 2000;
   opener = B;
-  feerate = 0;
-  a = record { dust = 546; delay = 144; minimum = 1; start = 1000000; bases = bases };
-  b = record { dust = 546; delay = 144; minimum = 1; start = 1000000; bases = bases };
+  feerate_per_kw = 0;
+  a = record { dust_sat = 546; delay_blocks = 144; minimum_msat = 1; start_msat = 1000000; bases = bases };
+  b = record { dust_sat = 546; delay_blocks = 144; minimum_msat = 1; start_msat = 1000000; bases = bases };
   limited = lit≤ tt;
   whole = refl;
   short_a = lit< tt;
@@ -193,11 +193,11 @@ steps_4 =
 abbrev terms_5 : OutPoint → BaseKeys → Terms
 terms_5 funding bases = record {
   funding = funding;
-  capacity = 5000;
+  capacity_sat = 5000;
   opener = B;
-  feerate = 1000;
-  a = record { dust = 546; delay = 144; minimum = 0; start = 2500000; bases = bases };
-  b = record { dust = 546; delay = 144; minimum = 0; start = 2500000; bases = bases };
+  feerate_per_kw = 1000;
+  a = record { dust_sat = 546; delay_blocks = 144; minimum_msat = 0; start_msat = 2500000; bases = bases };
+  b = record { dust_sat = 546; delay_blocks = 144; minimum_msat = 0; start_msat = 2500000; bases = bases };
   limited = lit≤ tt;
   whole = refl;
   short_a = lit< tt;

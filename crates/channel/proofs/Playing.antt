@@ -6,7 +6,8 @@ use Rattle.updates.specs.declared.changes.Update.{Update}
 use Rattle.updates.specs.declared.errors.ChannelError.{ChannelError}
 use Rattle.updates.specs.declared.errors.ChannelError.TheVariants.{NoMemory}
 use Rattle.channel.specs.declared.messages.Message.{Message}
-use Rattle.channel.specs.declared.messages.Message.TheVariants.{Updated}
+use Rattle.updates.specs.declared.messages.PeerStep.TheVariants.{Update as Updated}
+use Rattle.channel.specs.declared.messages.Message.TheVariants.{Step}
 use Rattle.channel.specs.declared.plays.Action.{Action}
 use Rattle.channel.specs.declared.plays.Action.TheVariants.{Own, Sign, Deliver}
 use Rattle.channel.specs.declared.plays.PairStep.{PairStep}
@@ -33,7 +34,7 @@ module _ (tokens_of : Signing) (P : World → Type 0) (keeps : (w v : World) →
   kept_made : (w : World) (side : Side) (u : Update) → P w → P (updated_by w side u).world
   kept_made w side u g =
       kept_unless w _ (update_refusal (state_of side w) u)
-      (λ e. acts_step tokens_of w side (after_update u (state_of side w)) (Updated u ∷ []) (queue_of side w) (updates u e)) g
+      (λ e. acts_step tokens_of w side (after_update u (state_of side w)) (Step (Updated u) ∷ []) (queue_of side w) (updates u e)) g
 
   kept_sign : (w : World) (side : Side) → P w → P (signed_by tokens_of w side).world
   kept_sign w side g =

@@ -4,7 +4,8 @@ use Rattle.updates.specs.declared.changes.Update.{Update}
 use Rattle.updates.specs.Stages.{Stages, with_update}
 use Rattle.channel.specs.declared.commitments.CommitmentState.{CommitmentState}
 use Rattle.channel.specs.declared.messages.Message.{Message}
-use Rattle.channel.specs.declared.messages.Message.TheVariants.{Updated, CommitmentSigned, RevokeAndAck}
+use Rattle.updates.specs.declared.messages.PeerStep.TheVariants.{Update as Updated, CommitmentSigned}
+use Rattle.channel.specs.declared.messages.Message.TheVariants.{Step, RevokeAndAck}
 use Rattle.channel.specs.States.{Signing, State, receive_refusal, after_update, after, own_next}
 use Rattle.terms.specs.Sides.{other}
 use Rattle.updates.proofs.Sums.{begins, begins_on}
@@ -33,14 +34,14 @@ flows-append tokens_of (m ∷ queue) more s f g = (f.0, flows-append tokens_of q
 
 -- the number of signatures and revocations in a queue
 abbrev pub is_signature : Message → ℕ
-is_signature (Updated u) = 0
-is_signature (CommitmentSigned tokens) = 1
-is_signature (RevokeAndAck secret next_point) = 0
+is_signature (Step (Updated u)) = 0
+is_signature (Step (CommitmentSigned tokens)) = 1
+is_signature (RevokeAndAck revocation) = 0
 
 abbrev pub is_revocation : Message → ℕ
-is_revocation (Updated u) = 0
-is_revocation (CommitmentSigned tokens) = 0
-is_revocation (RevokeAndAck secret next_point) = 1
+is_revocation (Step (Updated u)) = 0
+is_revocation (Step (CommitmentSigned tokens)) = 0
+is_revocation (RevokeAndAck revocation) = 1
 
 abbrev pub signatures_in : List Message → ℕ
 signatures_in [] = 0
@@ -62,16 +63,16 @@ revocations_in-append (m ∷ queue) more = let h = revocations_in-append queue m
 
 pub drained_made : (queue : List Message) (u : Update) (s : State) → drained queue (after_update u s) ≡ after_update u (drained queue s)
 drained_made [] u s = refl
-drained_made (Updated v ∷ queue) u s = drained_made queue u (after s (Updated v))
-drained_made (CommitmentSigned tokens ∷ queue) u s = drained_made queue u (after s (CommitmentSigned tokens))
-drained_made (RevokeAndAck secret next_point ∷ queue) u s = drained_made queue u (after s (RevokeAndAck secret next_point))
+drained_made (Step (Updated v) ∷ queue) u s = drained_made queue u (after s (Step (Updated v)))
+drained_made (Step (CommitmentSigned tokens) ∷ queue) u s = drained_made queue u (after s (Step (CommitmentSigned tokens)))
+drained_made (RevokeAndAck revocation ∷ queue) u s = drained_made queue u (after s (RevokeAndAck revocation))
 
 pub flows_made : (tokens_of : Signing) (queue : List Message) (u : Update) (s : State) → Flows tokens_of queue s → Flows tokens_of queue (after_update u s)
 flows_made tokens_of [] u s f = tt
-flows_made tokens_of (Updated v ∷ queue) u s f =
-    (update_accepted s.held.terms (other s.held.side) s.held.theirs s.held.own s.held.theirs (with_update u s.held.own) v (record { known = refl; settled = refl; others_known = (u ∷ [], refl); others_settled = begins s.held.own.settled }) f.0, flows_made tokens_of queue u (after s (Updated v)) f.1)
-flows_made tokens_of (CommitmentSigned tokens ∷ queue) u s f = (f.0, flows_made tokens_of queue u (after s (CommitmentSigned tokens)) f.1)
-flows_made tokens_of (RevokeAndAck secret next_point ∷ queue) u s f = (f.0, flows_made tokens_of queue u (after s (RevokeAndAck secret next_point)) f.1)
+flows_made tokens_of (Step (Updated v) ∷ queue) u s f =
+    (update_accepted s.held.terms (other s.held.side) s.held.theirs s.held.own s.held.theirs (with_update u s.held.own) v (record { known = refl; settled = refl; others_known = (u ∷ [], refl); others_settled = begins s.held.own.settled }) f.0, flows_made tokens_of queue u (after s (Step (Updated v))) f.1)
+flows_made tokens_of (Step (CommitmentSigned tokens) ∷ queue) u s f = (f.0, flows_made tokens_of queue u (after s (Step (CommitmentSigned tokens))) f.1)
+flows_made tokens_of (RevokeAndAck revocation ∷ queue) u s f = (f.0, flows_made tokens_of queue u (after s (RevokeAndAck revocation)) f.1)
 
 -- a signature given out, where no revocation is on its way
 abbrev pub with_receiver : List Update → Stages → Stages
@@ -89,15 +90,15 @@ with_signature known past signed s = record s {
 
 pub drained_signed : (queue : List Message) (known past : List Update) (cs : List CommitmentState) (s : State) → revocations_in queue ≡ 0 → drained queue (with_signature known past cs s) ≡ with_signature known past cs (drained queue s)
 drained_signed [] known past cs s e = refl
-drained_signed (Updated v ∷ queue) known past cs s e = drained_signed queue known past cs (after s (Updated v)) (omega (arith, e))
-drained_signed (CommitmentSigned tokens ∷ queue) known past cs s e = drained_signed queue known past cs (after s (CommitmentSigned tokens)) (omega (arith, e))
-drained_signed (RevokeAndAck secret next_point ∷ queue) known past cs s e = absurd (omega (arith, e))
+drained_signed (Step (Updated v) ∷ queue) known past cs s e = drained_signed queue known past cs (after s (Step (Updated v))) (omega (arith, e))
+drained_signed (Step (CommitmentSigned tokens) ∷ queue) known past cs s e = drained_signed queue known past cs (after s (Step (CommitmentSigned tokens))) (omega (arith, e))
+drained_signed (RevokeAndAck revocation ∷ queue) known past cs s e = absurd (omega (arith, e))
 
 pub flows_signed : (tokens_of : Signing) (queue : List Message) (known past : List Update) (cs : List CommitmentState) (s : State) → revocations_in queue ≡ 0 → Flows tokens_of queue s → Flows tokens_of queue (with_signature known past cs s)
 flows_signed tokens_of [] known past cs s e f = tt
-flows_signed tokens_of (Updated v ∷ queue) known past cs s e f = (f.0, flows_signed tokens_of queue known past cs (after s (Updated v)) (omega (arith, e)) f.1)
-flows_signed tokens_of (CommitmentSigned tokens ∷ queue) known past cs s e f = (f.0, flows_signed tokens_of queue known past cs (after s (CommitmentSigned tokens)) (omega (arith, e)) f.1)
-flows_signed tokens_of (RevokeAndAck secret next_point ∷ queue) known past cs s e f = absurd (omega (arith, e))
+flows_signed tokens_of (Step (Updated v) ∷ queue) known past cs s e f = (f.0, flows_signed tokens_of queue known past cs (after s (Step (Updated v))) (omega (arith, e)) f.1)
+flows_signed tokens_of (Step (CommitmentSigned tokens) ∷ queue) known past cs s e f = (f.0, flows_signed tokens_of queue known past cs (after s (Step (CommitmentSigned tokens))) (omega (arith, e)) f.1)
+flows_signed tokens_of (RevokeAndAck revocation ∷ queue) known past cs s e f = absurd (omega (arith, e))
 
 -- what the messages leave as it was
 
@@ -111,9 +112,9 @@ pub record SameOf (s t : State) : Type 0 where
 
 pub drained_same : (queue : List Message) (s : State) → SameOf s (drained queue s)
 drained_same [] s = record { terms = refl; side = refl; seed = refl; known = refl; receiver = refl; sender = refl }
-drained_same (Updated v ∷ queue) s = let h = drained_same queue (after s (Updated v)) in record { terms = h.terms; side = h.side; seed = h.seed; known = h.known; receiver = h.receiver; sender = h.sender }
-drained_same (CommitmentSigned tokens ∷ queue) s = let h = drained_same queue (after s (CommitmentSigned tokens)) in record { terms = h.terms; side = h.side; seed = h.seed; known = h.known; receiver = h.receiver; sender = h.sender }
-drained_same (RevokeAndAck secret next_point ∷ queue) s = let h = drained_same queue (after s (RevokeAndAck secret next_point)) in record { terms = h.terms; side = h.side; seed = h.seed; known = h.known; receiver = h.receiver; sender = h.sender }
+drained_same (Step (Updated v) ∷ queue) s = let h = drained_same queue (after s (Step (Updated v))) in record { terms = h.terms; side = h.side; seed = h.seed; known = h.known; receiver = h.receiver; sender = h.sender }
+drained_same (Step (CommitmentSigned tokens) ∷ queue) s = let h = drained_same queue (after s (Step (CommitmentSigned tokens))) in record { terms = h.terms; side = h.side; seed = h.seed; known = h.known; receiver = h.receiver; sender = h.sender }
+drained_same (RevokeAndAck revocation ∷ queue) s = let h = drained_same queue (after s (RevokeAndAck revocation)) in record { terms = h.terms; side = h.side; seed = h.seed; known = h.known; receiver = h.receiver; sender = h.sender }
 
 -- where no signature is among them
 pub record SameUnsigned (s t : State) : Type 0 where
@@ -123,9 +124,9 @@ pub record SameUnsigned (s t : State) : Type 0 where
 
 pub drained_unsigned : (queue : List Message) (s : State) → signatures_in queue ≡ 0 → SameUnsigned s (drained queue s)
 drained_unsigned [] s e = record { receiver = refl; sender = refl; number = refl }
-drained_unsigned (Updated v ∷ queue) s e = let h = drained_unsigned queue (after s (Updated v)) (omega (arith, e)) in record { receiver = h.receiver; sender = h.sender; number = h.number }
-drained_unsigned (CommitmentSigned tokens ∷ queue) s e = absurd (omega (arith, e))
-drained_unsigned (RevokeAndAck secret next_point ∷ queue) s e = let h = drained_unsigned queue (after s (RevokeAndAck secret next_point)) (omega (arith, e)) in record { receiver = h.receiver; sender = h.sender; number = h.number }
+drained_unsigned (Step (Updated v) ∷ queue) s e = let h = drained_unsigned queue (after s (Step (Updated v))) (omega (arith, e)) in record { receiver = h.receiver; sender = h.sender; number = h.number }
+drained_unsigned (Step (CommitmentSigned tokens) ∷ queue) s e = absurd (omega (arith, e))
+drained_unsigned (RevokeAndAck revocation ∷ queue) s e = let h = drained_unsigned queue (after s (RevokeAndAck revocation)) (omega (arith, e)) in record { receiver = h.receiver; sender = h.sender; number = h.number }
 
 -- where no revocation is among them
 pub record SameUnrevoked (s t : State) : Type 0 where
@@ -134,30 +135,30 @@ pub record SameUnrevoked (s t : State) : Type 0 where
 
 pub drained_unrevoked : (queue : List Message) (s : State) → revocations_in queue ≡ 0 → SameUnrevoked s (drained queue s)
 drained_unrevoked [] s e = record { awaiting = refl; next_point = refl }
-drained_unrevoked (Updated v ∷ queue) s e = let h = drained_unrevoked queue (after s (Updated v)) (omega (arith, e)) in record { awaiting = h.awaiting; next_point = h.next_point }
-drained_unrevoked (CommitmentSigned tokens ∷ queue) s e = let h = drained_unrevoked queue (after s (CommitmentSigned tokens)) (omega (arith, e)) in record { awaiting = h.awaiting; next_point = h.next_point }
-drained_unrevoked (RevokeAndAck secret next_point ∷ queue) s e = absurd (omega (arith, e))
+drained_unrevoked (Step (Updated v) ∷ queue) s e = let h = drained_unrevoked queue (after s (Step (Updated v))) (omega (arith, e)) in record { awaiting = h.awaiting; next_point = h.next_point }
+drained_unrevoked (Step (CommitmentSigned tokens) ∷ queue) s e = let h = drained_unrevoked queue (after s (Step (CommitmentSigned tokens))) (omega (arith, e)) in record { awaiting = h.awaiting; next_point = h.next_point }
+drained_unrevoked (RevokeAndAck revocation ∷ queue) s e = absurd (omega (arith, e))
 
 -- what only grows
 
 pub known_grows : (queue : List Message) (s : State) → IsBeginning s.held.theirs.known (drained queue s).held.theirs.known
 known_grows [] s = begins s.held.theirs.known
-known_grows (Updated v ∷ queue) s = begins_on _ _ _ (v ∷ [], refl) (known_grows queue (after s (Updated v)))
-known_grows (CommitmentSigned tokens ∷ queue) s = known_grows queue (after s (CommitmentSigned tokens))
-known_grows (RevokeAndAck secret next_point ∷ queue) s = known_grows queue (after s (RevokeAndAck secret next_point))
+known_grows (Step (Updated v) ∷ queue) s = begins_on _ _ _ (v ∷ [], refl) (known_grows queue (after s (Step (Updated v))))
+known_grows (Step (CommitmentSigned tokens) ∷ queue) s = known_grows queue (after s (Step (CommitmentSigned tokens)))
+known_grows (RevokeAndAck revocation ∷ queue) s = known_grows queue (after s (RevokeAndAck revocation))
 
 pub mine_grows : (queue : List Message) (s : State) → (more : List CommitmentState) × (s.mine ++ more ≡ (drained queue s).mine)
 mine_grows [] s = ([], append-nil s.mine)
-mine_grows (Updated v ∷ queue) s = mine_grows queue (after s (Updated v))
-mine_grows (CommitmentSigned tokens ∷ queue) s =
-    let t = after s (CommitmentSigned tokens) in
+mine_grows (Step (Updated v) ∷ queue) s = mine_grows queue (after s (Step (Updated v)))
+mine_grows (Step (CommitmentSigned tokens) ∷ queue) s =
+    let t = after s (Step (CommitmentSigned tokens)) in
     let h = mine_grows queue t in
     let c = own_next s in
     (c ∷ h.0, sym (append_assoc s.mine (c ∷ []) h.0) ∙ h.1)
-mine_grows (RevokeAndAck secret next_point ∷ queue) s = mine_grows queue (after s (RevokeAndAck secret next_point))
+mine_grows (RevokeAndAck revocation ∷ queue) s = mine_grows queue (after s (RevokeAndAck revocation))
 
 pub settled_grows : (tokens_of : Signing) (queue : List Message) (s : State) → Flows tokens_of queue s → IsKept s → IsBeginning s.held.own.settled (drained queue s).held.own.settled
 settled_grows tokens_of [] s f k = begins s.held.own.settled
-settled_grows tokens_of (Updated v ∷ queue) s f k = settled_grows tokens_of queue (after s (Updated v)) f.1 (kept_after tokens_of s (Updated v) f.0 k)
-settled_grows tokens_of (CommitmentSigned tokens ∷ queue) s f k = begins_on _ _ _ (settled_past s.held.own k.own) (settled_grows tokens_of queue (after s (CommitmentSigned tokens)) f.1 (kept_after tokens_of s (CommitmentSigned tokens) f.0 k))
-settled_grows tokens_of (RevokeAndAck secret next_point ∷ queue) s f k = settled_grows tokens_of queue (after s (RevokeAndAck secret next_point)) f.1 (kept_after tokens_of s (RevokeAndAck secret next_point) f.0 k)
+settled_grows tokens_of (Step (Updated v) ∷ queue) s f k = settled_grows tokens_of queue (after s (Step (Updated v))) f.1 (kept_after tokens_of s (Step (Updated v)) f.0 k)
+settled_grows tokens_of (Step (CommitmentSigned tokens) ∷ queue) s f k = begins_on _ _ _ (settled_past s.held.own k.own) (settled_grows tokens_of queue (after s (Step (CommitmentSigned tokens))) f.1 (kept_after tokens_of s (Step (CommitmentSigned tokens)) f.0 k))
+settled_grows tokens_of (RevokeAndAck revocation ∷ queue) s f k = settled_grows tokens_of queue (after s (RevokeAndAck revocation)) f.1 (kept_after tokens_of s (RevokeAndAck revocation) f.0 k)

@@ -10,9 +10,10 @@ use Rattle.updates.specs.declared.changes.Update.{Update}
 use Rattle.updates.specs.Views.{view_by}
 use Rattle.updates.proofs.Accepting.{AllPass, all_pass}
 use Rattle.channel.specs.declared.commitments.CommitmentState.{CommitmentState}
-use Rattle.channel.specs.declared.messages.Tokens.{Tokens}
+use Rattle.updates.specs.declared.messages.Tokens.{Tokens}
 use Rattle.channel.specs.declared.messages.Message.{Message}
-use Rattle.channel.specs.declared.messages.Message.TheVariants.{Updated, CommitmentSigned, RevokeAndAck}
+use Rattle.updates.specs.declared.messages.PeerStep.TheVariants.{Update as Updated, CommitmentSigned}
+use Rattle.channel.specs.declared.messages.Message.TheVariants.{Step, RevokeAndAck}
 use Rattle.channel.specs.Points.{point_at}
 use Rattle.channel.specs.States.{Signing, State, state_at_opening, sign_tests, receive_tests, receive_refusal, peers_next, own_next, after_update, after_sign, after}
 use Rattle.channel.specs.Peers.{starts, updated_once, signed_once, received_once}
@@ -40,12 +41,12 @@ recorded_signed s e r = record {
 }
 
 -- one's own next commitment becomes its newest
-pub own_same : (s : State) (tokens : Tokens) → own_next s ≡ own_newest (after s (CommitmentSigned tokens))
+pub own_same : (s : State) (tokens : Tokens) → own_next s ≡ own_newest (after s (Step (CommitmentSigned tokens)))
 own_same s tokens =
     ap (λ v. record { view = v; owner = other (other s.held.side); number = s.number + 1; point = point_at s.seed (s.number + 1) }) (view_turned s.held.terms s.held.side s.held.theirs.known s.held.own.past_receiver)
     ∙ ap (λ o. record { view = view_by s.held.terms s.held.side s.held.own.past_receiver s.held.theirs.known; owner = o; number = s.number + 1; point = point_at s.seed (s.number + 1) }) (twice s.held.side)
 
-recorded_signature : (s : State) (tokens : Tokens) → IsRecorded s → IsRecorded (after s (CommitmentSigned tokens))
+recorded_signature : (s : State) (tokens : Tokens) → IsRecorded s → IsRecorded (after s (Step (CommitmentSigned tokens)))
 recorded_signature s tokens r = record {
   older = r.older ++ own_newest s ∷ [];
   mine = ap (λ l. l ++ own_next s ∷ []) r.mine ∙ ap (λ c. (r.older ++ own_newest s ∷ []) ++ c ∷ []) (own_same s tokens);
@@ -55,7 +56,7 @@ recorded_signature s tokens r = record {
   past_count = r.past_count;
 }
   where
-    unchanged : (b : Bool) → peers_signed s b ≡ peers_signed (after s (CommitmentSigned tokens)) b
+    unchanged : (b : Bool) → peers_signed s b ≡ peers_signed (after s (Step (CommitmentSigned tokens))) b
     unchanged true = refl
     unchanged false = refl
 
@@ -66,14 +67,14 @@ recorded_made s u r = record { older = r.older; mine = r.mine; older_count = r.o
     unchanged true = refl
     unchanged false = refl
 
-recorded_update : (s : State) (u : Update) → IsRecorded s → IsRecorded (after s (Updated u))
+recorded_update : (s : State) (u : Update) → IsRecorded s → IsRecorded (after s (Step (Updated u)))
 recorded_update s u r = record { older = r.older; mine = r.mine; older_count = r.older_count; past = r.past; signed = r.signed ∙ ap (λ l. r.past ++ peers_newest s ∷ l) (unchanged s.awaiting); past_count = r.past_count }
   where
-    unchanged : (b : Bool) → peers_signed s b ≡ peers_signed (after s (Updated u)) b
+    unchanged : (b : Bool) → peers_signed s b ≡ peers_signed (after s (Step (Updated u))) b
     unchanged true = refl
     unchanged false = refl
 
-recorded_revocation : (s : State) (secret : List ℕ) (next_point : Key) → s.awaiting ≡ true → IsRecorded s → IsRecorded (after s (RevokeAndAck secret next_point))
+recorded_revocation : (s : State) (secret : List ℕ) (next_point : Key) → s.awaiting ≡ true → IsRecorded s → IsRecorded (after s (RevokeAndAck (record { secret = secret; next_point = next_point })))
 recorded_revocation s secret next_point e r = record {
   older = r.older;
   mine = r.mine;
@@ -96,14 +97,14 @@ recorded_opened terms side seed point next_point = record {
 pub calm_when : (s : State) → AllPass (sign_tests s) → s.awaiting ≡ false
 calm_when s (t1, t2) = (or_parts s.awaiting _ t1).0
 
-pub awaits_when : (tokens_of : Signing) (s : State) (secret : List ℕ) (next_point : Key) → AllPass (receive_tests tokens_of s (RevokeAndAck secret next_point)) → s.awaiting ≡ true
+pub awaits_when : (tokens_of : Signing) (s : State) (secret : List ℕ) (next_point : Key) → AllPass (receive_tests tokens_of s (RevokeAndAck (record { secret = secret; next_point = next_point }))) → s.awaiting ≡ true
 awaits_when tokens_of s secret next_point (t1, t2) = not-false s.awaiting t1
 
 recorded_after : (tokens_of : Signing) (s : State) (m : Message) → receive_refusal tokens_of s m ≡ None → IsRecorded s → IsRecorded (after s m)
-recorded_after tokens_of s (Updated u) e r = recorded_update s u r
-recorded_after tokens_of s (CommitmentSigned tokens) e r = recorded_signature s tokens r
-recorded_after tokens_of s (RevokeAndAck secret next_point) e r =
-    recorded_revocation s secret next_point (awaits_when tokens_of s secret next_point (all_pass (receive_tests tokens_of s (RevokeAndAck secret next_point)) e)) r
+recorded_after tokens_of s (Step (Updated u)) e r = recorded_update s u r
+recorded_after tokens_of s (Step (CommitmentSigned tokens)) e r = recorded_signature s tokens r
+recorded_after tokens_of s (RevokeAndAck revocation) e r =
+    recorded_revocation s revocation.secret revocation.next_point (awaits_when tokens_of s revocation.secret revocation.next_point (all_pass (receive_tests tokens_of s (RevokeAndAck revocation)) e)) r
 
 pub sides_record : SidesRecord
 sides_record tokens_of s (starts terms side seed point next_point) = recorded_opened terms side seed point next_point

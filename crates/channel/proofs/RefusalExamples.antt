@@ -11,7 +11,8 @@ use Rattle.terms.specs.declared.agreement.BaseKeys.{BaseKeys}
 use Rattle.terms.specs.declared.agreement.Terms.{Terms}
 use Rattle.updates.specs.declared.changes.Update.TheVariants.{Add, Fulfil, Fail, Fee}
 use Rattle.updates.specs.declared.errors.ChannelError.TheVariants.{AmountZero, BelowMinimum, ExpiryTooLarge, WrongId, OverBalance, UnknownHtlc, NoUpdates, BadSignature, WrongSecret, NotYourTurn, NotOpener}
-use Rattle.channel.specs.declared.messages.Message.TheVariants.{Updated, CommitmentSigned, RevokeAndAck}
+use Rattle.updates.specs.declared.messages.PeerStep.TheVariants.{Update as Updated, CommitmentSigned}
+use Rattle.channel.specs.declared.messages.Message.TheVariants.{Step, RevokeAndAck}
 use Rattle.channel.specs.Points.{index_of, secret_at, point_at, is_foreign}
 use Rattle.channel.specs.States.{State, state_at_opening, update_refusal, sign_refusal, receive_refusal, after_update, after_sign, after, answers}
 use Rattle.channel.proofs.Samples.{key, secret, point_key, tokens_of, tokens, sample_terms}
@@ -50,7 +51,7 @@ unfolding is_foreign index_of derived_secret flipped count_trailing_zeros sha256
 stored = (refl, refl, refl, refl, refl, refl, refl, refl)
 
 abbrev htlc : ℕ → ℕ → ℕ → Htlc
-htlc id amount expiry = record { id = id; amount = amount; hash = []; expiry = expiry }
+htlc id amount_msat expiry_height = record { id = id; amount_msat = amount_msat; hash = []; expiry_height = expiry_height }
 
 module _ (funding : OutPoint) (bases : BaseKeys) (seed : List ℕ) where
   abbrev terms : Terms
@@ -72,15 +73,15 @@ module _ (funding : OutPoint) (bases : BaseKeys) (seed : List ℕ) where
   offers = (refl, refl, refl, refl, refl, refl)
 
   -- what B receives of A, and A of B
-  received : (receive_refusal tokens_of b (Updated (Add (htlc 1 0 500))) ≡ Some WrongId)
-      × (receive_refusal tokens_of b (Updated (Add (htlc 0 80000001 500))) ≡ Some OverBalance)
-      × (receive_refusal tokens_of b (Updated (Add (htlc 0 80000000 500))) ≡ None)
-      × (receive_refusal tokens_of a (Updated (Add (htlc 0 20000001 500))) ≡ Some OverBalance)
-      × (receive_refusal tokens_of a (Updated (Add (htlc 0 20000000 500))) ≡ None)
-      × (receive_refusal tokens_of b (Updated (Fail 0)) ≡ Some UnknownHtlc)
-      × (receive_refusal tokens_of b (Updated (Fulfil 0 [])) ≡ Some UnknownHtlc)
-      × (receive_refusal tokens_of b (Updated (Fee 1)) ≡ None)
-      × (receive_refusal tokens_of a (Updated (Fee 1)) ≡ Some NotOpener)
+  received : (receive_refusal tokens_of b (Step (Updated (Add (htlc 1 0 500)))) ≡ Some WrongId)
+      × (receive_refusal tokens_of b (Step (Updated (Add (htlc 0 80000001 500)))) ≡ Some OverBalance)
+      × (receive_refusal tokens_of b (Step (Updated (Add (htlc 0 80000000 500)))) ≡ None)
+      × (receive_refusal tokens_of a (Step (Updated (Add (htlc 0 20000001 500)))) ≡ Some OverBalance)
+      × (receive_refusal tokens_of a (Step (Updated (Add (htlc 0 20000000 500)))) ≡ None)
+      × (receive_refusal tokens_of b (Step (Updated (Fail 0))) ≡ Some UnknownHtlc)
+      × (receive_refusal tokens_of b (Step (Updated (Fulfil 0 []))) ≡ Some UnknownHtlc)
+      × (receive_refusal tokens_of b (Step (Updated (Fee 1))) ≡ None)
+      × (receive_refusal tokens_of a (Step (Updated (Fee 1))) ≡ Some NotOpener)
   received = (refl, refl, refl, refl, refl, refl, refl, refl, refl)
 
   -- A offered two HTLCs, and B received them
@@ -88,7 +89,7 @@ module _ (funding : OutPoint) (bases : BaseKeys) (seed : List ℕ) where
   offering = after_update (Add (htlc 1 3000 500)) (after_update (Add (htlc 0 2000 500)) a)
 
   abbrev receiving : State
-  receiving = after (after b (Updated (Add (htlc 0 2000 500)))) (Updated (Add (htlc 1 3000 500)))
+  receiving = after (after b (Step (Updated (Add (htlc 0 2000 500))))) (Step (Updated (Add (htlc 1 3000 500))))
 
   -- signatures given out: one at a time, with something to cover, up to the last number
   signed : (sign_refusal a ≡ Some NoUpdates)
@@ -101,38 +102,38 @@ module _ (funding : OutPoint) (bases : BaseKeys) (seed : List ℕ) where
   signed = (refl, refl, refl, refl, refl, refl, refl)
 
   -- signatures received: each token in its place, and no other number of them
-  signatures : (receive_refusal tokens_of b (CommitmentSigned (tokens 1 [])) ≡ Some NoUpdates)
-      × (receive_refusal tokens_of receiving (CommitmentSigned (tokens 1 (2000 ∷ 3000 ∷ []))) ≡ None)
-      × (receive_refusal tokens_of receiving (CommitmentSigned (tokens 1 (2000 ∷ 3000 ∷ 3000 ∷ []))) ≡ Some BadSignature)
-      × (receive_refusal tokens_of receiving (CommitmentSigned (tokens 1 (2000 ∷ []))) ≡ Some BadSignature)
-      × (receive_refusal tokens_of receiving (CommitmentSigned (tokens 1 [])) ≡ Some BadSignature)
-      × (receive_refusal tokens_of receiving (CommitmentSigned (tokens 1 (3000 ∷ 2000 ∷ []))) ≡ Some BadSignature)
-      × (receive_refusal tokens_of receiving (CommitmentSigned (tokens 0 (2000 ∷ 3000 ∷ []))) ≡ Some BadSignature)
-      × (receive_refusal tokens_of (record receiving { number = 281474976710653 }) (CommitmentSigned (tokens 281474976710654 (2000 ∷ 3000 ∷ []))) ≡ None)
-      × (receive_refusal tokens_of (record receiving { number = 281474976710654 }) (CommitmentSigned (tokens 281474976710655 (2000 ∷ 3000 ∷ []))) ≡ Some NotYourTurn)
-      × (receive_refusal tokens_of (record b { number = 281474976710653 }) (CommitmentSigned (tokens 0 [])) ≡ Some NoUpdates)
-      × (receive_refusal tokens_of (record b { number = 281474976710654 }) (CommitmentSigned (tokens 0 [])) ≡ Some NotYourTurn)
+  signatures : (receive_refusal tokens_of b (Step (CommitmentSigned (tokens 1 []))) ≡ Some NoUpdates)
+      × (receive_refusal tokens_of receiving (Step (CommitmentSigned (tokens 1 (2000 ∷ 3000 ∷ [])))) ≡ None)
+      × (receive_refusal tokens_of receiving (Step (CommitmentSigned (tokens 1 (2000 ∷ 3000 ∷ 3000 ∷ [])))) ≡ Some BadSignature)
+      × (receive_refusal tokens_of receiving (Step (CommitmentSigned (tokens 1 (2000 ∷ [])))) ≡ Some BadSignature)
+      × (receive_refusal tokens_of receiving (Step (CommitmentSigned (tokens 1 []))) ≡ Some BadSignature)
+      × (receive_refusal tokens_of receiving (Step (CommitmentSigned (tokens 1 (3000 ∷ 2000 ∷ [])))) ≡ Some BadSignature)
+      × (receive_refusal tokens_of receiving (Step (CommitmentSigned (tokens 0 (2000 ∷ 3000 ∷ [])))) ≡ Some BadSignature)
+      × (receive_refusal tokens_of (record receiving { number = 281474976710653 }) (Step (CommitmentSigned (tokens 281474976710654 (2000 ∷ 3000 ∷ [])))) ≡ None)
+      × (receive_refusal tokens_of (record receiving { number = 281474976710654 }) (Step (CommitmentSigned (tokens 281474976710655 (2000 ∷ 3000 ∷ [])))) ≡ Some NotYourTurn)
+      × (receive_refusal tokens_of (record b { number = 281474976710653 }) (Step (CommitmentSigned (tokens 0 []))) ≡ Some NoUpdates)
+      × (receive_refusal tokens_of (record b { number = 281474976710654 }) (Step (CommitmentSigned (tokens 0 []))) ≡ Some NotYourTurn)
   signatures = (refl, refl, refl, refl, refl, refl, refl, refl, refl, refl, refl)
 
   -- a signature is answered by the secret of the commitment that it replaces, and the point for the number after the next
-  answered : (answers receiving (CommitmentSigned (tokens 1 [])) ≡ RevokeAndAck (secret_at seed 0) (point_at seed 2) ∷ [])
-      × (answers (record receiving { number = 5 }) (CommitmentSigned (tokens 6 [])) ≡ RevokeAndAck (secret_at seed 5) (point_at seed 7) ∷ [])
-      × (answers receiving (Updated (Fail 0)) ≡ [])
-      × (answers receiving (RevokeAndAck secret (key 2)) ≡ [])
+  answered : (answers receiving (Step (CommitmentSigned (tokens 1 []))) ≡ RevokeAndAck (record { secret = secret_at seed 0; next_point = point_at seed 2 }) ∷ [])
+      × (answers (record receiving { number = 5 }) (Step (CommitmentSigned (tokens 6 []))) ≡ RevokeAndAck (record { secret = secret_at seed 5; next_point = point_at seed 7 }) ∷ [])
+      × (answers receiving (Step (Updated (Fail 0))) ≡ [])
+      × (answers receiving (RevokeAndAck (record { secret = secret; next_point = key 2 })) ≡ [])
   answered = (refl, refl, refl, refl)
 
   -- revocations: of the commitment that is replaced, by a secret of the peer's seed
-  revoked : (receive_refusal tokens_of offering (RevokeAndAck secret (key 2)) ≡ Some NotYourTurn)
-      × (receive_refusal tokens_of (after_sign offering) (RevokeAndAck secret (key 2)) ≡ None)
-      × (receive_refusal tokens_of (after_sign offering) (RevokeAndAck (replicate 32 8) (key 2)) ≡ Some WrongSecret)
-      × (receive_refusal tokens_of (record (after_sign offering) { secrets = first ∷ [] }) (RevokeAndAck secret (key 2)) ≡ Some WrongSecret)
-      × (receive_refusal tokens_of (record offering { secrets = first ∷ [] }) (RevokeAndAck (replicate 32 8) (key 2)) ≡ Some NotYourTurn)
+  revoked : (receive_refusal tokens_of offering (RevokeAndAck (record { secret = secret; next_point = key 2 })) ≡ Some NotYourTurn)
+      × (receive_refusal tokens_of (after_sign offering) (RevokeAndAck (record { secret = secret; next_point = key 2 })) ≡ None)
+      × (receive_refusal tokens_of (after_sign offering) (RevokeAndAck (record { secret = replicate 32 8; next_point = key 2 })) ≡ Some WrongSecret)
+      × (receive_refusal tokens_of (record (after_sign offering) { secrets = first ∷ [] }) (RevokeAndAck (record { secret = secret; next_point = key 2 })) ≡ Some WrongSecret)
+      × (receive_refusal tokens_of (record offering { secrets = first ∷ [] }) (RevokeAndAck (record { secret = replicate 32 8; next_point = key 2 })) ≡ Some NotYourTurn)
   unfolding point_of is_foreign index_of derived_secret flipped count_trailing_zeros sha256 digest_bytes hash_after compress rounds schedule first_words
   revoked = (refl, refl, refl, refl, refl)
 
   -- what a revocation makes of a state
   abbrev later : State
-  later = after (after_sign offering) (RevokeAndAck secret (key 2))
+  later = after (after_sign offering) (RevokeAndAck (record { secret = secret; next_point = key 2 }))
 
   moved : (later.awaiting ≡ false) × (later.peer_number ≡ 1) × (later.number ≡ 0) × (later.point ≡ key 1) × (later.next_point ≡ key 2) × (later.secrets ≡ secret ∷ [])
       × (length later.signed ≡ 2) × (length later.mine ≡ 1) × (length later.held.own.past_receiver ≡ 2) × (length later.held.own.with_sender ≡ 0)

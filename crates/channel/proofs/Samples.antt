@@ -9,7 +9,7 @@ use Rattle.keys.specs.Derivation.{point_of}
 use Rattle.terms.specs.declared.sides.Side.TheVariants.{A}
 use Rattle.terms.specs.declared.agreement.BaseKeys.{BaseKeys}
 use Rattle.terms.specs.declared.agreement.Terms.{Terms}
-use Rattle.channel.specs.declared.messages.Tokens.{Tokens}
+use Rattle.updates.specs.declared.messages.Tokens.{Tokens}
 use Rattle.channel.specs.States.{Signing}
 
 pub key_form : (n : ℕ) → IsTrue (is_key (2 ∷ replicate 32 n))
@@ -39,7 +39,7 @@ point_key = record { bytes = point; form = point_form }
 
 -- tokens that name the number, and the amounts of A's HTLCs
 abbrev pub tokens_of : Signing
-tokens_of terms c = record { commitment = c.number ∷ []; htlcs = map (λ h. h.amount ∷ []) c.view.a.offered }
+tokens_of terms c = record { commitment = c.number ∷ []; htlcs = map (λ h. h.amount_msat ∷ []) c.view.a.offered }
 
 abbrev pub tokens : ℕ → List ℕ → Tokens
 tokens number amounts = record { commitment = number ∷ []; htlcs = map (λ n. n ∷ []) amounts }
@@ -52,11 +52,11 @@ short = lit< tt
 abbrev pub sample_terms : OutPoint → BaseKeys → Terms
 sample_terms funding bases = record {
   funding = funding;
-  capacity = 100000;
+  capacity_sat = 100000;
   opener = A;
-  feerate = 1000;
-  a = record { dust = 546; delay = 144; minimum = 1000; start = 80000000; bases = bases };
-  b = record { dust = 546; delay = 144; minimum = 1000; start = 20000000; bases = bases };
+  feerate_per_kw = 1000;
+  a = record { dust_sat = 546; delay_blocks = 144; minimum_msat = 1000; start_msat = 80000000; bases = bases };
+  b = record { dust_sat = 546; delay_blocks = 144; minimum_msat = 1000; start_msat = 20000000; bases = bases };
   limited = lit≤ tt;
   whole = refl;
   short_a = short;

@@ -60,10 +60,10 @@ changed =
     ∷ by_b Sign ∷ by_a Deliver ∷ by_b Deliver ∷ []
 
 abbrev htlc : ℕ → ℕ → Htlc
-htlc amount expiry = record { id = 0; amount = amount; hash = hash; expiry = expiry }
+htlc amount_msat expiry_height = record { id = 0; amount_msat = amount_msat; hash = hash; expiry_height = expiry_height }
 
 abbrev pays : ℕ → ℕ → List Htlc → ℕ → View
-pays a b offered feerate = record { a = record { balance = a; offered = offered }; b = record { balance = b; offered = [] }; feerate = feerate }
+pays a b offered feerate_per_kw = record { a = record { balance_msat = a; offered = offered }; b = record { balance_msat = b; offered = [] }; feerate_per_kw = feerate_per_kw }
 
 abbrev views : List CommitmentState → List View
 views [] = []

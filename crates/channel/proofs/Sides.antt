@@ -9,7 +9,8 @@ use Rattle.updates.proofs.Sums.{begins}
 use Rattle.updates.proofs.Funds.{settled_past, settled_known, settled_receiver, sender_known, past_known}
 use Rattle.updates.proofs.OneSide.{steady_none, steady_made, steady_signed, steady_update, steady_signature, steady_revocation, sound_at}
 use Rattle.channel.specs.declared.messages.Message.{Message}
-use Rattle.channel.specs.declared.messages.Message.TheVariants.{Updated, CommitmentSigned, RevokeAndAck}
+use Rattle.updates.specs.declared.messages.PeerStep.TheVariants.{Update as Updated, CommitmentSigned}
+use Rattle.channel.specs.declared.messages.Message.TheVariants.{Step, RevokeAndAck}
 use Rattle.channel.specs.States.{Signing, State, state_at_opening, update_refusal, receive_refusal, after_update, after_sign, after}
 use Rattle.channel.specs.Peers.{IsLived, starts, updated_once, signed_once, received_once}
 use Rattle.channel.specs.Agreeing.{IsSoundState, SidesAreSound}
@@ -27,9 +28,9 @@ pub kept_signed : (s : State) → IsKept s → IsKept (after_sign s)
 kept_signed s k = steady_signed s.held k
 
 pub kept_after : (tokens_of : Signing) (s : State) (m : Message) → receive_refusal tokens_of s m ≡ None → IsKept s → IsKept (after s m)
-kept_after tokens_of s (Updated u) e k = steady_update s.held u e k
-kept_after tokens_of s (CommitmentSigned tokens) e k = steady_signature s.held k
-kept_after tokens_of s (RevokeAndAck secret next_point) e k = steady_revocation s.held k
+kept_after tokens_of s (Step (Updated u)) e k = steady_update s.held u e k
+kept_after tokens_of s (Step (CommitmentSigned tokens)) e k = steady_signature s.held k
+kept_after tokens_of s (RevokeAndAck revocation) e k = steady_revocation s.held k
 
 pub sound_in : (s : State) → IsKept s → IsSoundState s
 sound_in s k =

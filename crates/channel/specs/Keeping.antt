@@ -9,7 +9,7 @@ use Rattle.terms.specs.Agreement.{party}
 use Rattle.terms.specs.Sides.{other}
 use Rattle.channel.specs.declared.limits.TheConstants.{LAST_NUMBER}
 use Rattle.channel.specs.declared.commitments.CommitmentState.{CommitmentState}
-use Rattle.channel.specs.declared.messages.Tokens.{Tokens}
+use Rattle.updates.specs.declared.messages.Tokens.{Tokens}
 use Rattle.channel.specs.States.{State}
 use Rattle.channel.specs.Tokens.{peer_tokens}
 use Rattle.channel.specs.Rights.{rights_of}

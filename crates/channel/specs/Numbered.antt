@@ -6,7 +6,7 @@ use Rattle.terms.specs.declared.views.View.{View}
 use Rattle.terms.specs.declared.amounts.TheConstants.{MSAT_PER_SAT}
 use Rattle.updates.specs.declared.limits.TheConstants.{MAX_HTLCS}
 use Rattle.updates.specs.Views.{expire_at_heights}
-use Rattle.commit.specs.Sums.{total_of}
+use Rattle.commit.specs.Sums.{total_msat_of}
 use Rattle.channel.specs.declared.commitments.CommitmentState.{CommitmentState}
 
 -- balances and HTLCs together are the capacity, no side has more HTLCs than allowed, and each expires at a height
@@ -15,7 +15,7 @@ pub record SharesOut (terms : Terms) (view : View) : Type 0 where
   pub few_of_b : length view.b.offered ≤ MAX_HTLCS
   pub heights_of_a : IsTrue (expire_at_heights view.a.offered)
   pub heights_of_b : IsTrue (expire_at_heights view.b.offered)
-  pub whole : total_of view ≡ MSAT_PER_SAT * terms.capacity
+  pub whole : total_msat_of view ≡ MSAT_PER_SAT * terms.capacity_sat
 
 -- a commitment of this side and number, whose view shares out the capacity
 pub record IsNumbered (terms : Terms) (side : Side) (n : ℕ) (c : CommitmentState) : Type 0 where

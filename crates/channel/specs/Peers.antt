@@ -6,7 +6,8 @@ use Rattle.terms.specs.declared.sides.Side.TheVariants.{A, B}
 use Rattle.terms.specs.declared.agreement.Terms.{Terms}
 use Rattle.updates.specs.declared.changes.Update.{Update}
 use Rattle.channel.specs.declared.messages.Message.{Message}
-use Rattle.channel.specs.declared.messages.Message.TheVariants.{Updated}
+use Rattle.updates.specs.declared.messages.PeerStep.TheVariants.{Update as Updated}
+use Rattle.channel.specs.declared.messages.Message.TheVariants.{Step}
 use Rattle.channel.specs.Points.{point_at}
 use Rattle.channel.specs.States.{Signing, State, state_at_opening, update_refusal, sign_refusal, receive_refusal, after_update, after_sign, after, answers, signature_message}
 
@@ -35,7 +36,7 @@ pub record AreOpened (a b : State) : Type 0 where
 
 -- one step of a peer `me` that isn't refused: its state after the step, what it has sent, and what is left of its queue
 pub data Acts (tokens_of : Signing) (me : State) (queue : List Message) : State → List Message → List Message → Type 0 where
-  updates : (u : Update) → update_refusal me u ≡ None → Acts tokens_of me queue (after_update u me) (Updated u ∷ []) queue
+  updates : (u : Update) → update_refusal me u ≡ None → Acts tokens_of me queue (after_update u me) (Step (Updated u) ∷ []) queue
   signs : sign_refusal me ≡ None → Acts tokens_of me queue (after_sign me) (signature_message tokens_of me ∷ []) queue
   receives : (m : Message) (rest : List Message) → queue ≡ m ∷ rest → receive_refusal tokens_of me m ≡ None → Acts tokens_of me queue (after me m) (answers me m) rest
 

@@ -6,7 +6,8 @@ use Rattle.updates.specs.declared.changes.Update.{Update}
 use Rattle.updates.specs.declared.errors.ChannelError.{ChannelError}
 use Rattle.updates.specs.declared.errors.ChannelError.TheVariants.{NoMemory}
 use Rattle.channel.specs.declared.messages.Message.{Message}
-use Rattle.channel.specs.declared.messages.Message.TheVariants.{Updated}
+use Rattle.updates.specs.declared.messages.PeerStep.TheVariants.{Update as Updated}
+use Rattle.channel.specs.declared.messages.Message.TheVariants.{Step}
 use Rattle.channel.specs.declared.plays.Action.{Action}
 use Rattle.channel.specs.declared.plays.Action.TheVariants.{Own, Sign, Deliver}
 use Rattle.channel.specs.declared.plays.PairStep.{PairStep}
@@ -39,7 +40,7 @@ unless None w v = record { world = v; outcome = Done }
 unless (Some r) w v = record { world = w; outcome = Refused r }
 
 abbrev pub updated_by : World → Side → Update → Played
-updated_by w side u = unless (update_refusal (state_of side w) u) w (moved side w (after_update u (state_of side w)) (queue_of side w) (Updated u ∷ []))
+updated_by w side u = unless (update_refusal (state_of side w) u) w (moved side w (after_update u (state_of side w)) (queue_of side w) (Step (Updated u) ∷ []))
 
 abbrev pub signed_by : Signing → World → Side → Played
 signed_by tokens_of w side = unless (sign_refusal (state_of side w)) w (moved side w (after_sign (state_of side w)) (queue_of side w) (signature_message tokens_of (state_of side w) ∷ []))

@@ -18,9 +18,10 @@ use Rattle.updates.specs.Stages.{Stages}
 use Rattle.updates.specs.Refusals.{Test, first_refusal, covers_nothing}
 use Rattle.updates.specs.Steady.{Held, next_htlc, own_tests, their_tests, holding_none, holding_made, holding_signed, holding_update, holding_signature, holding_revocation}
 use Rattle.channel.specs.declared.commitments.CommitmentState.{CommitmentState}
-use Rattle.channel.specs.declared.messages.Tokens.{Tokens}
+use Rattle.updates.specs.declared.messages.Tokens.{Tokens}
 use Rattle.channel.specs.declared.messages.Message.{Message}
-use Rattle.channel.specs.declared.messages.Message.TheVariants.{Updated, CommitmentSigned, RevokeAndAck}
+use Rattle.updates.specs.declared.messages.PeerStep.TheVariants.{Update as Updated, CommitmentSigned}
+use Rattle.channel.specs.declared.messages.Message.TheVariants.{Step, RevokeAndAck}
 use Rattle.channel.specs.declared.limits.TheConstants.{LAST_NUMBER}
 use Rattle.channel.specs.Points.{secret_at, point_at, is_foreign}
 
@@ -88,13 +89,13 @@ abbrev pub sign_tests : State → List Test
 sign_tests s = (s.awaiting || nat_le LAST_NUMBER s.peer_number, NotYourTurn) ∷ (covers_nothing s.held.own s.held.theirs, NoUpdates) ∷ []
 
 abbrev pub receive_tests : Signing → State → Message → List Test
-receive_tests tokens_of s (Updated u) = their_tests s.held u
-receive_tests tokens_of s (CommitmentSigned tokens) = (nat_le LAST_NUMBER s.number, NotYourTurn)
+receive_tests tokens_of s (Step (Updated u)) = their_tests s.held u
+receive_tests tokens_of s (Step (CommitmentSigned tokens)) = (nat_le LAST_NUMBER s.number, NotYourTurn)
     ∷ (covers_nothing s.held.theirs s.held.own, NoUpdates)
     ∷ (not (same_tokens tokens (tokens_of s.held.terms (own_next s))), BadSignature) ∷ []
-receive_tests tokens_of s (RevokeAndAck secret next_point) =
-    (not s.awaiting, NotYourTurn) ∷ (not (bytes_eq (point_of secret) s.point.bytes), WrongSecret)
-    ∷ (is_foreign s.secrets secret, WrongSecret) ∷ []
+receive_tests tokens_of s (RevokeAndAck revocation) =
+    (not s.awaiting, NotYourTurn) ∷ (not (bytes_eq (point_of revocation.secret) s.point.bytes), WrongSecret)
+    ∷ (is_foreign s.secrets revocation.secret, WrongSecret) ∷ []
 
 -- the refusals of an update of one's own, of a signature to be given out, and of a received message
 abbrev pub update_refusal : State → Update → Option ChannelError
@@ -108,10 +109,10 @@ receive_refusal tokens_of s m = first_refusal (receive_tests tokens_of s m)
 
 -- the update that a side in this state makes: an offer has the next id
 abbrev pub update_of : State → OwnUpdate → Update
-update_of s (Offer amount hash expiry) = Add (next_htlc s.held.own amount hash expiry)
+update_of s (Offer amount_msat hash expiry_height) = Add (next_htlc s.held.own amount_msat hash expiry_height)
 update_of s (Fulfil id preimage) = Fulfilling id preimage
 update_of s (Fail id) = Failing id
-update_of s (SetFee rate) = Fee rate
+update_of s (SetFee feerate_per_kw) = Fee feerate_per_kw
 
 -- the state after an update of one's own, after a signature given out, and after a received message; a received signature is answered at once by a
 -- revocation
@@ -126,28 +127,29 @@ after_sign s = record s {
 }
 
 abbrev pub after : State → Message → State
-after s (Updated u) = record s { held = holding_update u s.held }
-after s (CommitmentSigned tokens) = record s {
+after s (Step (Updated u)) = record s { held = holding_update u s.held }
+after s (Step (CommitmentSigned tokens)) = record s {
   held = holding_signature s.held;
   number = s.number + 1;
   mine = s.mine ++ own_next s ∷ [];
 }
-after s (RevokeAndAck secret next_point) = record s {
+after s (RevokeAndAck revocation) = record s {
   held = holding_revocation s.held;
   awaiting = false;
   peer_number = s.peer_number + 1;
   point = s.next_point;
-  next_point = next_point;
-  secrets = s.secrets ++ secret ∷ [];
+  next_point = revocation.next_point;
+  secrets = s.secrets ++ revocation.secret ∷ [];
 }
 
 -- the message of a signature
 abbrev pub signature_message : Signing → State → Message
-signature_message tokens_of s = CommitmentSigned (tokens_of s.held.terms (peers_next s))
+signature_message tokens_of s = Step (CommitmentSigned (tokens_of s.held.terms (peers_next s)))
 
 -- the messages that answer a received one: a signature is answered by the secret of the commitment that it replaces, and the point for the number after the
 -- next
 abbrev pub answers : State → Message → List Message
-answers s (CommitmentSigned tokens) =
-    RevokeAndAck (secret_at s.seed s.number) (point_at s.seed (s.number + 2)) ∷ []
-answers s m = []
+answers s (Step (CommitmentSigned tokens)) =
+    RevokeAndAck (record { secret = secret_at s.seed s.number; next_point = point_at s.seed (s.number + 2) }) ∷ []
+answers s (Step (Updated u)) = []
+answers s (RevokeAndAck revocation) = []

@@ -12,7 +12,7 @@ use Rattle.commit.specs.Commitments.{Contents, commitment_of}
 use Rattle.commit.specs.Building.{refusal_of}
 use Rattle.commit.specs.Signing.{commitment_digest, htlc_digests}
 use Rattle.channel.specs.declared.commitments.CommitmentState.{CommitmentState}
-use Rattle.channel.specs.declared.messages.Tokens.{Tokens}
+use Rattle.updates.specs.declared.messages.Tokens.{Tokens}
 use Rattle.channel.specs.Points.{point_at}
 use Rattle.channel.specs.States.{first_of}
 

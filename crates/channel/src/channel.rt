@@ -2,7 +2,7 @@
 
 use crate::commitments::CommitmentState;
 use crate::limits::LAST_NUMBER;
-use crate::messages::{Message, Tokens};
+use crate::messages::Message;
 use crate::opening::{FIRST_INDEX, first_commitments, own_point, own_secret, with_opening_points};
 use crate::tokens::{peer_tokens, same_tokens, sign_tokens};
 use keys::{Key, Signer, point};
@@ -11,7 +11,7 @@ use sighash::Token;
 use std::alloc::{AllocError, Global};
 use std::marker::Model;
 use terms::{Side, Terms};
-use updates::{ChannelError, Ledger, OwnUpdate, Update};
+use updates::{ChannelError, Ledger, OwnUpdate, PeerStep, Revocation, Tokens, Update};
 
 /// One side of a channel: its updates, the numbers of both sides' commitments, the peer's points and secrets, and every commitment that was signed. A
 /// contract sees it as its `State`.
@@ -77,13 +77,15 @@ struct NextCommitment {
 }
 
 impl Channel {
-    ghost use Rattle.std.specs.Prelude.{◌≡◌, ◌↔◌, ℕ, List, ◌+◌, ◌^◌, ◌<◌, ◌≤◌, ◌||◌, nat_le, [], ◌∷◌, ◌++◌, false, true, None, length, slice_get, option_map, IfOk, IfErr, IfSome, IfNone, OnErr, MatchResult};
+    ghost use Rattle.std.specs.Prelude.{◌≡◌, ◌↔◌, ℕ, List, ◌+◌, ◌^◌, ◌<◌, ◌≤◌, ◌||◌, nat_le, [], ◌∷◌, ◌++◌, false, true, length, slice_get, option_map, IfOk, IfErr, IfSome, IfNone, OnErr};
     ghost use Rattle.std.specs.List.{cons_option};
     ghost use Rattle.updates.specs.declared.changes.Update.TheVariants.{Add, Fulfil, Fail, Fee};
     ghost use Rattle.updates.specs.declared.errors.ChannelError.TheVariants.{NoMemory};
-    ghost use Rattle.updates.specs.Refusals.{first_refusal, IsRefusal, OkUnless};
+    ghost use Rattle.terms.specs.Refusals.{OkUnless};
+    ghost use Rattle.updates.specs.Refusals.{first_refusal, IsRefusal};
     ghost use Rattle.updates.specs.Steady.{next_htlc};
-    ghost use Rattle.channel.specs.declared.messages.Message.TheVariants.{Updated, CommitmentSigned, RevokeAndAck};
+    ghost use Rattle.updates.specs.declared.messages.PeerStep.TheVariants.{Update as Updated, CommitmentSigned};
+    ghost use Rattle.channel.specs.declared.messages.Message.TheVariants.{Step, RevokeAndAck};
     ghost use Rattle.channel.specs.declared.limits.TheConstants.{LAST_NUMBER as last_number};
     ghost use Rattle.channel.specs.Points.{is_foreign};
     ghost use Rattle.channel.specs.Keeping.{CanOpen, HasBases, one_if};
@@ -112,10 +114,7 @@ impl Channel {
         ensures tested { OkUnless result
             (first_refusal (opening_tests terms side signer.seed token.now)) IsRefusal }
     {
-        let first = match first_commitments(alloc, terms, side, &signer, first_point, token) {
-            Ok(first) => first,
-            Err(refusal) => return Err(refusal),
-        };
+        let first = first_commitments(alloc, terms, side, &signer, first_point, token)?;
         let signer = with_opening_points(signer, &first_point, &next_point)?;
         Ok(Channel {
             ledger: Ledger::new(alloc, terms, side),
@@ -243,25 +242,25 @@ impl Channel {
         &self.signer
     }
 
-    /// Offers an HTLC of `amount` millisatoshis for the payment hash `hash`, which expires at the block height `expiry` (BOLT 2, `update_add_htlc`), and returns
+    /// Offers an HTLC of `amount_msat` millisatoshis for the payment hash `hash`, which expires at the block height `expiry_height` (BOLT 2, `update_add_htlc`), and returns
     /// the message. Checked in this order: AmountZero, BelowMinimum, ExpiryTooLarge, TooManyHtlcs, OverBalance. A refusal leaves the channel as it was.
     pub fn offer(
         &mut self,
-        amount: u64,
+        amount_msat: u64,
         hash: [u8; 32],
-        expiry: u32,
+        expiry_height: u32,
     ) -> Result<Message, ChannelError>
-        ensures message { IfOk result (λ m. m ≡ Updated
-            (Add (next_htlc self.old.held.own amount hash expiry))) }
+        ensures message { IfOk result (λ m. m ≡ Step (Updated
+            (Add (next_htlc self.old.held.own amount_msat hash expiry_height)))) }
         ensures ok { IfOk result (λ _. self.new ≡ after_update
-            (Add (next_htlc self.old.held.own amount hash expiry)) self.old) }
+            (Add (next_htlc self.old.held.own amount_msat hash expiry_height)) self.old) }
         ensures tested { OkUnless result
-            (update_refusal self.old (Add (next_htlc self.old.held.own amount hash expiry)))
+            (update_refusal self.old (Add (next_htlc self.old.held.own amount_msat hash expiry_height)))
             IsRefusal }
         ensures err { OnErr result (self.new ≡ self.old) }
     {
-        match self.ledger.offer(amount, hash, expiry) {
-            Ok(htlc) => Ok(Message::Updated(Update::Add(htlc))),
+        match self.ledger.offer(amount_msat, hash, expiry_height) {
+            Ok(htlc) => Ok(Message::Step(PeerStep::Update(Update::Add(htlc)))),
             Err(refusal) => Err(refusal),
         }
     }
@@ -269,40 +268,40 @@ impl Channel {
     /// Fulfils an HTLC of the peer (BOLT 2, `update_fulfill_htlc`), and returns the message. UnknownHtlc if the peer has no HTLC of this id that passed all
     /// stages and that nobody removed, else WrongPreimage if the preimage is not that of its hash. A refusal leaves the channel as it was.
     pub fn fulfil(&mut self, id: u64, preimage: [u8; 32]) -> Result<Message, ChannelError>
-        ensures message { IfOk result (λ m. m ≡ Updated (Fulfil id preimage)) }
+        ensures message { IfOk result (λ m. m ≡ Step (Updated (Fulfil id preimage))) }
         ensures ok { IfOk result (λ _. self.new ≡ after_update (Fulfil id preimage) self.old) }
         ensures tested { OkUnless result (update_refusal self.old (Fulfil id preimage)) IsRefusal }
         ensures err { OnErr result (self.new ≡ self.old) }
     {
         match self.ledger.fulfil(id, preimage) {
-            Ok(()) => Ok(Message::Updated(Update::Fulfil { id, preimage })),
+            Ok(()) => Ok(Message::Step(PeerStep::Update(Update::Fulfil { id, preimage }))),
             Err(refusal) => Err(refusal),
         }
     }
 
     /// Fails an HTLC of the peer (BOLT 2, `update_fail_htlc`), and returns the message: UnknownHtlc as for `fulfil`. A refusal leaves the channel as it was.
     pub fn fail(&mut self, id: u64) -> Result<Message, ChannelError>
-        ensures message { IfOk result (λ m. m ≡ Updated (Fail id)) }
+        ensures message { IfOk result (λ m. m ≡ Step (Updated (Fail id))) }
         ensures ok { IfOk result (λ _. self.new ≡ after_update (Fail id) self.old) }
         ensures tested { OkUnless result (update_refusal self.old (Fail id)) IsRefusal }
         ensures err { OnErr result (self.new ≡ self.old) }
     {
         match self.ledger.fail(id) {
-            Ok(()) => Ok(Message::Updated(Update::Fail { id })),
+            Ok(()) => Ok(Message::Step(PeerStep::Update(Update::Fail { id }))),
             Err(refusal) => Err(refusal),
         }
     }
 
     /// Changes the feerate, in satoshis per 1,000 weight units (BOLT 2, `update_fee`), and returns the message. NotOpener if this side did not open the channel.
     /// A refusal leaves the channel as it was.
-    pub fn set_fee(&mut self, rate: u32) -> Result<Message, ChannelError>
-        ensures message { IfOk result (λ m. m ≡ Updated (Fee rate)) }
-        ensures ok { IfOk result (λ _. self.new ≡ after_update (Fee rate) self.old) }
-        ensures tested { OkUnless result (update_refusal self.old (Fee rate)) IsRefusal }
+    pub fn set_fee(&mut self, feerate_per_kw: u32) -> Result<Message, ChannelError>
+        ensures message { IfOk result (λ m. m ≡ Step (Updated (Fee feerate_per_kw))) }
+        ensures ok { IfOk result (λ _. self.new ≡ after_update (Fee feerate_per_kw) self.old) }
+        ensures tested { OkUnless result (update_refusal self.old (Fee feerate_per_kw)) IsRefusal }
         ensures err { OnErr result (self.new ≡ self.old) }
     {
-        match self.ledger.set_fee(rate) {
-            Ok(()) => Ok(Message::Updated(Update::Fee { rate })),
+        match self.ledger.set_fee(feerate_per_kw) {
+            Ok(()) => Ok(Message::Step(PeerStep::Update(Update::Fee { feerate_per_kw }))),
             Err(refusal) => Err(refusal),
         }
     }
@@ -310,7 +309,7 @@ impl Channel {
     /// Makes an update, and returns the message: refused as by [`offer`](Channel::offer), [`fulfil`](Channel::fulfil), [`fail`](Channel::fail) and
     /// [`set_fee`](Channel::set_fee). A refusal leaves the channel as it was.
     pub fn make(&mut self, update: &OwnUpdate) -> Result<Message, ChannelError>
-        ensures message { IfOk result (λ m. m ≡ Updated (update_of self.old update.now)) }
+        ensures message { IfOk result (λ m. m ≡ Step (Updated (update_of self.old update.now))) }
         ensures ok { IfOk result (λ _. self.new ≡ after_update
             (update_of self.old update.now) self.old) }
         ensures tested { OkUnless result
@@ -319,13 +318,13 @@ impl Channel {
     {
         match update {
             OwnUpdate::Offer {
-                amount,
+                amount_msat,
                 hash,
-                expiry,
-            } => self.offer(*amount, *hash, *expiry),
+                expiry_height,
+            } => self.offer(*amount_msat, *hash, *expiry_height),
             OwnUpdate::Fulfil { id, preimage } => self.fulfil(*id, *preimage),
             OwnUpdate::Fail { id } => self.fail(*id),
-            OwnUpdate::SetFee { rate } => self.set_fee(*rate),
+            OwnUpdate::SetFee { feerate_per_kw } => self.set_fee(*feerate_per_kw),
         }
     }
 
@@ -375,8 +374,7 @@ impl Channel {
 
     // Whether this side may sign.
     fn check_sign(&self) -> Result<(), ChannelError>
-        ensures tested { MatchResult result (λ _. sign_refusal self.now ≡ None)
-            (IsRefusal (sign_refusal self.now)) }
+        ensures tested { OkUnless result (sign_refusal self.now) IsRefusal }
         ensures waits { IfOk result (λ _. self.now.awaiting ≡ false) }
         ensures below { IfOk result (λ _. self.now.peer_number < last_number) }
     {
@@ -396,8 +394,7 @@ impl Channel {
         ensures built { IfOk result (λ c. IsBuilt self.now.held.terms c) }
         ensures sound { IfOk result (λ _. IsSoundIn self.now.held self.now.held.own.known
             self.now.held.theirs.past_receiver) }
-        ensures tested { MatchResult result (λ _. sign_refusal self.now ≡ None)
-            (IsRefusal (sign_refusal self.now)) }
+        ensures tested { OkUnless result (sign_refusal self.now) IsRefusal }
     {
         match self.check_sign() {
             Ok(()) => self.peers_next(),
@@ -410,14 +407,10 @@ impl Channel {
     pub fn signed(&mut self) -> Result<Message, ChannelError>
         ensures message { IfOk result (λ m. m ≡ signature_message tokens_of self.old) }
         ensures ok { IfOk result (λ _. self.new ≡ after_sign self.old) }
-        ensures tested { MatchResult result (λ _. sign_refusal self.old ≡ None)
-            (IsRefusal (sign_refusal self.old)) }
+        ensures tested { OkUnless result (sign_refusal self.old) IsRefusal }
         ensures err { OnErr result (self.new ≡ self.old) }
     {
-        match self.check_sign() {
-            Ok(()) => {}
-            Err(refusal) => return Err(refusal),
-        }
+        self.check_sign()?;
         let next = match self.peers_next() {
             Ok(next) => next,
             Err(_) => return Err(ChannelError::NoMemory),
@@ -433,7 +426,7 @@ impl Channel {
         }
         self.ledger.sign();
         self.awaiting = true;
-        Ok(Message::CommitmentSigned(tokens))
+        Ok(Message::Step(PeerStep::CommitmentSigned(tokens)))
     }
 
     // The peer's secrets with one more, if it is of their seed.
@@ -456,7 +449,7 @@ impl Channel {
         ensures kept { IfOk result (λ n. n.tokens
             ≡ tokens_of self.now.held.terms (own_next self.now)) }
         ensures tested { OkUnless result
-            (receive_refusal tokens_of self.now (CommitmentSigned tokens.now)) IsRefusal }
+            (receive_refusal tokens_of self.now (Step (CommitmentSigned tokens.now))) IsRefusal }
         ensures sound { IfOk result (λ _. IsSoundIn self.now.held self.now.held.own.past_receiver
             self.now.held.theirs.known) }
         ensures below { IfOk result (λ _. self.now.number < last_number) }
@@ -486,18 +479,16 @@ impl Channel {
     }
 
     // Receives a signature, and returns the revocation that answers it.
-    fn receive_signature(&mut self, tokens: &Tokens) -> Result<Message, ChannelError>
-        ensures answer { IfOk result (λ m. m ∷ [] ≡ answers self.old
-            (CommitmentSigned tokens.now)) }
-        ensures ok { IfOk result (λ _. self.new ≡ after self.old (CommitmentSigned tokens.now)) }
+    fn receive_signature(&mut self, tokens: &Tokens) -> Result<Revocation, ChannelError>
+        ensures answer { IfOk result (λ r. RevokeAndAck r ∷ [] ≡ answers self.old
+            (Step (CommitmentSigned tokens.now))) }
+        ensures ok { IfOk result (λ _. self.new ≡ after self.old
+            (Step (CommitmentSigned tokens.now))) }
         ensures tested { OkUnless result
-            (receive_refusal tokens_of self.old (CommitmentSigned tokens.now)) IsRefusal }
+            (receive_refusal tokens_of self.old (Step (CommitmentSigned tokens.now))) IsRefusal }
         ensures err { OnErr result (self.new ≡ self.old) }
     {
-        let next = match self.check_signature(tokens) {
-            Ok(next) => next,
-            Err(refusal) => return Err(refusal),
-        };
+        let next = self.check_signature(tokens)?;
         match self.mine.reserve(1) {
             Ok(()) => {}
             Err(_) => return Err(ChannelError::NoMemory),
@@ -516,31 +507,30 @@ impl Channel {
         self.tokens.push(next.tokens).unwrap();
         self.ledger.receive_signature();
         self.number += 1;
-        Ok(Message::RevokeAndAck { secret, next_point })
+        Ok(Revocation { secret, next_point })
     }
 
-    // Receives a revocation.
-    fn receive_revocation(
-        &mut self,
-        secret: &[u8; 32],
-        next_point: &Key,
-    ) -> Result<(), ChannelError>
-        ensures ok { IfOk result (λ _. self.new ≡ after self.old
-            (RevokeAndAck secret.now next_point.now)) }
+    /// Receives a `revoke_and_ack` (BOLT 2). NotYourTurn where no signature awaits one; else WrongSecret where the secret is not the one of its point, or is not
+    /// of the seed of those before. A refusal leaves the channel as it was. What [`receive`](Channel::receive) says of storing holds of it too.
+    pub fn receive_revocation(&mut self, revocation: &Revocation) -> Result<(), ChannelError>
+        ensures ok { IfOk result (λ _. self.new ≡ after self.old (RevokeAndAck revocation.now)) }
         ensures tested { OkUnless result
-            (receive_refusal tokens_of self.old (RevokeAndAck secret.now next_point.now)) IsRefusal }
+            (receive_refusal tokens_of self.old (RevokeAndAck revocation.now)) IsRefusal }
         ensures err { OnErr result (self.new ≡ self.old) }
     {
         if !self.awaiting {
             return Err(ChannelError::NotYourTurn);
         }
-        if point(secret).bytes != self.point.bytes {
+        if point(&revocation.secret).bytes != self.point.bytes {
             return Err(ChannelError::WrongSecret);
         }
-        let Some(secrets) = self.with_secret(secret) else {
+        let Some(secrets) = self.with_secret(&revocation.secret) else {
             return Err(ChannelError::WrongSecret);
         };
-        match self.signer.learn_revocation(secret, next_point) {
+        match self
+            .signer
+            .learn_revocation(&revocation.secret, &revocation.next_point)
+        {
             Ok(()) => {}
             Err(_) => return Err(ChannelError::NoMemory),
         }
@@ -549,8 +539,29 @@ impl Channel {
         self.awaiting = false;
         self.peer_number += 1;
         self.point = self.next_point;
-        self.next_point = *next_point;
+        self.next_point = revocation.next_point;
         Ok(())
+    }
+
+    /// Receives a message of the peer other than a `revoke_and_ack`, and returns the answer, as [`receive`](Channel::receive) does: what is said there of
+    /// storing, of feerates and of reserves holds of it too.
+    pub fn receive_step(&mut self, step: &PeerStep) -> Result<Option<Message>, ChannelError>
+        ensures answer { IfOk result (λ m. cons_option m [] ≡ answers self.old (Step step.now)) }
+        ensures ok { IfOk result (λ _. self.new ≡ after self.old (Step step.now)) }
+        ensures tested { OkUnless result
+            (receive_refusal tokens_of self.old (Step step.now)) IsRefusal }
+        ensures err { OnErr result (self.new ≡ self.old) }
+    {
+        match step {
+            PeerStep::Update(update) => match self.ledger.receive_update(update) {
+                Ok(()) => Ok(None),
+                Err(refusal) => Err(refusal),
+            },
+            PeerStep::CommitmentSigned(tokens) => match self.receive_signature(tokens) {
+                Ok(revocation) => Ok(Some(Message::RevokeAndAck(revocation))),
+                Err(refusal) => Err(refusal),
+            },
+        }
     }
 
     /// Receives a message of the peer, and returns the answer: a `commitment_signed` is answered by a `revoke_and_ack`. An update is checked as one of one's own
@@ -569,20 +580,11 @@ impl Channel {
         ensures err { OnErr result (self.new ≡ self.old) }
     {
         match message {
-            Message::Updated(update) => match self.ledger.receive_update(update) {
+            Message::Step(step) => self.receive_step(step),
+            Message::RevokeAndAck(revocation) => match self.receive_revocation(revocation) {
                 Ok(()) => Ok(None),
                 Err(refusal) => Err(refusal),
             },
-            Message::CommitmentSigned(tokens) => match self.receive_signature(tokens) {
-                Ok(answer) => Ok(Some(answer)),
-                Err(refusal) => Err(refusal),
-            },
-            Message::RevokeAndAck { secret, next_point } => {
-                match self.receive_revocation(secret, next_point) {
-                    Ok(()) => Ok(None),
-                    Err(refusal) => Err(refusal),
-                }
-            }
         }
     }
 }

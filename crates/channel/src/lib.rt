@@ -10,9 +10,9 @@
 //! call of the channel, `side` turns it into that call, and `world` delivers it to the peer.
 //!
 //! ```rust
-//! /// Offers an HTLC of `amount` millisatoshis, and signs the peer's commitment with it. Both messages are to be sent, the offer first.
-//! fn offer_and_sign(channel: &mut Channel, amount: u64, hash: [u8; 32], expiry: u32) -> Result<(Message, Message), ChannelError> {
-//!     let offer = channel.offer(amount, hash, expiry)?;
+//! /// Offers an HTLC of `amount_msat` millisatoshis, and signs the peer's commitment with it. Both messages are to be sent, the offer first.
+//! fn offer_and_sign(channel: &mut Channel, amount_msat: u64, hash: [u8; 32], expiry_height: u32) -> Result<(Message, Message), ChannelError> {
+//!     let offer = channel.offer(amount_msat, hash, expiry_height)?;
 //!     let signature = channel.signed()?;
 //!     Ok((offer, signature))
 //! }
@@ -34,7 +34,7 @@ mod tokens;
 pub use channel::Channel;
 pub use commitments::CommitmentState;
 pub use limits::LAST_NUMBER;
-pub use messages::{Message, Tokens};
+pub use messages::Message;
 pub use opening::{OpeningPoints, opening_points, opening_token};
 pub use pair::Pair;
 pub use plays::{Action, Outcome, PairStep};

@@ -6,21 +6,21 @@ ghost use Rattle.updates.specs.declared.errors.ChannelError.TheVariants.{NoMemor
 ghost use Rattle.terms.specs.Sides.{other};
 ghost use Rattle.channel.specs.Points.{secret_at, point_at};
 ghost use Rattle.channel.specs.States.{first_of};
-ghost use Rattle.updates.specs.Refusals.{first_refusal, IsRefusal, OkUnless};
+ghost use Rattle.terms.specs.Refusals.{OkUnless};
+ghost use Rattle.updates.specs.Refusals.{first_refusal, IsRefusal};
 ghost use Rattle.channel.specs.Tokens.{peer_tokens, opening_tests, IsBuilt};
 ghost use Rattle.terms.specs.Agreement.{party};
 ghost use Rattle.keys.specs.declared.bases.Base.TheVariants.{Funding};
 ghost use Rattle.keys.specs.Derivation.{base_key};
 
 use crate::commitments::CommitmentState;
-use crate::messages::Tokens;
 use crate::tokens::{peer_tokens, sign_commitment};
 use keys::{Key, Signer, point};
 use secrets::from_seed;
 use sighash::Token;
 use std::alloc::{AllocError, Global};
 use terms::{Side, Terms};
-use updates::{ChannelError, Ledger};
+use updates::{ChannelError, Ledger, Tokens};
 
 // The index of the secret of commitment number 0.
 pub(crate) const FIRST_INDEX: u64 = 281_474_976_710_655;
@@ -205,10 +205,7 @@ fn first_of_own(
         Ok(first) => first,
         Err(_) => return Err(ChannelError::NoMemory),
     };
-    let tokens = match tokens_by_peer(alloc, &terms, &first, token) {
-        Ok(tokens) => tokens,
-        Err(refusal) => return Err(refusal),
-    };
+    let tokens = tokens_by_peer(alloc, &terms, &first, token)?;
     let tokens = tokens_alone(alloc, tokens)?;
     let mine = alone(alloc, first)?;
     Ok(OwnFirst { mine, tokens })
@@ -246,10 +243,7 @@ pub(crate) fn first_commitments(
     ensures tested { OkUnless result
         (first_refusal (opening_tests terms side signer.now.seed token.now)) IsRefusal }
 {
-    let own = match first_of_own(alloc, terms, side, signer, token) {
-        Ok(own) => own,
-        Err(refusal) => return Err(refusal),
-    };
+    let own = first_of_own(alloc, terms, side, signer, token)?;
     let signed = first_of_peer(alloc, terms, side.other(), peers)?;
     Ok(FirstCommitments { own, signed })
 }

@@ -9,14 +9,13 @@ ghost use Rattle.channel.specs.States.{all_eq, same_tokens};
 ghost use Rattle.channel.specs.Tokens.{contents_of, funding_key, htlc_key, peer_tokens, IsBuilt};
 
 use crate::commitments::CommitmentState;
-use crate::messages::Tokens;
 use commit::{BuildError, Commitment, Digests, build, signing_digests};
 use keys::{Key, Signer};
 use lists::List;
 use sighash::Token;
 use std::alloc::{AllocError, Global};
 use terms::Terms;
-use updates::ChannelError;
+use updates::{ChannelError, Tokens};
 
 // What the owner's peer signs, and its keys for it.
 #[derive(Drop)]

@@ -74,7 +74,7 @@ fn open_side(
 
 /// The sides of a new channel that A opened, by its capacity in satoshis and the millisatoshis that A and B have at the start. Its other terms are common
 /// ones. The dust limits are 546 satoshis, the delays 144 blocks, the least HTLC 1,000 millisatoshis, and the feerate 1,000 satoshis per 1,000 weight units.
-pub fn open_sides(alloc: Global, capacity: u64, starts: [u64; 2]) -> Result<Sides>
+pub fn open_sides(alloc: Global, capacity_sat: u64, starts_msat: [u64; 2]) -> Result<Sides>
     ensures { IfOk result (λ s. AreOpened s.a s.b) }
 {
     let (a, b) = (Signer::new(alloc, &SEED_A), Signer::new(alloc, &SEED_B));
@@ -84,9 +84,9 @@ pub fn open_sides(alloc: Global, capacity: u64, starts: [u64; 2]) -> Result<Side
     };
     let terms = terms_of(
         funding,
-        capacity,
-        party(&a, starts[0]),
-        party(&b, starts[1]),
+        capacity_sat,
+        party(&a, starts_msat[0]),
+        party(&b, starts_msat[1]),
     )?;
     Ok(Sides {
         terms,

@@ -15,9 +15,9 @@ use tx::txid;
 
 const HTLCS: [Htlc; 480] = [Htlc {
     id: 0,
-    amount: 2_000_000,
+    amount_msat: 2_000_000,
     hash: [9; 32],
-    expiry: 500,
+    expiry_height: 500,
 }; 480];
 
 // Whether these are the amounts of B's commitment with `count` HTLCs that A offered, and twelve times as many of B.
@@ -41,8 +41,10 @@ fn has_amounts(rt: &impl Abort, alloc: Global, terms: &Terms, view: &View, count
 fn count_has_amounts(rt: &impl Abort, alloc: Global, terms: &Terms, count: usize) -> bool
     requires { count ≤ 40 }
 {
-    let balances = [4_000_000_000, 3_000_000_000];
-    let view = view(alloc, balances, &HTLCS[..count], &HTLCS[..12 * count]).expect(rt, "memory");
+    let balances_msat = [4_000_000_000, 3_000_000_000];
+    let view = view(alloc, balances_msat, &HTLCS[..count], &HTLCS[..12 * count]).expect(
+        rt, "memory",
+    );
     has_amounts(rt, alloc, terms, &view, count)
 }
 
@@ -74,7 +76,7 @@ fn bases(rt: &impl Abort, fills: [u8; 5]) -> BaseKeys {
 fn unlike_terms(rt: &impl Abort) -> Terms {
     let a = party_with(bases(rt, [0xa0, 0xa1, 0xa2, 0xa3, 0xa4]), 80_000_000);
     let b = Party {
-        delay: 40_000,
+        delay_blocks: 40_000,
         ..party_with(bases(rt, [0xb0, 0xb1, 0xb2, 0xb3, 0xb4]), 20_000_000)
     };
     terms_of(FUNDING, 100_000, a, b).expect(rt, "terms")
@@ -84,29 +86,29 @@ fn unlike_terms(rt: &impl Abort) -> Terms {
 const OF_A: [Htlc; 3] = [
     Htlc {
         id: 0,
-        amount: 10_000_000,
+        amount_msat: 10_000_000,
         hash: [9; 32],
-        expiry: 600,
+        expiry_height: 600,
     },
     Htlc {
         id: 1,
-        amount: 10_000_000,
+        amount_msat: 10_000_000,
         hash: [9; 32],
-        expiry: 500,
+        expiry_height: 500,
     },
     Htlc {
         id: 2,
-        amount: 3_000_000,
+        amount_msat: 3_000_000,
         hash: [8; 32],
-        expiry: 400_000,
+        expiry_height: 400_000,
     },
 ];
 
 const OF_B: [Htlc; 1] = [Htlc {
     id: 0,
-    amount: 7_000_000,
+    amount_msat: 7_000_000,
     hash: [5; 32],
-    expiry: 16,
+    expiry_height: 16,
 }];
 
 // A offers the first two HTLCs, and all three where B offers one too.
@@ -131,7 +133,7 @@ fn output(commitment: &Commitment, index: usize) -> (u64, u32) {
         Some(output) => match &output.kind {
             OutputKind::ToLocal => (output.value, 1),
             OutputKind::ToRemote => (output.value, 2),
-            OutputKind::ToHtlc(_, htlc) => (output.value, htlc.expiry),
+            OutputKind::ToHtlc(_, htlc) => (output.value, htlc.expiry_height),
         },
     }
 }

@@ -12,8 +12,8 @@ pub fn key(rt: &impl Abort, fill: u8) -> Key {
 }
 
 /// A side with one key for all its base keys.
-pub fn one_key_party(rt: &impl Abort, start: u64) -> Party {
-    party_with(one_key(key(rt, 2)), start)
+pub fn one_key_party(rt: &impl Abort, start_msat: u64) -> Party {
+    party_with(one_key(key(rt, 2)), start_msat)
 }
 
 /// Whether a hexadecimal text spells this hash.

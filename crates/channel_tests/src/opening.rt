@@ -62,11 +62,11 @@ pub fn opened(rt: &impl Abort, alloc: Global, side: Side) -> Channel {
 /// The example of the page of `channel`.
 fn offer_and_sign(
     channel: &mut Channel,
-    amount: u64,
+    amount_msat: u64,
     hash: [u8; 32],
-    expiry: u32,
+    expiry_height: u32,
 ) -> Result<(Message, Message), ChannelError> {
-    let offer = channel.offer(amount, hash, expiry)?;
+    let offer = channel.offer(amount_msat, hash, expiry_height)?;
     let signature = channel.signed()?;
     Ok((offer, signature))
 }

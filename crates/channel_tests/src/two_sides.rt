@@ -1,11 +1,11 @@
 //! The calls of a channel on their happy path, with memory to spare. Their contracts say what each refuses.
 
 use crate::opening::{deliver, offered, open, opened};
-use channel::{Channel, Message, Tokens, opening_points};
+use channel::{Channel, Message, opening_points};
 use keys::{Base, Key, Signer, point, revocation};
 use std::process::Abort;
 use terms::Side;
-use updates::{ChannelError, OwnUpdate};
+use updates::{ChannelError, OwnUpdate, PeerStep, Tokens};
 
 // A new channel needs the peer's token on its commitment 0.
 #[test]
@@ -17,7 +17,7 @@ fn opens_with_the_peers_token(rt: HostRuntime) {
 // The number of tokens on HTLC transactions in a message, if it is a `commitment_signed`.
 fn htlc_tokens(message: &Message) -> Option<usize> {
     match message {
-        Message::CommitmentSigned(tokens) => Some(tokens.htlcs.values().len()),
+        Message::Step(PeerStep::CommitmentSigned(tokens)) => Some(tokens.htlcs.values().len()),
         _ => None,
     }
 }
@@ -33,7 +33,11 @@ fn is_refused(call: Result<Message, ChannelError>, wanted: ChannelError) -> bool
 // The number, the feerate and A's balance of the commitment that a side signs next.
 fn next(rt: &impl Abort, channel: &Channel) -> (u64, u32, u64) {
     let next = channel.ready().expect(rt, "a commitment");
-    (next.number, next.view.feerate, next.view.a.balance)
+    (
+        next.number,
+        next.view.feerate_per_kw,
+        next.view.a.balance_msat,
+    )
 }
 
 // The one token on an HTLC transaction with which a side signs.
@@ -56,12 +60,14 @@ fn offers_and_signs(rt: HostRuntime) {
     assert!(rt; is_refused(channel.signed(), ChannelError::NotYourTurn));
 }
 
-const FEE: OwnUpdate = OwnUpdate::SetFee { rate: 2000 };
+const FEE: OwnUpdate = OwnUpdate::SetFee {
+    feerate_per_kw: 2000,
+};
 
 const OFFER: OwnUpdate = OwnUpdate::Offer {
-    amount: 1000,
+    amount_msat: 1000,
     hash: [9; 32],
-    expiry: 500,
+    expiry_height: 500,
 };
 
 // An own update is the same as the call of its kind.
@@ -84,7 +90,7 @@ fn makes_its_own_updates(rt: HostRuntime) {
 // Whether these are the tokens of a message.
 fn has_tokens(message: &Message, tokens: &Tokens) -> bool {
     match message {
-        Message::CommitmentSigned(sent) => {
+        Message::Step(PeerStep::CommitmentSigned(sent)) => {
             sent.commitment == tokens.commitment && sent.htlcs.values() == tokens.htlcs.values()
         }
         _ => false,

@@ -26,10 +26,11 @@ pub enum Slot {
     Exact(WitnessItem),
 }
 
-/// The outpoint of the claimed output, its value in satoshis, and its program.
+/// The claimed output: its outpoint, value and program.
 #[derive(Debug, Drop)]
 pub struct Place {
     pub outpoint: OutPoint,
+    /// In satoshis.
     pub value: u64,
     pub program: ByteString,
 }

@@ -26,11 +26,11 @@ fn are_built(alloc: Global, patterns: &Patterns, keys: &HtlcKeys) -> bool {
 }
 
 // Whether the scripts with a number are built.
-fn are_numbered(alloc: Global, patterns: &Patterns, keys: &HtlcKeys, delay: u16) -> bool {
-    let Some(expiry) = Expiry::new(u32::from(delay) * 7629) else {
+fn are_numbered(alloc: Global, patterns: &Patterns, keys: &HtlcKeys, delay_blocks: u16) -> bool {
+    let Some(expiry) = Expiry::new(u32::from(delay_blocks) * 7629) else {
         return false;
     };
-    is_built(to_local(alloc, patterns, &keys.revocation, delay, &keys.local))
+    is_built(to_local(alloc, patterns, &keys.revocation, delay_blocks, &keys.local))
         && is_built(received(alloc, patterns, keys, &[7; 32], expiry))
 }
 
@@ -39,8 +39,11 @@ const DELAYS: [u16; 12] = [0, 1, 16, 17, 127, 128, 255, 256, 32767, 32768, 40000
 // No delay and no expiry is refused while memory lasts.
 fn builds_every_shape(rt: &impl Abort, alloc: Global, patterns: &Patterns, keys: &HtlcKeys) {
     assert!(rt; are_built(alloc, patterns, keys));
-    for delay in &DELAYS {
-        assert!(rt; are_numbered(alloc, patterns, keys, *delay), "{delay}");
+    for delay_blocks in &DELAYS {
+        assert!(rt;
+            are_numbered(alloc, patterns, keys, *delay_blocks),
+            "{delay_blocks}"
+        );
     }
 }
 

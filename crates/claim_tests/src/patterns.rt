@@ -79,10 +79,10 @@ const DELAYS: [(u32, &[u8], u16); 5] = [
 ];
 
 // The script of to_local with this delay.
-fn filled(rt: &impl Abort, alloc: Global, pattern: &CheckedPattern, delay: u32) -> Checked {
+fn filled(rt: &impl Abort, alloc: Global, pattern: &CheckedPattern, delay_blocks: u32) -> Checked {
     let fills = [
         Fill::Key(key_bytes(0x11)),
-        Fill::Num(delay),
+        Fill::Num(delay_blocks),
         Fill::Key(key_bytes(0x22)),
     ];
     pattern.instance(alloc, &fills).expect(rt, "an instance")
@@ -117,9 +117,12 @@ fn is_to_local(rt: &impl Abort, alloc: Global, filled: &Checked, delay: &[u8], a
 }
 
 fn fills_delays(rt: &impl Abort, alloc: Global, pattern: &CheckedPattern) {
-    for (delay, spelt, age) in &DELAYS {
-        let filled = filled(rt, alloc, pattern, *delay);
-        assert!(rt; is_to_local(rt, alloc, &filled, spelt, *age), "{delay}");
+    for (delay_blocks, spelt, age) in &DELAYS {
+        let filled = filled(rt, alloc, pattern, *delay_blocks);
+        assert!(rt;
+            is_to_local(rt, alloc, &filled, spelt, *age),
+            "{delay_blocks}"
+        );
     }
 }
 

@@ -1,7 +1,7 @@
 // A claim that is tried: its path, its slots, its place and the transaction round it.
 
 use crate::cases::{Case, Claimed, Slip};
-use crate::funded::{EXPIRY, PREIMAGE, VALUE, grant, program_of};
+use crate::funded::{EXPIRY_HEIGHT, PREIMAGE, VALUE, grant, program_of};
 use crate::parties::Parties;
 use crate::shapes::exact;
 use chain::Chain;
@@ -58,7 +58,7 @@ fn fixed(alloc: Global, outpoint: OutPoint, lock_time: u32, value: u64) -> Optio
 fn shell(alloc: Global, case: &Case, outpoint: OutPoint) -> Option<Shell> {
     let lock_time = match (case.claimed, case.slip) {
         (_, Slip::TimeLock) => 500_000_000,
-        (Claimed::HtlcTimeout, _) => EXPIRY,
+        (Claimed::HtlcTimeout, _) => EXPIRY_HEIGHT,
         (Claimed::HtlcSuccess | Claimed::Funding, _) => 0,
         _ => return Some(Shell::Open),
     };

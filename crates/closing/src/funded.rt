@@ -19,9 +19,9 @@ pub const VALUE: u64 = 100_000;
 /// to_local in blocks.
 pub const PREIMAGE: [u8; 32] = [5; 32];
 
-pub const EXPIRY: u32 = 500;
+pub const EXPIRY_HEIGHT: u32 = 500;
 
-const DELAY: u16 = 144;
+const DELAY_BLOCKS: u16 = 144;
 
 /// The script of the claimed output.
 pub fn script_of(
@@ -30,12 +30,18 @@ pub fn script_of(
     claimed: Claimed,
 ) -> Result<Checked, AllocError> {
     let (patterns, keys) = (&parties.patterns, parties.htlc_keys());
-    let Some(expiry) = Expiry::new(EXPIRY) else {
+    let Some(expiry) = Expiry::new(EXPIRY_HEIGHT) else {
         return Err(AllocError);
     };
     match claimed {
         Claimed::Penalty | Claimed::Delayed => {
-            to_local(alloc, patterns, &keys.revocation, DELAY, &parties.delayed())
+            to_local(
+                alloc,
+                patterns,
+                &keys.revocation,
+                DELAY_BLOCKS,
+                &parties.delayed(),
+            )
         }
         Claimed::OfferedPenalty | Claimed::DirectPreimage | Claimed::HtlcTimeout => {
             offered(alloc, patterns, &keys, &sha256(&PREIMAGE))

@@ -17,29 +17,29 @@ use Rattle.commit.specs.Commitments.{Contents, commitment_of, htlcs_from, htlc_t
 -- the terms of these examples: A opened the channel
 module _ (funding : OutPoint) (bases : BaseKeys) where
   abbrev side : ℕ → ℕ → Party
-  side dust start = record { dust = dust; delay = 144; minimum = 0; start = start; bases = bases }
+  side dust_sat start_msat = record { dust_sat = dust_sat; delay_blocks = 144; minimum_msat = 0; start_msat = start_msat; bases = bases }
 
   -- of a capacity that is A's at the start, and the dust limits of A and B
   abbrev opened_by_a : ℕ → ℕ → Terms
-  opened_by_a dust-a dust-b = record { funding = funding; capacity = 10000000; opener = A; feerate = 1000; a = side dust-a 10000000000; b = side dust-b 0; limited = lit≤ tt; whole = refl; short_a = lit< tt; short_b = lit< tt }
+  opened_by_a dust-a dust-b = record { funding = funding; capacity_sat = 10000000; opener = A; feerate_per_kw = 1000; a = side dust-a 10000000000; b = side dust-b 0; limited = lit≤ tt; whole = refl; short_a = lit< tt; short_b = lit< tt }
 
   abbrev of_amount : ℕ → Htlc
-  of_amount amount = record { id = 0; amount = amount; hash = []; expiry = 500 }
+  of_amount amount_msat = record { id = 0; amount_msat = amount_msat; hash = []; expiry_height = 500 }
 
   abbrev view : ℕ → ℕ → List ℕ → ℕ → List ℕ → View
-  view feerate balance-a from-a balance-b from-b = record {
-    a = record { balance = balance-a; offered = map of_amount from-a };
-    b = record { balance = balance-b; offered = map of_amount from-b };
-    feerate = feerate;
+  view feerate_per_kw balance-a from-a balance-b from-b = record {
+    a = record { balance_msat = balance-a; offered = map of_amount from-a };
+    b = record { balance_msat = balance-b; offered = map of_amount from-b };
+    feerate_per_kw = feerate_per_kw;
   }
 
   -- the amounts, with only the millisatoshis of the HTLCs
   abbrev summary : Terms → View → Side → List ℕ × List ℕ × ℕ × Option ℕ × Option ℕ
-  summary terms view owner = let a = amounts_of terms view owner in (map (λ h. h.amount) a.offered, map (λ h. h.amount) a.received, a.fee, a.to_local, a.to_remote)
+  summary terms view owner = let a = amounts_of terms view owner in (map (λ h. h.amount_msat) a.offered, map (λ h. h.amount_msat) a.received, a.fee, a.to_local, a.to_remote)
 
   -- the five HTLCs of appendix C, at each of its feerates
   abbrev appendix : ℕ → List ℕ × List ℕ × ℕ × Option ℕ × Option ℕ
-  appendix feerate = summary (opened_by_a 546 546) (view feerate 6988000000 (2000000 ∷ 3000000 ∷ []) 3000000000 (1000000 ∷ 2000000 ∷ 4000000 ∷ [])) A
+  appendix feerate_per_kw = summary (opened_by_a 546 546) (view feerate_per_kw 6988000000 (2000000 ∷ 3000000 ∷ []) 3000000000 (1000000 ∷ 2000000 ∷ 4000000 ∷ [])) A
 
   appendix_amounts : map appendix (0 ∷ 647 ∷ 648 ∷ 2069 ∷ 2070 ∷ 2194 ∷ 2195 ∷ 3702 ∷ 3703 ∷ 4914 ∷ 4915 ∷ 9651180 ∷ 9651181 ∷ 9651936 ∷ [])
       ≡ (2000000 ∷ 3000000 ∷ [], 1000000 ∷ 2000000 ∷ 4000000 ∷ [], 0, Some 6988000, Some 3000000)
@@ -90,7 +90,7 @@ module _ (funding : OutPoint) (bases : BaseKeys) where
 
   -- the terms say 1,000 satoshis for 1,000 units of weight, and the view another feerate, at which A offers an HTLC and receives one
   abbrev at_feerate : ℕ → List ℕ → Contents
-  at_feerate feerate point = commitment_of (opened_by_a 546 546) (view feerate 6000000000 (10000000 ∷ []) 3000000000 (12000000 ∷ [])) A 1 point
+  at_feerate feerate_per_kw point = commitment_of (opened_by_a 546 546) (view feerate_per_kw 6000000000 (10000000 ∷ []) 3000000000 (12000000 ∷ [])) A 1 point
 
   abbrev values : Option Transaction → List ℕ
   values None = []

@@ -1,5 +1,5 @@
 -- What holds of each output of a commitment.
-use Rattle.std.proofs.Common.{◌≡◌, ℕ, ◌≤◌, ◌^◌, Bool, true, false, cond, leb, ltb, List, [], ◌∷◌, ◌++◌, map, length, Option, Some, None, refl, sym, ap, ◌∙◌, arith}
+use Rattle.std.proofs.Common.{◌≡◌, ℕ, ◌≤◌, Bool, true, false, cond, ltb, List, [], ◌∷◌, map, length, Option, Some, None, refl, arith}
 use Rattle.std.specs.List.{All, list_any}
 use Rattle.std.specs.Prelude.{◌||◌}
 use Rattle.std.proofs.lemmas.Bool.{ltb-false, true≢false}
@@ -14,15 +14,13 @@ use Rattle.terms.specs.declared.htlcs.Htlc.{Htlc}
 use Rattle.commit.specs.declared.fees.Direction.{Direction}
 use Rattle.commit.specs.declared.fees.Direction.TheVariants.{Offered, Received}
 use Rattle.commit.specs.declared.amounts.Amounts.{Amounts}
-use Rattle.commit.specs.declared.outputs.OutputKind.{OutputKind}
-use Rattle.commit.specs.declared.outputs.OutputKind.TheVariants.{ToLocal, ToRemote, ToHtlc}
 use Rattle.commit.specs.declared.outputs.CommitmentOutput.{CommitmentOutput}
 use Rattle.commit.specs.declared.errors.BuildError.TheVariants.{TooManyOutputs, ValueTooLarge}
 use Rattle.commit.specs.Keys.{KeyBytes}
 use Rattle.sighash.specs.Programs.{script_hash_program, key_hash_program}
 use Rattle.commit.specs.Outputs.{to_local_script, htlc_script, to_local_output, to_remote_output, htlc_output, where_paid, outputs_of}
 use Rattle.commit.specs.Order.{in_order}
-use Rattle.commit.specs.Commitments.{IsHtlcOf, IsTxOutput, IsOutputOf}
+use Rattle.commit.specs.Commitments.{IsHtlcOf, IsOutputOf}
 use Rattle.commit.specs.Building.{refusal_of}
 use Rattle.commit.proofs.Ordered.{there_is_one}
 
@@ -45,24 +43,24 @@ of_htlcs : (k : KeyBytes) (direction : Direction) (hs : List Htlc) → All (IsCo
 of_htlcs k direction [] = All-nil (IsCollected k)
 of_htlcs k direction (h ∷ hs) = All-cons (IsCollected k) _ _ (of_htlc k direction h) (of_htlcs k direction hs)
 
-of_to_local : (delay : ℕ) (k : KeyBytes) (value : Option ℕ) → All (IsCollected k) (where_paid (to_local_output delay k) value)
-of_to_local delay k None = All-nil (IsCollected k)
-of_to_local delay k (Some value) = All-cons (IsCollected k) (to_local_output delay k value) [] (record { program = short_script_program (to_local_script delay k); htlc = tt }) (All-nil (IsCollected k))
+of_to_local : (delay_blocks : ℕ) (k : KeyBytes) (value : Option ℕ) → All (IsCollected k) (where_paid (to_local_output delay_blocks k) value)
+of_to_local delay_blocks k None = All-nil (IsCollected k)
+of_to_local delay_blocks k (Some value) = All-cons (IsCollected k) (to_local_output delay_blocks k value) [] (record { program = short_script_program (to_local_script delay_blocks k); htlc = tt }) (All-nil (IsCollected k))
 
 of_to_remote : (k : KeyBytes) (value : Option ℕ) → All (IsCollected k) (where_paid (to_remote_output k) value)
 of_to_remote k None = All-nil (IsCollected k)
 of_to_remote k (Some value) = All-cons (IsCollected k) (to_remote_output k value) [] (record { program = short_key_program k.remote; htlc = tt }) (All-nil (IsCollected k))
 
-all_collected : (delay : ℕ) (k : KeyBytes) (a : Amounts) → All (IsCollected k) (outputs_of delay k a)
+all_collected : (delay_blocks : ℕ) (k : KeyBytes) (a : Amounts) → All (IsCollected k) (outputs_of delay_blocks k a)
 unfolding outputs_of
-all_collected delay k a =
+all_collected delay_blocks k a =
     All-append (IsCollected k) _ _
     (All-append (IsCollected k) _ _
     (All-append (IsCollected k) _ _ (of_htlcs k Offered a.offered) (of_htlcs k Received a.received))
-    (of_to_local delay k a.to_local)) (of_to_remote k a.to_remote)
+    (of_to_local delay_blocks k a.to_local)) (of_to_remote k a.to_remote)
 
-in_order_too : (delay : ℕ) (k : KeyBytes) (a : Amounts) → All (IsCollected k) (in_order (outputs_of delay k a))
-in_order_too delay k a = All-permutation (IsCollected k) _ _ (there_is_one (outputs_of delay k a)).0.same (all_collected delay k a)
+in_order_too : (delay_blocks : ℕ) (k : KeyBytes) (a : Amounts) → All (IsCollected k) (in_order (outputs_of delay_blocks k a))
+in_order_too delay_blocks k a = All-permutation (IsCollected k) _ _ (there_is_one (outputs_of delay_blocks k a)).0.same (all_collected delay_blocks k a)
 
 -- if nothing is refused, everything is within its limits
 some_none : {A : Type 0} (x : A) → Some x ≡ None → ⊥
@@ -90,7 +88,7 @@ low_values : (os : List CommitmentOutput) → refusal_of os ≡ None → All (λ
 unfolding refusal_of
 low_values os e = low os (passed (ltb MAX_OUTPUTS (length os)) (list_any (λ o. ltb MAX_VALUE o.value) os) e).1
 
-pub each_output : (delay : ℕ) (k : KeyBytes) (a : Amounts) → refusal_of (in_order (outputs_of delay k a)) ≡ None → All (λ o. IsOutputOf k o) (in_order (outputs_of delay k a))
-each_output delay k a e i d l =
-    let c = in_order_too delay k a i d l in
-    record { limits = record { value = low_values (in_order (outputs_of delay k a)) e i d l; program = c.program }; htlc = c.htlc }
+pub each_output : (delay_blocks : ℕ) (k : KeyBytes) (a : Amounts) → refusal_of (in_order (outputs_of delay_blocks k a)) ≡ None → All (λ o. IsOutputOf k o) (in_order (outputs_of delay_blocks k a))
+each_output delay_blocks k a e i d l =
+    let c = in_order_too delay_blocks k a i d l in
+    record { limits = record { value = low_values (in_order (outputs_of delay_blocks k a)) e i d l; program = c.program }; htlc = c.htlc }

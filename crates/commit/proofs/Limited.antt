@@ -1,5 +1,5 @@
 -- What keeps the limits of a transaction is taken.
-use Rattle.std.proofs.Common.{◌≡◌, ℕ, ◌≤◌, ◌+◌, ◌-◌, subst, cond, Bool, true, false, leb, ltb, List, [], ◌∷◌, ◌++◌, map, drop, length, refl, sym, ap, ◌∙◌, arith, append-nil, Ok, Err}
+use Rattle.std.proofs.Common.{◌≡◌, ℕ, ◌≤◌, ◌+◌, ◌-◌, subst, cond, Bool, true, false, leb, ltb, List, [], ◌∷◌, ◌++◌, map, drop, length, refl, sym, ap, ◌∙◌, append-nil, Ok, Err}
 use Rattle.std.specs.Prelude.{Result}
 use Rattle.std.specs.List.{All, cons_option}
 use Rattle.std.proofs.lemmas.Bool.{le-leb, le-ltb, false≢true, true≢false}
@@ -9,9 +9,8 @@ use Rattle.std.proofs.lemmas.List.{length-map}
 use Rattle.tx.specs.declared.limits.TheConstants.{MAX_VALUE, MAX_BYTES}
 use Rattle.tx.specs.Parts.{Output}
 use Rattle.tx.specs.Fields.{Transaction}
-use Rattle.terms.specs.declared.htlcs.Htlc.{Htlc}
 use Rattle.commit.specs.declared.outputs.HtlcOutput.{HtlcOutput}
-use Rattle.commit.specs.Fees.{satoshis_of, fee_of, htlc_weight}
+use Rattle.commit.specs.Fees.{satoshis_of, fee_sat_of, htlc_weight}
 use Rattle.sighash.specs.Programs.{script_hash_program}
 use Rattle.commit.specs.Outputs.{to_local_script}
 use Rattle.commit.specs.declared.outputs.OutputKind.{OutputKind}
@@ -55,21 +54,21 @@ unfolding transaction_of
 transaction_is c t outputs e f = e ∙ ap (λ os. spending c.funding c.hidden.sequence os c.hidden.lock_time) f
 
 -- the HTLCs of outputs within the limits
-pub low_htlcs : (k : KeyBytes) (i : ℕ) (os : List CommitmentOutput) → All (λ o. IsOutputOf k o) os → All (λ h. satoshis_of h.htlc.amount ≤ MAX_VALUE) (htlcs_from i os)
+pub low_htlcs : (k : KeyBytes) (i : ℕ) (os : List CommitmentOutput) → All (λ o. IsOutputOf k o) os → All (λ h. satoshis_of h.htlc.amount_msat ≤ MAX_VALUE) (htlcs_from i os)
 unfolding htlcs_from
-low_htlcs k i [] a = All-nil (λ (h : HtlcOutput). satoshis_of h.htlc.amount ≤ MAX_VALUE)
+low_htlcs k i [] a = All-nil (λ (h : HtlcOutput). satoshis_of h.htlc.amount_msat ≤ MAX_VALUE)
 low_htlcs k i (o ∷ os) a =
     let first : IsOutputOf k o = All-head (λ o. IsOutputOf k o) o os a in
     by o.kind first.limits.value first.htlc (low_htlcs k (i + 1) os (All-tail (λ o. IsOutputOf k o) o os a))
   where
-    by : (kind : OutputKind) → o.value ≤ MAX_VALUE → IsHtlcOf k o kind → All (λ h. satoshis_of h.htlc.amount ≤ MAX_VALUE) (htlcs_from (i + 1) os)
-        → All (λ h. satoshis_of h.htlc.amount ≤ MAX_VALUE) (cons_option (htlc_at i kind) (htlcs_from (i + 1) os))
+    by : (kind : OutputKind) → o.value ≤ MAX_VALUE → IsHtlcOf k o kind → All (λ h. satoshis_of h.htlc.amount_msat ≤ MAX_VALUE) (htlcs_from (i + 1) os)
+        → All (λ h. satoshis_of h.htlc.amount_msat ≤ MAX_VALUE) (cons_option (htlc_at i kind) (htlcs_from (i + 1) os))
     by ToLocal l h rest = rest
     by ToRemote l h rest = rest
-    by (ToHtlc direction htlc) l h rest = All-cons (λ (h : HtlcOutput). satoshis_of h.htlc.amount ≤ MAX_VALUE) _ _ (subst (λ v. v ≤ MAX_VALUE) h.0 l) rest
+    by (ToHtlc direction htlc) l h rest = All-cons (λ (h : HtlcOutput). satoshis_of h.htlc.amount_msat ≤ MAX_VALUE) _ _ (subst (λ v. v ≤ MAX_VALUE) h.0 l) rest
 
 pub second_stage_is : (c : Contents) (h : HtlcOutput) (id program : List ℕ) (value lock_time : ℕ) (outputs : List Output)
-    → id ≡ id_of c → program ≡ script_hash_program (to_local_script c.delay c.keys) → value ≡ satoshis_of h.htlc.amount - fee_of (htlc_weight h.direction) c.feerate
+    → id ≡ id_of c → program ≡ script_hash_program (to_local_script c.delay_blocks c.keys) → value ≡ satoshis_of h.htlc.amount_msat - fee_sat_of (htlc_weight h.direction) c.feerate_per_kw
     → outputs ≡ record { value = value; script = program } ∷ [] → lock_time ≡ lock_time_of h.direction h.htlc
     → spending (record { txid = id; index = h.index }) 0 outputs lock_time ≡ htlc_tx_of c h
 unfolding htlc_tx_of

@@ -33,19 +33,19 @@ key_of_b = record { bytes = 2 ∷ replicate 32 0xb1; form = form_of_b }
 -- every other base key is any
 module _ (funding : OutPoint) (any : Key) where
   abbrev side : Key → ℕ → Party
-  side payment start = record {
-    dust = 546;
-    delay = 144;
-    minimum = 0;
-    start = start;
+  side payment start_msat = record {
+    dust_sat = 546;
+    delay_blocks = 144;
+    minimum_msat = 0;
+    start_msat = start_msat;
     bases = record { funding = any; payment = payment; delayed = any; htlc = any; revocation = any };
   }
 
   abbrev opened_by : Side → Terms
-  opened_by opener = record { funding = funding; capacity = 100000; opener = opener; feerate = 1000; a = side key_of_a 60000000; b = side key_of_b 40000000; limited = lit≤ tt; whole = refl; short_a = lit< tt; short_b = lit< tt }
+  opened_by opener = record { funding = funding; capacity_sat = 100000; opener = opener; feerate_per_kw = 1000; a = side key_of_a 60000000; b = side key_of_b 40000000; limited = lit≤ tt; whole = refl; short_a = lit< tt; short_b = lit< tt }
 
   abbrev view : View
-  view = record { a = record { balance = 60000000; offered = [] }; b = record { balance = 40000000; offered = [] }; feerate = 1000 }
+  view = record { a = record { balance_msat = 60000000; offered = [] }; b = record { balance_msat = 40000000; offered = [] }; feerate_per_kw = 1000 }
 
   -- the low 48 bits of SHA-256 of the opener's key, then the other side's
   masks : map (λ opener. mask_of (opened_by opener)) (A ∷ B ∷ []) ≡ 0x17ba063e082c ∷ 0x29c9cdcba925 ∷ []

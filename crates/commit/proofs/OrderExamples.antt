@@ -1,5 +1,5 @@
 -- The order of outputs at each of its keys, and the limits at both sides.
-use Rattle.std.proofs.Common.{◌≡◌, ℕ, ◌+◌, List, [], ◌∷◌, map, Option, Some, None, refl}
+use Rattle.std.proofs.Common.{◌≡◌, ℕ, List, [], ◌∷◌, map, Some, None, refl}
 use Rattle.tx.specs.declared.limits.TheConstants.{MAX_VALUE}
 use Rattle.commit.specs.declared.fees.Direction.TheVariants.{Offered, Received}
 use Rattle.commit.specs.declared.outputs.OutputKind.{OutputKind}
@@ -16,7 +16,7 @@ output value program kind = record { value = value; script = []; program = progr
 
 -- an HTLC's output, told apart by its id
 abbrev htlc : ℕ → List ℕ → ℕ → ℕ → CommitmentOutput
-htlc value program expiry id = output value program (ToHtlc Offered (record { id = id; amount = 0; hash = []; expiry = expiry }))
+htlc value program expiry_height id = output value program (ToHtlc Offered (record { id = id; amount_msat = 0; hash = []; expiry_height = expiry_height }))
 
 -- by value, then by the bytes of the program in lexicographic order, then by expiry; outputs equal in all three stay as
 -- they stood
@@ -31,7 +31,7 @@ unfolding htlcs_from
 places = refl
 
 -- HTLC-timeout has the expiry as its lock time, HTLC-success has 0
-waits : map (λ d. lock_time_of d (record { id = 0; amount = 0; hash = []; expiry = 500 })) (Offered ∷ Received ∷ []) ≡ 500 ∷ 0 ∷ []
+waits : map (λ d. lock_time_of d (record { id = 0; amount_msat = 0; hash = []; expiry_height = 500 })) (Offered ∷ Received ∷ []) ≡ 500 ∷ 0 ∷ []
 waits = refl
 
 -- a value at the limit is taken, one above is refused

@@ -1,21 +1,19 @@
 -- The outputs of a commitment have one order.
-use Rattle.std.proofs.Common.{◌≡◌, ℕ, zero, suc, ◌+◌, ◌<◌, ◌≤◌, Bool, true, false, not, cond, List, [], ◌∷◌, length, get_or, refl, sym, ap, subst, ◌∙◌, arith, add-one}
+use Rattle.std.proofs.Common.{◌≡◌, zero, suc, ◌+◌, Bool, true, false, not, cond, List, [], ◌∷◌, get_or, refl, sym, ap, subst, ◌∙◌, arith}
 use Rattle.std.specs.Prelude.{◌&&◌}
 use Rattle.std.specs.List.{filter}
 use Rattle.std.specs.List.Sorted.{IsPermutation, IsSortedBy, IsStableBy, ties}
 use Rattle.std.specs.Cmp.{IsStrictWeakOrder, IsTotalOrder}
-use Rattle.std.specs.Cmp.Lexicographic.{slice_cmp}
-use Rattle.std.specs.Ordering.{nat_cmp, is_lt, on, then_cmp}
 use Rattle.std.proofs.lemmas.Cmp.{then_total, on_total, nat_cmp_total, nat_list_cmp_total}
 use Rattle.std.proofs.lemmas.Bool.{and_parts, false≢true}
 use Rattle.std.proofs.lemmas.List.Sorted.{IsPermutation-refl, IsPermutation-cons, IsPermutation-trans, IsPermutation-middle}
 use Rattle.std.proofs.lemmas.List.MinMax.{ranks_by}
 use Rattle.commit.specs.declared.outputs.CommitmentOutput.{CommitmentOutput as Output}
-use Rattle.commit.specs.Order.{expiry_of, output_cmp, stands_before, IsInOrder, put_in, in_order, ThereIsOneOrder}
+use Rattle.commit.specs.Order.{expiry_height_of, output_cmp, stands_before, put_in, in_order, ThereIsOneOrder}
 
 total : IsTotalOrder output_cmp
 unfolding output_cmp
-total = then_total (on_total (λ (o : Output). o.value) nat_cmp_total) (then_total (on_total (λ (o : Output). o.program) nat_list_cmp_total) (on_total (λ (o : Output). expiry_of o.kind) nat_cmp_total))
+total = then_total (on_total (λ (o : Output). o.value) nat_cmp_total) (then_total (on_total (λ (o : Output). o.program) nat_list_cmp_total) (on_total (λ (o : Output). expiry_height_of o.kind) nat_cmp_total))
 
 pub weak : IsStrictWeakOrder stands_before
 weak = ranks_by total (λ o. o)

@@ -20,7 +20,7 @@ use Rattle.commit.specs.declared.outputs.CommitmentOutput.{CommitmentOutput as O
 use Rattle.commit.specs.declared.errors.BuildError.TheVariants.{TooManyOutputs, ValueTooLarge}
 use Rattle.commit.specs.Fees.{is_trimmed_by}
 use Rattle.commit.specs.Amounts.{amounts_of}
-use Rattle.commit.specs.Sums.{paid_out, fee_paid}
+use Rattle.commit.specs.Sums.{paid_out_sat, fee_paid_sat}
 use Rattle.commit.specs.Keys.{KeyBytes, keys_of}
 use Rattle.commit.specs.Outputs.{to_local_output, to_remote_output, htlc_output, where_paid, outputs_of}
 use Rattle.commit.specs.Order.{in_order}
@@ -56,15 +56,15 @@ at_most_one : (f : ℕ → Output) (v : Option ℕ) → length (where_paid f v) 
 at_most_one f None = omega arith
 at_most_one f (Some v) = omega arith
 
-few : (delay : ℕ) (k : KeyBytes) (a : Amounts) → length (outputs_of delay k a) ≤ length a.offered + length a.received + 2
+few : (delay_blocks : ℕ) (k : KeyBytes) (a : Amounts) → length (outputs_of delay_blocks k a) ≤ length a.offered + length a.received + 2
 unfolding outputs_of
-few delay k a =
-    let x = length-append ((map (htlc_output k Offered) a.offered ++ map (htlc_output k Received) a.received) ++ where_paid (to_local_output delay k) a.to_local) (where_paid (to_remote_output k) a.to_remote) in
-    let y = length-append (map (htlc_output k Offered) a.offered ++ map (htlc_output k Received) a.received) (where_paid (to_local_output delay k) a.to_local) in
+few delay_blocks k a =
+    let x = length-append ((map (htlc_output k Offered) a.offered ++ map (htlc_output k Received) a.received) ++ where_paid (to_local_output delay_blocks k) a.to_local) (where_paid (to_remote_output k) a.to_remote) in
+    let y = length-append (map (htlc_output k Offered) a.offered ++ map (htlc_output k Received) a.received) (where_paid (to_local_output delay_blocks k) a.to_local) in
     let z = length-append (map (htlc_output k Offered) a.offered) (map (htlc_output k Received) a.received) in
     let o = length-map a.offered (htlc_output k Offered) in
     let r = length-map a.received (htlc_output k Received) in
-    let l = at_most_one (to_local_output delay k) a.to_local in
+    let l = at_most_one (to_local_output delay_blocks k) a.to_local in
     let m = at_most_one (to_remote_output k) a.to_remote in
     counted _ _ _ _ _ _ _ _ _ x y z o r l m
   where
@@ -74,12 +74,12 @@ few delay k a =
 both : (terms : Terms) (view : View) (owner : Side)
     → length (amounts_of terms view owner).offered + length (amounts_of terms view owner).received ≤ length view.a.offered + length view.b.offered
 both terms view A =
-    let a = kept_fewer (λ h. not (is_trimmed_by (party A terms).dust view.feerate Offered h)) view.a.offered in
-    let b = kept_fewer (λ h. not (is_trimmed_by (party A terms).dust view.feerate Received h)) view.b.offered in
+    let a = kept_fewer (λ h. not (is_trimmed_by (party A terms).dust_sat view.feerate_per_kw Offered h)) view.a.offered in
+    let b = kept_fewer (λ h. not (is_trimmed_by (party A terms).dust_sat view.feerate_per_kw Received h)) view.b.offered in
     omega (arith, a, b)
 both terms view B =
-    let a = kept_fewer (λ h. not (is_trimmed_by (party B terms).dust view.feerate Offered h)) view.b.offered in
-    let b = kept_fewer (λ h. not (is_trimmed_by (party B terms).dust view.feerate Received h)) view.a.offered in
+    let a = kept_fewer (λ h. not (is_trimmed_by (party B terms).dust_sat view.feerate_per_kw Offered h)) view.b.offered in
+    let b = kept_fewer (λ h. not (is_trimmed_by (party B terms).dust_sat view.feerate_per_kw Received h)) view.a.offered in
     omega (arith, a, b)
 
 passed : (m l : Bool) → m ≡ false → l ≡ false → cond m (Some TooManyOutputs) (cond l (Some ValueTooLarge) None) ≡ None
@@ -94,13 +94,13 @@ unfolding commitment_of
 shared terms view owner n point whole count =
     let a = amounts_of terms view owner in
     let k = keys_of terms owner point in
-    let os = outputs_of (party owner terms).delay k a in
+    let os = outputs_of (party owner terms).delay_blocks k a in
     let perm = (there_is_one os).0.same in
-    let p : values os ≡ paid_out a = of_all (party owner terms).delay k a in
-    let c : paid_out a + fee_paid terms view owner ≤ terms.capacity = nothing_is_created terms view owner whole in
+    let p : values os ≡ paid_out_sat a = of_all (party owner terms).delay_blocks k a in
+    let c : paid_out_sat a + fee_paid_sat terms view owner ≤ terms.capacity_sat = nothing_is_created terms view owner whole in
     let m = terms.limited in
     let v : values os ≤ MAX_VALUE = omega (arith, p, c, m) in
-    let f : length os ≤ length a.offered + length a.received + 2 = few (party owner terms).delay k a in
+    let f : length os ≤ length a.offered + length a.received + 2 = few (party owner terms).delay_blocks k a in
     let b : length a.offered + length a.received ≤ length view.a.offered + length view.b.offered = both terms view owner in
     let same : length (in_order os) ≡ length os = length_permutation os (in_order os) perm in
     let l : length (in_order os) ≤ MAX_OUTPUTS = omega (arith, f, b, same, count) in

@@ -1,5 +1,5 @@
 -- Which views have a commitment whose transaction keeps the limits, and what `build` answers.
-use Rattle.std.specs.Prelude.{◌≡◌, ℕ, ◌+◌, ◌*◌, ◌≤◌, nat_lt, if◌then◌else◌, List, [], ◌∷◌, length, Option, Some, None, Result, Ok, Err}
+use Rattle.std.specs.Prelude.{◌≡◌, ℕ, ◌+◌, ◌*◌, ◌≤◌, nat_lt, if◌then◌else◌, List, length, Option, Some, None, Result, Ok, Err}
 use Rattle.std.specs.List.{list_any}
 use Rattle.tx.specs.declared.limits.TheConstants.{MAX_VALUE, MAX_OUTPUTS}
 use Rattle.terms.specs.declared.sides.Side.{Side}
@@ -9,7 +9,7 @@ use Rattle.commit.specs.declared.outputs.CommitmentOutput.{CommitmentOutput}
 use Rattle.commit.specs.declared.errors.BuildError.{BuildError}
 use Rattle.commit.specs.declared.errors.BuildError.TheVariants.{NoMemory, TooManyOutputs, ValueTooLarge}
 use Rattle.terms.specs.declared.amounts.TheConstants.{MSAT_PER_SAT}
-use Rattle.commit.specs.Sums.{total_of}
+use Rattle.commit.specs.Sums.{total_msat_of}
 use Rattle.commit.specs.Commitments.{Contents, commitment_of}
 
 -- the refusals by their numbers
@@ -35,5 +35,5 @@ Gives c (Err ValueTooLarge) = refusal_of c.outputs ≡ Some ValueTooLarge
 -- a view that shares out the capacity, with at most 3,998 HTLCs, has a commitment
 abbrev pub SharedViewsHaveCommitments : Type 0
 SharedViewsHaveCommitments =
-    (terms : Terms) (view : View) (owner : Side) (n : ℕ) (point : List ℕ) → total_of view ≡ MSAT_PER_SAT * terms.capacity
+    (terms : Terms) (view : View) (owner : Side) (n : ℕ) (point : List ℕ) → total_msat_of view ≡ MSAT_PER_SAT * terms.capacity_sat
     → length view.a.offered + length view.b.offered ≤ 3998 → refusal_of (commitment_of terms view owner n point).outputs ≡ None

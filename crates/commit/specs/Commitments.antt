@@ -2,7 +2,6 @@
 use Rattle.std.specs.Prelude.{◌≡◌, ℕ, ◌+◌, ◌-◌, ◌≤◌, List, [], ◌∷◌, map, length, Option, Some, None, slice_get, option_map}
 use Rattle.std.specs.List.{All, cons_option}
 use Rattle.tx.specs.declared.input.OutPoint.{OutPoint}
-use Rattle.tx.specs.declared.input.TxIn.{TxIn}
 use Rattle.tx.specs.declared.limits.TheConstants.{MAX_VALUE, MAX_OUTPUTS, MAX_BYTES}
 use Rattle.tx.specs.Parts.{Output}
 use Rattle.tx.specs.Fields.{Transaction, version_two}
@@ -20,7 +19,7 @@ use Rattle.commit.specs.declared.outputs.OutputKind.{OutputKind}
 use Rattle.commit.specs.declared.outputs.OutputKind.TheVariants.{ToLocal, ToRemote, ToHtlc}
 use Rattle.commit.specs.declared.outputs.CommitmentOutput.{CommitmentOutput}
 use Rattle.commit.specs.declared.outputs.HtlcOutput.{HtlcOutput}
-use Rattle.commit.specs.Fees.{satoshis_of, fee_of, htlc_weight}
+use Rattle.commit.specs.Fees.{satoshis_of, fee_sat_of, htlc_weight}
 use Rattle.commit.specs.Amounts.{amounts_of}
 use Rattle.commit.specs.Keys.{KeyBytes, keys_of}
 use Rattle.sighash.specs.Programs.{script_hash_program}
@@ -35,8 +34,8 @@ pub record Contents : Type 0 where
   pub hidden : Obscured
   pub keys : KeyBytes
   -- the delay of to_local and of the HTLC transactions' outputs
-  pub delay : ℕ
-  pub feerate : ℕ
+  pub delay_blocks : ℕ
+  pub feerate_per_kw : ℕ
   -- in their order
   pub outputs : List CommitmentOutput
 
@@ -46,9 +45,9 @@ commitment_of terms view owner n point = record {
   funding = terms.funding;
   hidden = obscured (mask_of terms) n;
   keys = keys_of terms owner point;
-  delay = (party owner terms).delay;
-  feerate = view.feerate;
-  outputs = in_order (outputs_of (party owner terms).delay (keys_of terms owner point)
+  delay_blocks = (party owner terms).delay_blocks;
+  feerate_per_kw = view.feerate_per_kw;
+  outputs = in_order (outputs_of (party owner terms).delay_blocks (keys_of terms owner point)
       (amounts_of terms view owner));
 }
 
@@ -81,14 +80,14 @@ htlcs_of c = htlcs_from 0 c.outputs
 
 -- HTLC-timeout has the expiry as its lock time, HTLC-success has 0
 abbrev pub lock_time_of : Direction → Htlc → ℕ
-lock_time_of Offered h = h.expiry
+lock_time_of Offered h = h.expiry_height
 lock_time_of Received h = 0
 
 -- the output of an HTLC transaction: the HTLC's satoshis less the fee, in the form of to_local
 abbrev pub htlc_tx_output : Contents → HtlcOutput → Output
 htlc_tx_output c h = record {
-  value = satoshis_of h.htlc.amount - fee_of (htlc_weight h.direction) c.feerate;
-  script = script_hash_program (to_local_script c.delay c.keys);
+  value = satoshis_of h.htlc.amount_msat - fee_sat_of (htlc_weight h.direction) c.feerate_per_kw;
+  script = script_hash_program (to_local_script c.delay_blocks c.keys);
 }
 
 -- the HTLC transaction of an HTLC's output
@@ -104,7 +103,7 @@ htlc_tx_at c k = option_map (htlc_tx_of c) (slice_get (htlcs_of c) k)
 abbrev pub IsHtlcOf : KeyBytes → CommitmentOutput → OutputKind → Type 0
 IsHtlcOf k o ToLocal = Unit {0}
 IsHtlcOf k o ToRemote = Unit {0}
-IsHtlcOf k o (ToHtlc direction h) = (o.value ≡ satoshis_of h.amount) × (o.script ≡ htlc_script k direction h)
+IsHtlcOf k o (ToHtlc direction h) = (o.value ≡ satoshis_of h.amount_msat) × (o.script ≡ htlc_script k direction h)
 
 -- an output keeps the limits of a transaction's
 pub record IsTxOutput (o : CommitmentOutput) : Type 0 where
@@ -120,6 +119,6 @@ pub record Keeps (c : Contents) (transaction : Transaction) (id : List ℕ) (htl
   pub transaction_is : transaction ≡ transaction_of c
   pub id_is : id ≡ id_of c
   pub htlcs_are : htlcs ≡ htlcs_of c
-  pub program_is : second_stage_program ≡ script_hash_program (to_local_script c.delay c.keys)
+  pub program_is : second_stage_program ≡ script_hash_program (to_local_script c.delay_blocks c.keys)
   pub few : length c.outputs ≤ MAX_OUTPUTS
   pub outputs_are : All (λ o. IsOutputOf c.keys o) c.outputs

@@ -8,11 +8,11 @@ use Rattle.commit.specs.declared.fees.TheConstants.{WEIGHT_PER_FEERATE}
 
 -- an amount of millisatoshis in satoshis, rounded down
 abbrev pub satoshis_of : ℕ → ℕ
-satoshis_of amount = amount / MSAT_PER_SAT
+satoshis_of amount_msat = amount_msat / MSAT_PER_SAT
 
 -- the fee of a transaction of a weight, in satoshis, rounded down
-abbrev pub fee_of : ℕ → ℕ → ℕ
-fee_of weight feerate = weight * feerate / WEIGHT_PER_FEERATE
+abbrev pub fee_sat_of : ℕ → ℕ → ℕ
+fee_sat_of weight feerate_per_kw = weight * feerate_per_kw / WEIGHT_PER_FEERATE
 
 -- the weight of a commitment with this number of untrimmed HTLCs
 abbrev pub commitment_weight : ℕ → ℕ
@@ -25,4 +25,4 @@ htlc_weight Received = 703
 
 -- an HTLC is trimmed if it is worth less than the dust limit and the fee of its second-stage transaction together
 abbrev pub is_trimmed_by : ℕ → ℕ → Direction → Htlc → Bool
-is_trimmed_by dust rate d h = nat_lt (satoshis_of h.amount) (dust + fee_of (htlc_weight d) rate)
+is_trimmed_by dust_sat feerate_per_kw d h = nat_lt (satoshis_of h.amount_msat) (dust_sat + fee_sat_of (htlc_weight d) feerate_per_kw)

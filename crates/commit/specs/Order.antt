@@ -1,5 +1,5 @@
 -- The order of a commitment's outputs (BOLT 3, "Transaction Output Ordering").
-use Rattle.std.specs.Prelude.{◌≡◌, ℕ, Bool, true, false, if◌then◌else◌, List, [], ◌∷◌}
+use Rattle.std.specs.Prelude.{◌≡◌, ℕ, Bool, if◌then◌else◌, List, [], ◌∷◌}
 use Rattle.std.specs.List.Sorted.{IsPermutation, IsSortedBy, IsStableBy}
 use Rattle.std.specs.Ordering.{nat_cmp, is_lt, on, then_cmp}
 use Rattle.std.specs.declared.cmp.Ordering.{Ordering}
@@ -9,14 +9,14 @@ use Rattle.commit.specs.declared.outputs.OutputKind.TheVariants.{ToHtlc}
 use Rattle.commit.specs.declared.outputs.CommitmentOutput.{CommitmentOutput}
 
 -- the expiry by which outputs of equal value and program are sorted
-abbrev pub expiry_of : OutputKind → ℕ
-expiry_of (ToHtlc direction h) = h.expiry
-expiry_of kind = 0
+abbrev pub expiry_height_of : OutputKind → ℕ
+expiry_height_of (ToHtlc direction h) = h.expiry_height
+expiry_height_of kind = 0
 
 -- by value, then by the bytes of the program (BIP 69), then by expiry
 unfoldable pub output_cmp : CommitmentOutput → CommitmentOutput → Ordering
 output_cmp = then_cmp (on (λ o. o.value) nat_cmp)
-    (then_cmp (on (λ o. o.program) (slice_cmp nat_cmp)) (on (λ o. expiry_of o.kind) nat_cmp))
+    (then_cmp (on (λ o. o.program) (slice_cmp nat_cmp)) (on (λ o. expiry_height_of o.kind) nat_cmp))
 
 abbrev pub stands_before : CommitmentOutput → CommitmentOutput → Bool
 stands_before x y = is_lt (output_cmp x y)

@@ -27,13 +27,13 @@ input_of outpoint sequence = record { outpoint = outpoint; sequence = sequence; 
 -- the digest of the commitment, over the funding script and the capacity
 unfoldable pub commitment_digest : Terms → Contents → List ℕ
 commitment_digest terms c = sha256d (signed_list (transaction_of c)
-    (input_of c.funding c.hidden.sequence) (funding_script terms) terms.capacity)
+    (input_of c.funding c.hidden.sequence) (funding_script terms) terms.capacity_sat)
 
 -- the digest of an HTLC transaction, over the script and the value of the output that it spends
 unfoldable pub htlc_digest : Contents → HtlcOutput → List ℕ
 htlc_digest c h = sha256d (signed_list (htlc_tx_of c h)
     (input_of (record { txid = id_of c; index = h.index }) 0)
-    (htlc_script c.keys h.direction h.htlc) (satoshis_of h.htlc.amount))
+    (htlc_script c.keys h.direction h.htlc) (satoshis_of h.htlc.amount_msat))
 
 abbrev pub htlc_digests : Contents → List (List ℕ)
 htlc_digests c = map (htlc_digest c) (htlcs_of c)

@@ -1,7 +1,7 @@
 //! The amounts of a commitment.
 
 ghost use Rattle.std.specs.Prelude.{◌≡◌, ◌++◌, IfOk, Option};
-ghost use Rattle.commit.specs.Amounts.{untrimmed, owed_by, left_to, unless_dust, amounts_of};
+ghost use Rattle.commit.specs.Amounts.{untrimmed, owed_sat_by, left_sat_to, unless_dust, amounts_of};
 
 use crate::fees::{Direction, commitment_fee, is_trimmed, satoshis};
 use lists::List;
@@ -26,16 +26,16 @@ pub struct Amounts {
 // The HTLCs that have an output.
 fn untrimmed(
     alloc: Global,
-    dust: u64,
-    feerate: u32,
+    dust_sat: u64,
+    feerate_per_kw: u32,
     direction: Direction,
     htlcs: &[Htlc],
 ) -> Result<List<Htlc>, AllocError>
-    ensures { IfOk result (λ kept. kept ≡ untrimmed dust feerate direction htlcs.now) }
+    ensures { IfOk result (λ kept. kept ≡ untrimmed dust_sat feerate_per_kw direction htlcs.now) }
 {
     let mut kept = Vec::new(alloc);
     for htlc in htlcs {
-        if !is_trimmed(dust, feerate, direction, htlc) {
+        if !is_trimmed(dust_sat, feerate_per_kw, direction, htlc) {
             kept.push(*htlc)?;
         }
     }
@@ -43,28 +43,28 @@ fn untrimmed(
 }
 
 // What a side owes of the fee.
-fn owed_by(side: Side, opener: Side, fee: u128) -> u128
-    ensures { result ≡ owed_by side opener fee }
+fn owed_sat_by(side: Side, opener: Side, fee: u128) -> u128
+    ensures { result ≡ owed_sat_by side opener fee }
 {
     if side == opener { fee } else { 0 }
 }
 
 // What a side has left in satoshis after paying its part of the fee.
-fn left_to(side: Side, opener: Side, fee: u128, view: &View) -> u64
-    ensures { result ≡ left_to side opener fee view.now }
+fn left_sat_to(side: Side, opener: Side, fee: u128, view: &View) -> u64
+    ensures { result ≡ left_sat_to side opener fee view.now }
 {
-    let balance = satoshis(view.share(side).balance);
-    match u64::try_from(owed_by(side, opener, fee)) {
-        Ok(owed) => balance.saturating_sub(owed),
+    let balance_sat = satoshis(view.share(side).balance_msat);
+    match u64::try_from(owed_sat_by(side, opener, fee)) {
+        Ok(owed) => balance_sat.saturating_sub(owed),
         Err(_) => 0,
     }
 }
 
 // An output's value, or `None` if it is below the dust limit.
-fn unless_dust(dust: u64, value: u64) -> Option<u64>
-    ensures { result ≡ unless_dust dust value }
+fn unless_dust(dust_sat: u64, value: u64) -> Option<u64>
+    ensures { result ≡ unless_dust dust_sat value }
 {
-    if value < dust { None } else { Some(value) }
+    if value < dust_sat { None } else { Some(value) }
 }
 
 /// The amounts of the owner's commitment of a view (BOLT 3, "Commitment Transaction Outputs" and "Fees"). The dust limit is the owner's, and
@@ -78,18 +78,18 @@ pub fn commitment_amounts(
     ensures { IfOk result (λ a. a ≡ amounts_of terms.now view.now owner) }
 {
     let peer = owner.other();
-    let dust = terms.party(owner).dust;
-    let feerate = view.feerate;
+    let dust_sat = terms.party(owner).dust_sat;
+    let feerate_per_kw = view.feerate_per_kw;
     let own = view.share(owner).offered.values();
     let theirs = view.share(peer).offered.values();
-    let offered = untrimmed(alloc, dust, feerate, Direction::Offered, own)?;
-    let received = untrimmed(alloc, dust, feerate, Direction::Received, theirs)?;
-    let fee = commitment_fee(offered.len() + received.len(), feerate);
+    let offered = untrimmed(alloc, dust_sat, feerate_per_kw, Direction::Offered, own)?;
+    let received = untrimmed(alloc, dust_sat, feerate_per_kw, Direction::Received, theirs)?;
+    let fee = commitment_fee(offered.len() + received.len(), feerate_per_kw);
     Ok(Amounts {
         offered,
         received,
         fee,
-        to_local: unless_dust(dust, left_to(owner, terms.opener, fee, view)),
-        to_remote: unless_dust(dust, left_to(peer, terms.opener, fee, view)),
+        to_local: unless_dust(dust_sat, left_sat_to(owner, terms.opener, fee, view)),
+        to_remote: unless_dust(dust_sat, left_sat_to(peer, terms.opener, fee, view)),
     })
 }

@@ -53,11 +53,11 @@ fn outputs_in_order(
     keys: &CommitmentKeys,
 ) -> Result<Vec<CommitmentOutput>, AllocError>
     ensures { IfOk result (λ v. v.items ≡ in_order
-        (outputs_of (party owner terms.now).delay (bytes_of keys.now)
+        (outputs_of (party owner terms.now).delay_blocks (bytes_of keys.now)
         (amounts_of terms.now view.now owner))) }
 {
     let amounts = commitment_amounts(alloc, terms, view, owner)?;
-    let mut outputs = collect_outputs(alloc, terms.party(owner).delay, keys, &amounts)?;
+    let mut outputs = collect_outputs(alloc, terms.party(owner).delay_blocks, keys, &amounts)?;
     put_in_order(&mut outputs)?;
     Ok(outputs)
 }
@@ -87,8 +87,8 @@ pub fn build(
         terms.funding,
         obscure(mask(terms), n),
         keys,
-        terms.party(owner).delay,
-        view.feerate,
+        terms.party(owner).delay_blocks,
+        view.feerate_per_kw,
         List::from_vec(outputs),
     )?;
     Ok(built)

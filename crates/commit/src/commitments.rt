@@ -29,8 +29,8 @@ pub struct Commitment {
     funding: OutPoint,
     hidden: Obscured,
     keys: CommitmentKeys,
-    delay: u16,
-    feerate: u32,
+    delay_blocks: u16,
+    feerate_per_kw: u32,
     outputs: List<CommitmentOutput>,
     tx: Tx,
     id: [u8; 32],
@@ -48,8 +48,8 @@ impl Model for Commitment {
       funding = a.funding;
       hidden = a.hidden;
       keys = bytes_of a.keys;
-      delay = a.delay;
-      feerate = a.feerate;
+      delay_blocks = a.delay_blocks;
+      feerate_per_kw = a.feerate_per_kw;
       outputs = a.outputs;
     } };
 
@@ -57,8 +57,8 @@ impl Model for Commitment {
       funding = a.funding;
       hidden = a.hidden;
       keys = bytes_of a.keys;
-      delay = a.delay;
-      feerate = a.feerate;
+      delay_blocks = a.delay_blocks;
+      feerate_per_kw = a.feerate_per_kw;
       outputs = a.outputs;
     })
         a.tx a.id a.htlcs a.second_stage_program };
@@ -129,13 +129,13 @@ fn commitment_tx(
 // The program of each HTLC transaction's output, whose owner waits for it as for to_local.
 fn delayed_program(
     alloc: Global,
-    delay: u16,
+    delay_blocks: u16,
     keys: &CommitmentKeys,
 ) -> Result<ByteString, AllocError>
     ensures { IfOk result (λ p. p ≡ script_hash_program_of
-        (to_local_script_of delay (bytes_of keys.now))) }
+        (to_local_script_of delay_blocks (bytes_of keys.now))) }
 {
-    let script = to_local_script(alloc, delay, keys)?;
+    let script = to_local_script(alloc, delay_blocks, keys)?;
     script_hash_program(alloc, script.bytes())
 }
 
@@ -177,20 +177,6 @@ fn htlc_outputs(alloc: Global, outputs: &[CommitmentOutput]) -> Result<List<Htlc
     Ok(List::from_vec(htlcs))
 }
 
-// Copies of outputs.
-fn copied_outputs(
-    alloc: Global,
-    outputs: &[CommitmentOutput],
-) -> Result<Vec<CommitmentOutput>, AllocError>
-    ensures { IfOk result (λ v. v.items ≡ outputs.now) }
-{
-    let mut copies = Vec::new(alloc);
-    for output in outputs {
-        copies.push(output.copy()?)?;
-    }
-    Ok(copies)
-}
-
 impl Commitment {
     ghost use Rattle.std.specs.Prelude.{◌≡◌, ◌≤◌, IfOk, length};
     ghost use Rattle.std.specs.List.{All};
@@ -205,8 +191,8 @@ impl Commitment {
         funding: OutPoint,
         hidden: Obscured,
         keys: CommitmentKeys,
-        delay: u16,
-        feerate: u32,
+        delay_blocks: u16,
+        feerate_per_kw: u32,
         outputs: List<CommitmentOutput>,
     ) -> Result<Self, AllocError>
         requires few { length outputs ≤ max_outputs }
@@ -215,21 +201,21 @@ impl Commitment {
           funding = funding;
           hidden = hidden;
           keys = bytes_of keys;
-          delay = delay;
-          feerate = feerate;
+          delay_blocks = delay_blocks;
+          feerate_per_kw = feerate_per_kw;
           outputs = outputs;
         }) }
     {
         let tx = commitment_tx(alloc, funding, hidden, outputs.values())?;
         let id = txid(&tx);
         let htlcs = htlc_outputs(alloc, outputs.values())?;
-        let second_stage_program = delayed_program(alloc, delay, &keys)?;
+        let second_stage_program = delayed_program(alloc, delay_blocks, &keys)?;
         Ok(Commitment {
             funding,
             hidden,
             keys,
-            delay,
-            feerate,
+            delay_blocks,
+            feerate_per_kw,
             outputs,
             tx,
             id,
@@ -242,19 +228,16 @@ impl Commitment {
     pub fn copy(&self) -> Result<Self, AllocError>
         ensures { IfOk result (λ c. c ≡ self.now) }
     {
-        let alloc = self.outputs.allocator();
-        let outputs = copied_outputs(alloc, self.outputs.values())?;
-        let htlcs = Vec::from_slice(alloc, self.htlcs.values())?;
         Ok(Commitment {
             funding: self.funding,
             hidden: self.hidden,
             keys: self.keys,
-            delay: self.delay,
-            feerate: self.feerate,
-            outputs: List::from_vec(outputs),
+            delay_blocks: self.delay_blocks,
+            feerate_per_kw: self.feerate_per_kw,
+            outputs: self.outputs.clone()?,
             tx: self.tx.copy()?,
             id: self.id,
-            htlcs: List::from_vec(htlcs),
+            htlcs: self.htlcs.clone()?,
             second_stage_program: self.second_stage_program.copy()?,
         })
     }
@@ -285,7 +268,7 @@ impl Commitment {
     /// The HTLC outputs, in the transaction's order.
     pub fn htlcs(&self) -> &[HtlcOutput]
         ensures value { result.now ≡ htlcs_of self.now }
-        ensures low { All (λ h. satoshis_of h.htlc.amount ≤ max_value) result.now }
+        ensures low { All (λ h. satoshis_of h.htlc.amount_msat ≤ max_value) result.now }
     {
         self.htlcs.values()
     }
@@ -298,19 +281,19 @@ impl Commitment {
     }
 
     /// The delay in blocks of the owner's delayed outputs.
-    pub fn delay(&self) -> u16
-        ensures { result ≡ self.now.delay }
+    pub fn delay_blocks(&self) -> u16
+        ensures { result ≡ self.now.delay_blocks }
     {
-        self.delay
+        self.delay_blocks
     }
 
     // The HTLC transaction of an HTLC's output.
     pub(crate) fn htlc_tx_of(&self, alloc: Global, htlc: &HtlcOutput) -> Result<Tx, AllocError>
-        requires { satoshis_of htlc.now.htlc.amount ≤ max_value }
+        requires { satoshis_of htlc.now.htlc.amount_msat ≤ max_value }
         ensures { IfOk result (λ t. t ≡ htlc_tx_of self.now htlc.now) }
     {
-        let fee = htlc_fee(htlc.direction, self.feerate);
-        let value = satoshis(htlc.htlc.amount).saturating_sub(fee);
+        let fee = htlc_fee(htlc.direction, self.feerate_per_kw);
+        let value = satoshis(htlc.htlc.amount_msat).saturating_sub(fee);
         let output = match TxOut::new(value, self.second_stage_program.copy()?) {
             Ok(output) => output,
             Err(_) => unreachable!(),
@@ -336,7 +319,7 @@ fn lock_time(direction: Direction, htlc: &Htlc) -> u32
     ensures { result ≡ lock_time_of direction htlc.now }
 {
     match direction {
-        Direction::Offered => htlc.expiry,
+        Direction::Offered => htlc.expiry_height,
         Direction::Received => 0,
     }
 }

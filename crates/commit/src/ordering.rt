@@ -1,20 +1,20 @@
 // The order of a commitment's outputs.
 
 ghost use Rattle.std.specs.Prelude.{◌≡◌, OnOk};
-ghost use Rattle.commit.specs.Order.{expiry_of, output_cmp, in_order};
+ghost use Rattle.commit.specs.Order.{expiry_height_of, output_cmp, in_order};
 
 use crate::outputs::{CommitmentOutput, OutputKind};
 use std::alloc::AllocError;
 use std::cmp::Ordering;
 
 // The expiry by which outputs of equal value and program are sorted.
-fn expiry(kind: &OutputKind) -> u32
-    ensures { result ≡ expiry_of kind.now }
+fn expiry_height(kind: &OutputKind) -> u32
+    ensures { result ≡ expiry_height_of kind.now }
 {
     match kind {
         OutputKind::ToLocal => 0,
         OutputKind::ToRemote => 0,
-        OutputKind::ToHtlc(_, htlc) => htlc.expiry,
+        OutputKind::ToHtlc(_, htlc) => htlc.expiry_height,
     }
 }
 
@@ -25,7 +25,7 @@ fn compare(x: &CommitmentOutput, y: &CommitmentOutput) -> Ordering
 {
     match x.value.cmp(&y.value) {
         Ordering::Equal => match x.program.bytes().cmp(y.program.bytes()) {
-            Ordering::Equal => expiry(&x.kind).cmp(&expiry(&y.kind)),
+            Ordering::Equal => expiry_height(&x.kind).cmp(&expiry_height(&y.kind)),
             decided => decided,
         },
         decided => decided,

@@ -25,7 +25,7 @@ pub enum OutputKind {
 }
 
 /// An output of a commitment.
-#[derive(Debug, Drop)]
+#[derive(Clone, Debug, Drop)]
 pub struct CommitmentOutput {
     /// Satoshis.
     pub value: u64,
@@ -44,12 +44,7 @@ impl CommitmentOutput {
     pub fn copy(&self) -> Result<Self, AllocError>
         ensures { IfOk result (λ o. o ≡ self.now) }
     {
-        Ok(CommitmentOutput {
-            value: self.value,
-            script: self.script.copy()?,
-            program: self.program.copy()?,
-            kind: self.kind,
-        })
+        self.clone()
     }
 }
 
@@ -83,16 +78,16 @@ fn script_output(
 // Appends the output to_local, if the amounts have one.
 fn push_to_local(
     alloc: Global,
-    delay: u16,
+    delay_blocks: u16,
     keys: &CommitmentKeys,
     amounts: &Amounts,
     outputs: &mut Vec<CommitmentOutput>,
 ) -> Result<(), AllocError>
     ensures { OnOk result (outputs.new.items ≡ outputs.old.items ++ where_paid
-        (to_local_output delay (bytes_of keys.now)) amounts.now.to_local) }
+        (to_local_output delay_blocks (bytes_of keys.now)) amounts.now.to_local) }
 {
     if let Some(value) = amounts.to_local {
-        let script = to_local_script(alloc, delay, keys)?;
+        let script = to_local_script(alloc, delay_blocks, keys)?;
         outputs.push(script_output(alloc, value, script, OutputKind::ToLocal)?)?;
     }
     Ok(())
@@ -131,7 +126,7 @@ fn htlc_output(
 {
     let script = scripts.script(alloc, direction, htlc)?;
     let kind = OutputKind::ToHtlc(direction, *htlc);
-    script_output(alloc, satoshis(htlc.amount), script, kind)
+    script_output(alloc, satoshis(htlc.amount_msat), script, kind)
 }
 
 // Appends the HTLC outputs.
@@ -155,11 +150,11 @@ fn push_htlcs(
 #[tactic(auto, unfolding(crate::specs::Outputs::outputs_of))]
 pub(crate) fn collect_outputs(
     alloc: Global,
-    delay: u16,
+    delay_blocks: u16,
     keys: &CommitmentKeys,
     amounts: &Amounts,
 ) -> Result<Vec<CommitmentOutput>, AllocError>
-    ensures { IfOk result (λ v. v.items ≡ outputs_of delay (bytes_of keys.now) amounts.now) }
+    ensures { IfOk result (λ v. v.items ≡ outputs_of delay_blocks (bytes_of keys.now) amounts.now) }
 {
     let scripts = HtlcScripts::new(keys);
     let mut outputs = Vec::new(alloc);
@@ -177,7 +172,7 @@ pub(crate) fn collect_outputs(
         amounts.received.values(),
         &mut outputs,
     )?;
-    push_to_local(alloc, delay, keys, amounts, &mut outputs)?;
+    push_to_local(alloc, delay_blocks, keys, amounts, &mut outputs)?;
     push_to_remote(alloc, keys, amounts, &mut outputs)?;
     Ok(outputs)
 }

@@ -117,17 +117,17 @@ pub(crate) fn two_of_two(alloc: Global, first: &Key, second: &Key) -> Result<Vec
 fn to_local_bytes(
     alloc: Global,
     revocation: &Key,
-    delay: u16,
+    delay_blocks: u16,
     delayed: &Key,
 ) -> Result<Vec<u8>, AllocError>
     ensures { IfOk result (λ v. v.items ≡ spelling
-        (to_local revocation.now.bytes delay delayed.now.bytes)) }
+        (to_local revocation.now.bytes delay_blocks delayed.now.bytes)) }
 {
     let mut bytes = Vec::with_capacity(alloc, 80)?;
     bytes.extend_from_slice(&IF_KEY)?;
     bytes.extend_from_slice(&revocation.bytes)?;
     bytes.push(ELSE)?;
-    push_number(alloc, &mut bytes, u32::from(delay))?;
+    push_number(alloc, &mut bytes, u32::from(delay_blocks))?;
     bytes.extend_from_slice(&AGE_KEY)?;
     bytes.extend_from_slice(&delayed.bytes)?;
     bytes.extend_from_slice(&END_CHECK)?;
@@ -138,12 +138,12 @@ fn to_local_bytes(
 #[tactic(auto, unfolding(crate::specs::Outputs::to_local_script))]
 pub(crate) fn to_local_script(
     alloc: Global,
-    delay: u16,
+    delay_blocks: u16,
     keys: &CommitmentKeys,
 ) -> Result<ByteString, AllocError>
-    ensures { IfOk result (λ s. s ≡ to_local_script_of delay (bytes_of keys.now)) }
+    ensures { IfOk result (λ s. s ≡ to_local_script_of delay_blocks (bytes_of keys.now)) }
 {
-    let bytes = to_local_bytes(alloc, &keys.revocation, delay, &keys.delayed)?;
+    let bytes = to_local_bytes(alloc, &keys.revocation, delay_blocks, &keys.delayed)?;
     Ok(ByteString::from_vec(bytes))
 }
 
@@ -228,11 +228,11 @@ impl HtlcScripts {
         &self,
         alloc: Global,
         payment: &[u8; 20],
-        expiry: u32,
+        expiry_height: u32,
     ) -> Result<Vec<u8>, AllocError>
         ensures { IfOk result (λ v. v.items ≡ spelling
             (received self.now.revocation_hash self.now.keys.remote_htlc.bytes
-            self.now.keys.local_htlc.bytes payment.now expiry)) }
+            self.now.keys.local_htlc.bytes payment.now expiry_height)) }
     {
         let mut bytes = self.begin(alloc)?;
         bytes.extend_from_slice(&IF_PREIMAGE)?;
@@ -240,7 +240,7 @@ impl HtlcScripts {
         bytes.extend_from_slice(&SUCCESS_KEY)?;
         bytes.extend_from_slice(&self.keys.local_htlc.bytes)?;
         bytes.extend_from_slice(&OR_TIMEOUT)?;
-        push_number(alloc, &mut bytes, expiry)?;
+        push_number(alloc, &mut bytes, expiry_height)?;
         bytes.extend_from_slice(&RECEIVED_END)?;
         Ok(bytes)
     }
@@ -259,7 +259,7 @@ impl HtlcScripts {
         let payment = ripemd160(&htlc.hash);
         let bytes = match direction {
             Direction::Offered => self.offered(alloc, &payment)?,
-            Direction::Received => self.received(alloc, &payment, htlc.expiry)?,
+            Direction::Received => self.received(alloc, &payment, htlc.expiry_height)?,
         };
         Ok(ByteString::from_vec(bytes))
     }

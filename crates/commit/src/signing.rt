@@ -59,7 +59,7 @@ fn commitment_digest(
     ensures { IfOk result (λ d. d ≡ commitment_digest_of terms.now commitment.now) }
 {
     let script = funding_script_in(alloc, terms)?;
-    match digest_of(commitment.tx(), 0, script.as_slice(), terms.capacity) {
+    match digest_of(commitment.tx(), 0, script.as_slice(), terms.capacity_sat) {
         Ok(digest) => Ok(digest),
         Err(_) => unreachable!(),
     }
@@ -73,13 +73,13 @@ fn htlc_digest(
     htlc: &HtlcOutput,
     script: &[u8],
 ) -> Result<[u8; 32], AllocError>
-    requires low { satoshis_of htlc.now.htlc.amount ≤ max_value }
+    requires low { satoshis_of htlc.now.htlc.amount_msat ≤ max_value }
     requires its_script { script.now ≡ htlc_script commitment.now.keys htlc.now.direction
         htlc.now.htlc }
     ensures { IfOk result (λ d. d ≡ htlc_digest_of commitment.now htlc.now) }
 {
     let tx = commitment.htlc_tx_of(alloc, htlc)?;
-    match digest_of(&tx, 0, script, satoshis(htlc.htlc.amount)) {
+    match digest_of(&tx, 0, script, satoshis(htlc.htlc.amount_msat)) {
         Ok(digest) => Ok(digest),
         Err(_) => unreachable!(),
     }

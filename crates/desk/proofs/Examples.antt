@@ -1,5 +1,5 @@
 -- The words at chosen values, and what the rule and the clauses exclude: an entry with a number that no seat has, and a reply that the book did not give.
-use Rattle.std.proofs.Common.{◌≡◌, ◌≢◌, ℕ, zero, suc, ◌+◌, ◌<◌, ◌≤◌, arith, Bool, true, false, List, [], ◌∷◌, All, map, Option, Some, None, IfSome, Ok, Err, refl, sym, subst, ap, ◌∙◌, ⊎_elim, ◌⊎◌}
+use Rattle.std.proofs.Common.{◌≡◌, ◌≢◌, ℕ, zero, suc, ◌+◌, ◌<◌, ◌≤◌, arith, Bool, true, false, List, [], ◌∷◌, All, map, Option, Some, None, IfSome, Ok, Err, refl, sym, subst, ap, ◌∙◌, ⊎_elim}
 use Rattle.std.specs.List.{range_with_len, last_or}
 use Rattle.std.proofs.lemmas.List.Elements.{All-head, All-tail}
 use Rattle.crossbeam_channel.specs.Claims.{view}

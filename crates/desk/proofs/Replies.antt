@@ -1,5 +1,5 @@
 -- A reply is the book's, at the end of its history.
-use Rattle.std.proofs.Common.{◌≡◌, ℕ, Bool, true, false, List, refl, sym, subst, ap, ◌∙◌, ⊎_elim, ◌⊎◌, inl, inr}
+use Rattle.std.proofs.Common.{◌≡◌, ℕ, Bool, true, false, List, refl, sym, subst, ap, ◌∙◌, ⊎_elim, inl, inr}
 use Rattle.channel.specs.Tokens.{peer_tokens}
 use Rattle.book.specs.declared.calls.Entry.{Entry}
 use Rattle.book.specs.declared.calls.Call.{Call}

@@ -3,10 +3,10 @@
 use book::{Book, Step};
 use book_peers::{offer, open_side};
 use channel::{Channel, Message};
-use keys::Key;
 use std::alloc::Global;
 use std::process::Abort;
 use terms::Side;
+use updates::Revocation;
 
 /// A book in which this seat opened the channel.
 pub(crate) fn opened(rt: &impl Abort, alloc: Global, seat: u32) -> Book {
@@ -19,13 +19,15 @@ pub(crate) fn opened(rt: &impl Abort, alloc: Global, seat: u32) -> Book {
 }
 
 /// A step in which A offers an HTLC.
-pub(crate) fn offer_until(expiry: u32) -> Step {
-    Step::Own(offer(1_000_000, expiry))
+pub(crate) fn offer_until(expiry_height: u32) -> Step {
+    Step::Own(offer(1_000_000, expiry_height))
 }
 
 // The book offers an HTLC.
-fn offered(rt: &impl Abort, book: &mut Book, expiry: u32) -> Message {
-    let sent = book.step(0, 0, offer_until(expiry)).expect(rt, "an offer");
+fn offered(rt: &impl Abort, book: &mut Book, expiry_height: u32) -> Message {
+    let sent = book
+        .step(0, 0, offer_until(expiry_height))
+        .expect(rt, "an offer");
     sent.expect(rt, "a message")
 }
 
@@ -36,19 +38,9 @@ pub(crate) fn offering(rt: &impl Abort, alloc: Global) -> Book {
     book
 }
 
-/// What a revocation brings.
-#[derive(Clone, Copy)]
-pub(crate) struct Revocation {
-    pub(crate) secret: [u8; 32],
-    pub(crate) next_point: Key,
-}
-
 fn revocation_in(message: Option<Message>) -> Option<Revocation> {
     match message {
-        Some(Message::RevokeAndAck { secret, next_point }) => Some(Revocation {
-            secret,
-            next_point,
-        }),
+        Some(Message::RevokeAndAck(revocation)) => Some(revocation),
         _ => None,
     }
 }

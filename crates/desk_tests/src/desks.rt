@@ -3,13 +3,14 @@
 ghost use Rattle.std.specs.Prelude.{◌<◌, All};
 ghost use Rattle.desk.specs.Seats.{IsSeatOf};
 
-use crate::books::{Revocation, offer_until, offering};
+use crate::books::{offer_until, offering};
 use book::errors::SignError;
 use book::{Book, Call, Reply};
 use desk::{Desk, DeskError, Seat};
 use std::alloc::Global;
 use std::process::Abort;
 use std::sync::Wait;
+use updates::Revocation;
 
 /// Signs by one of two seats of a desk, and closes it. The message is to be sent once the book that comes back is kept.
 fn sign_at_desk<R: Wait>(
@@ -41,23 +42,16 @@ pub(crate) enum Row {
     ShutOut,
 }
 
-// The call that hands in a revocation.
-fn revocation_of(came: Revocation) -> Call {
-    let Revocation { secret, next_point } = came;
-    Call::Revoke {
-        channel: 0,
-        secret,
-        next_point,
-    }
-}
-
 fn call_of(row: Row) -> Call {
     match row {
-        Row::Offer(expiry) => Call::Step {
+        Row::Offer(expiry_height) => Call::Step {
             channel: 0,
-            step: offer_until(expiry),
+            step: offer_until(expiry_height),
         },
-        Row::Revoke(came) => revocation_of(came),
+        Row::Revoke(revocation) => Call::Revoke {
+            channel: 0,
+            revocation,
+        },
         Row::Close => Call::Close { channel: 0 },
         _ => Call::Sign { channel: 0 },
     }

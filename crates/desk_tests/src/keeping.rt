@@ -2,7 +2,7 @@
 
 ghost use Rattle.desk.specs.Seats.{IsSeatOf};
 
-use crate::books::{Revocation, awaited, opened};
+use crate::books::{awaited, opened};
 use crate::desks::{Row, calls, desk_over, next_seat};
 use desk::{Desk, Seat};
 use forms::patterns;
@@ -10,6 +10,7 @@ use penalty::penalties;
 use std::alloc::Global;
 use std::process::Abort;
 use std::sync::Wait;
+use updates::Revocation;
 
 // Builds and keeps the penalties of the first revoked commitment.
 fn keeps<R: Wait + Abort>(rt: &R, alloc: Global, desk: &Desk, seat: &mut Seat) -> bool

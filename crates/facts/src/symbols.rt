@@ -3,10 +3,10 @@
 ghost use Rattle.std.specs.Prelude.{◌≡◌, IfOk};
 
 use lists::{ByteString, List};
-use std::alloc::{AllocError, Global};
+use std::alloc::AllocError;
 
 /// Where a key comes from. `C` is the type of constant bytes.
-#[derive(Debug, Drop)]
+#[derive(Clone, Debug, Drop)]
 pub enum KeySourceOver<C> {
     /// The script pushes it.
     Const(C),
@@ -19,7 +19,7 @@ pub type KeySource = KeySourceOver<ByteString>;
 
 /// What can be asked of a witness and a spend. `C` is the type of constant bytes, `L` that of the number of an absolute lock, and `A` that of
 /// a relative lock's. Slots count from 0 at the top of the stack.
-#[derive(Debug, Drop)]
+#[derive(Clone, Debug, Drop)]
 pub enum FactOver<C, L, A> {
     /// HASH160 of the slot is these 20 bytes.
     Hash(usize, C),
@@ -57,7 +57,7 @@ pub struct StatedOver<C, L, A> {
 pub type Stated = StatedOver<ByteString, u64, u32>;
 
 /// An element of a symbolic stack.
-#[derive(Debug, Drop)]
+#[derive(Clone, Debug, Drop)]
 pub enum SymOver<C, L, A> {
     /// An item of the witness.
     Slot(usize),
@@ -74,15 +74,25 @@ pub enum SymOver<C, L, A> {
 /// An element of a symbolic stack.
 pub type Sym = SymOver<ByteString, u64, u32>;
 
+impl<C: Clone, L: Clone, A: Clone> Clone for StatedOver<C, L, A> {
+    // The copy is equal where clones of constants and of numbers are.
+    ghost is_clone = { λ s copy. ((x y : C) → C.is_clone x y → y ≡ x) →
+        ((x y : L) → L.is_clone x y → y ≡ x) → ((x y : A) → A.is_clone x y → y ≡ x) → copy ≡ s };
+
+    fn clone(&self) -> Result<Self, AllocError> {
+        Ok(StatedOver {
+            fact: self.fact.clone()?,
+            holds: self.holds,
+        })
+    }
+}
+
 impl KeySource {
     /// A copy. The only error is that memory ran out.
     pub fn copy(&self) -> Result<Self, AllocError>
         ensures { IfOk result (λ k. k ≡ self.now) }
     {
-        match self {
-            KeySource::Const(item) => Ok(KeySource::Const(item.copy()?)),
-            KeySource::Slot(i) => Ok(KeySource::Slot(*i)),
-        }
+        self.clone()
     }
 }
 
@@ -91,34 +101,8 @@ impl Fact {
     pub fn copy(&self) -> Result<Self, AllocError>
         ensures { IfOk result (λ f. f ≡ self.now) }
     {
-        match self {
-            Fact::Hash(i, hash) => Ok(Fact::Hash(*i, hash.copy()?)),
-            Fact::Size(i, n) => Ok(Fact::Size(*i, *n)),
-            Fact::Truth(i) => Ok(Fact::Truth(*i)),
-            Fact::Is(i, bytes) => Ok(Fact::Is(*i, bytes.copy()?)),
-            Fact::KeyForm(i) => Ok(Fact::KeyForm(*i)),
-            Fact::Form(i) => Ok(Fact::Form(*i)),
-            Fact::Token(i, key) => Ok(Fact::Token(*i, key.copy()?)),
-            Fact::Assigned(slots, keys) => {
-                let slots = List::from_vec(Vec::from_slice(slots.allocator(), slots.values())?);
-                let keys = List::from_vec(copied_keys(keys.allocator(), keys.values())?);
-                Ok(Fact::Assigned(slots, keys))
-            }
-            Fact::Lock(n) => Ok(Fact::Lock(*n)),
-            Fact::Age(n) => Ok(Fact::Age(*n)),
-        }
+        self.clone()
     }
-}
-
-// Copies of keys.
-fn copied_keys(alloc: Global, keys: &[KeySource]) -> Result<Vec<KeySource>, AllocError>
-    ensures { IfOk result (λ v. v.items ≡ keys.now) }
-{
-    let mut copies = Vec::new(alloc);
-    for key in keys {
-        copies.push(key.copy()?)?;
-    }
-    Ok(copies)
 }
 
 impl Stated {
@@ -126,10 +110,7 @@ impl Stated {
     pub fn copy(&self) -> Result<Self, AllocError>
         ensures { IfOk result (λ s. s ≡ self.now) }
     {
-        Ok(Stated {
-            fact: self.fact.copy()?,
-            holds: self.holds,
-        })
+        self.clone()
     }
 }
 
@@ -138,12 +119,6 @@ impl Sym {
     pub fn copy(&self) -> Result<Self, AllocError>
         ensures { IfOk result (λ s. s ≡ self.now) }
     {
-        match self {
-            Sym::Slot(i) => Ok(Sym::Slot(*i)),
-            Sym::Const(item) => Ok(Sym::Const(item.copy()?)),
-            Sym::HashOf(i) => Ok(Sym::HashOf(*i)),
-            Sym::SizeOf(i) => Ok(Sym::SizeOf(*i)),
-            Sym::Holds(fact) => Ok(Sym::Holds(fact.copy()?)),
-        }
+        self.clone()
     }
 }

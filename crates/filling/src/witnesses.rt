@@ -158,10 +158,8 @@ pub(crate) fn filled_inputs(
     let cache = SighashCache::new(tx);
     let mut inputs = Inputs::new(alloc);
     for (i, claim) in claims.iter().enumerate() {
-        match filled_input(alloc, &cache, i, claim, signer, preimages) {
-            Ok(input) => inputs.push_within_limit(input)?,
-            Err(refusal) => return Err(refusal),
-        }
+        let input = filled_input(alloc, &cache, i, claim, signer, preimages)?;
+        inputs.push_within_limit(input)?;
     }
     Ok(inputs)
 }

@@ -156,13 +156,13 @@ record IsRow (known : Option (List ℕ)) (slots : List Slot) (ways : List Path) 
   at : slice_get ways index ≡ Some path
   meets : IsMetBy known slots path
 
-penalty_row : (revocation : List ℕ) (delay : ℕ) (delayed : List ℕ) (w : WitnessItem) (k : Key) → w.item ≡ 1 ∷ [] → k.bytes ≡ revocation → IsRow None (Exact w ∷ Sig k ∷ []) (to_local_ways revocation delay delayed) 0
-penalty_row revocation delay delayed w k e f = let s = same_bytes revocation in record { path = _; at = refl; meets = record { arity = refl; free = refl; met = rw (e, f, s) refl } }
+penalty_row : (revocation : List ℕ) (delay_blocks : ℕ) (delayed : List ℕ) (w : WitnessItem) (k : Key) → w.item ≡ 1 ∷ [] → k.bytes ≡ revocation → IsRow None (Exact w ∷ Sig k ∷ []) (to_local_ways revocation delay_blocks delayed) 0
+penalty_row revocation delay_blocks delayed w k e f = let s = same_bytes revocation in record { path = _; at = refl; meets = record { arity = refl; free = refl; met = rw (e, f, s) refl } }
 
-delayed_row : (revocation : List ℕ) (delay : ℕ) (delayed : List ℕ) (w : WitnessItem) (k : Key) → delay < 2 ^ 16 → w.item ≡ [] → k.bytes ≡ delayed → IsRow None (Exact w ∷ Sig k ∷ []) (to_local_ways revocation delay delayed) 1
-delayed_row revocation delay delayed w k h e f =
+delayed_row : (revocation : List ℕ) (delay_blocks : ℕ) (delayed : List ℕ) (w : WitnessItem) (k : Key) → delay_blocks < 2 ^ 16 → w.item ≡ [] → k.bytes ≡ delayed → IsRow None (Exact w ∷ Sig k ∷ []) (to_local_ways revocation delay_blocks delayed) 1
+delayed_row revocation delay_blocks delayed w k h e f =
     let s = same_bytes delayed in
-    let b : bit_at 22 delay ≡ false = ne_eqb (delay / 2 ^ 22 % 2) 1 (λ x. omega arith) in
+    let b : bit_at 22 delay_blocks ≡ false = ne_eqb (delay_blocks / 2 ^ 22 % 2) 1 (λ x. omega arith) in
     record { path = _; at = refl; meets = record { arity = refl; free = refl; met = rw (e, b, f, s) refl } }
 
 offered_penalty_row : (revocation remote local payment_hash : List ℕ) (w : WitnessItem) (k : Key) → w.item ≡ revocation → k.bytes ≡ revocation → IsRow None (Exact w ∷ Sig k ∷ []) (offered_ways (hash160 revocation) remote local payment_hash) 0
@@ -170,8 +170,8 @@ offered_penalty_row revocation remote local payment_hash w k e f =
     let s = same_bytes (hash160 revocation) in let t = same_bytes revocation in let o : is_key revocation ≡ true = ap is_key (sym f) ∙ k.form in
     record { path = _; at = refl; meets = record { arity = refl; free = refl; met = rw (e, s, o, f, t) refl } }
 
-received_penalty_row : (revocation remote local payment_hash : List ℕ) (expiry : ℕ) (w : WitnessItem) (k : Key) → w.item ≡ revocation → k.bytes ≡ revocation → IsRow None (Exact w ∷ Sig k ∷ []) (received_ways (hash160 revocation) remote local payment_hash expiry) 0
-received_penalty_row revocation remote local payment_hash expiry w k e f =
+received_penalty_row : (revocation remote local payment_hash : List ℕ) (expiry_height : ℕ) (w : WitnessItem) (k : Key) → w.item ≡ revocation → k.bytes ≡ revocation → IsRow None (Exact w ∷ Sig k ∷ []) (received_ways (hash160 revocation) remote local payment_hash expiry_height) 0
+received_penalty_row revocation remote local payment_hash expiry_height w k e f =
     let s = same_bytes (hash160 revocation) in let t = same_bytes revocation in let o : is_key revocation ≡ true = ap is_key (sym f) ∙ k.form in
     record { path = _; at = refl; meets = record { arity = refl; free = refl; met = rw (e, s, o, f, t) refl } }
 
@@ -182,10 +182,10 @@ preimage_row revocation_hash remote local payment k n f =
     let s = same_bytes (ripemd160 payment) in let t = same_bytes remote in
     record { path = _; at = refl; meets = record { arity = refl; free = rw b refl; met = rw (a, s, f, t) refl } }
 
-timeout_row : (revocation_hash remote local payment_hash : List ℕ) (expiry : ℕ) (w : WitnessItem) (k : Key) → expiry < 500000000 → hash160 [] ≢ revocation_hash → w.item ≡ [] → k.bytes ≡ remote → IsRow None (Exact w ∷ Sig k ∷ []) (received_ways revocation_hash remote local payment_hash expiry) 2
-timeout_row revocation_hash remote local payment_hash expiry w k l n e f =
+timeout_row : (revocation_hash remote local payment_hash : List ℕ) (expiry_height : ℕ) (w : WitnessItem) (k : Key) → expiry_height < 500000000 → hash160 [] ≢ revocation_hash → w.item ≡ [] → k.bytes ≡ remote → IsRow None (Exact w ∷ Sig k ∷ []) (received_ways revocation_hash remote local payment_hash expiry_height) 2
+timeout_row revocation_hash remote local payment_hash expiry_height w k l n e f =
     let a = other_bytes (hash160 []) revocation_hash n in
-    let b = lt-ltb expiry 500000000 l in
+    let b = lt-ltb expiry_height 500000000 l in
     let t = same_bytes remote in
     record { path = _; at = refl; meets = record { arity = refl; free = refl; met = rw (e, a, b, f, t) refl } }
 
@@ -202,8 +202,8 @@ htlc_timeout_row revocation_hash remote local payment_hash digest v w u k d n e 
     let t = same_bytes local in
     record { path = _; at = refl; meets = record { arity = refl; free = refl; met = rw (e, a, g, i, h, s, f, t) refl } }
 
-htlc_success_row : (revocation_hash : List ℕ) (remote : Key) (local payment : List ℕ) (expiry : ℕ) (digest : List ℕ) (w u : WitnessItem) (k : Key) → length digest ≡ 32 → ripemd160 payment ≢ revocation_hash → k.bytes ≡ local → w.item ≡ token_of remote.bytes digest → u.item ≡ [] → IsRow (Some digest) (Preimage payment ∷ Sig k ∷ Exact w ∷ Exact u ∷ []) (received_ways revocation_hash remote.bytes local (ripemd160 payment) expiry) 1
-htlc_success_row revocation_hash remote local payment expiry digest w u k d n f g h =
+htlc_success_row : (revocation_hash : List ℕ) (remote : Key) (local payment : List ℕ) (expiry_height : ℕ) (digest : List ℕ) (w u : WitnessItem) (k : Key) → length digest ≡ 32 → ripemd160 payment ≢ revocation_hash → k.bytes ≡ local → w.item ≡ token_of remote.bytes digest → u.item ≡ [] → IsRow (Some digest) (Preimage payment ∷ Sig k ∷ Exact w ∷ Exact u ∷ []) (received_ways revocation_hash remote.bytes local (ripemd160 payment) expiry_height) 1
+htlc_success_row revocation_hash remote local payment expiry_height digest w u k d n f g h =
     let a = other_bytes (ripemd160 payment) revocation_hash n in
     let b : bytes_eq revocation_hash (ripemd160 payment) ≡ false = other_bytes revocation_hash (ripemd160 payment) (λ e. n (sym e)) in
     let p = same_bytes (ripemd160 payment) in
@@ -229,24 +229,24 @@ judged_fixed form index slots place t digest q d at prog stands r =
     judged_row form index slots place (Fixed t) q at prog stands (subst (λ known. IsRow known slots form.paths index) (sym d) r)
 
 accepted_on : (kind : ClaimKind) (form : CheckedScript) (index : ℕ) (place : Place) (shell : Shell) → Claims kind form index place shell → (slots : List Slot) → map filling_of slots ≡ fillings_of kind → (path : Path) → slice_get form.paths index ≡ Some path → is_program (spelling form.ops) place.program ≡ true → is_shell path place shell ≡ true → judgement_of form index slots place shell ≡ Ok path
-accepted_on kind form index place shell (of_penalty revocation delay delayed at) slots e path is prog stands =
+accepted_on kind form index place shell (of_penalty revocation delay_blocks delayed at) slots e path is prog stands =
     exact_two (λ s. judgement_of form index s place shell ≡ Ok path) slots (1 ∷ []) revocation.bytes e
-    (λ w k f g. judged_row form index (Exact w ∷ Sig k ∷ []) place shell path is prog stands (penalty_row revocation.bytes delay delayed w k f g))
-accepted_on kind form index place shell (of_delayed revocation delay key at h) slots e path is prog stands =
+    (λ w k f g. judged_row form index (Exact w ∷ Sig k ∷ []) place shell path is prog stands (penalty_row revocation.bytes delay_blocks delayed w k f g))
+accepted_on kind form index place shell (of_delayed revocation delay_blocks key at h) slots e path is prog stands =
     exact_two (λ s. judgement_of form index s place shell ≡ Ok path) slots [] key.bytes e
-    (λ w k f g. judged_row form index (Exact w ∷ Sig k ∷ []) place shell path is prog stands (delayed_row revocation delay key.bytes w k h f g))
+    (λ w k f g. judged_row form index (Exact w ∷ Sig k ∷ []) place shell path is prog stands (delayed_row revocation delay_blocks key.bytes w k h f g))
 accepted_on kind form index place shell (of_offered_penalty revocation remote local payment_hash at) slots e path is prog stands =
     exact_two (λ s. judgement_of form index s place shell ≡ Ok path) slots revocation.bytes revocation.bytes e
     (λ w k f g. judged_row form index (Exact w ∷ Sig k ∷ []) place shell path is prog stands (offered_penalty_row revocation.bytes remote local payment_hash w k f g))
-accepted_on kind form index place shell (of_received_penalty revocation remote local payment_hash expiry at) slots e path is prog stands =
+accepted_on kind form index place shell (of_received_penalty revocation remote local payment_hash expiry_height at) slots e path is prog stands =
     exact_two (λ s. judgement_of form index s place shell ≡ Ok path) slots revocation.bytes revocation.bytes e
-    (λ w k f g. judged_row form index (Exact w ∷ Sig k ∷ []) place shell path is prog stands (received_penalty_row revocation.bytes remote local payment_hash expiry w k f g))
+    (λ w k f g. judged_row form index (Exact w ∷ Sig k ∷ []) place shell path is prog stands (received_penalty_row revocation.bytes remote local payment_hash expiry_height w k f g))
 accepted_on kind form index place shell (of_preimage revocation_hash remote local payment at n) slots e path is prog stands =
     preimage_two (λ s. judgement_of form index s place shell ≡ Ok path) slots payment remote.bytes e
     (λ k g. judged_row form index (Preimage payment ∷ Sig k ∷ []) place shell path is prog stands (preimage_row revocation_hash remote.bytes local payment k n g))
-accepted_on kind form index place shell (of_timeout revocation_hash remote local payment_hash expiry at l n) slots e path is prog stands =
+accepted_on kind form index place shell (of_timeout revocation_hash remote local payment_hash expiry_height at l n) slots e path is prog stands =
     exact_two (λ s. judgement_of form index s place shell ≡ Ok path) slots [] remote.bytes e
-    (λ w k f g. judged_row form index (Exact w ∷ Sig k ∷ []) place shell path is prog stands (timeout_row revocation_hash remote.bytes local payment_hash expiry w k l n f g))
+    (λ w k f g. judged_row form index (Exact w ∷ Sig k ∷ []) place shell path is prog stands (timeout_row revocation_hash remote.bytes local payment_hash expiry_height w k l n f g))
 accepted_on kind form index place shell (of_key k at) slots e path is prog stands =
     exact_two (λ s. judgement_of form index s place shell ≡ Ok path) slots k.bytes k.bytes e
     (λ w s f g. judged_row form index (Exact w ∷ Sig s ∷ []) place shell path is prog stands (key_row k.bytes w s f g))
@@ -256,27 +256,27 @@ accepted_on kind form index place shell (of_htlc_timeout revocation_hash remote 
     subst (λ y. judgement_of form index (y ∷ Sig k ∷ Exact w ∷ Exact u ∷ []) place shell ≡ Ok path) (sym v.slot)
     (judged_fixed form index (Exact v.item ∷ Sig k ∷ Exact w ∷ Exact u ∷ []) place t digest path d is prog stands
     (htlc_timeout_row revocation_hash remote local.bytes payment_hash digest v.item w u k (digest_length t (spelling form.ops) place.value digest d) n v.bytes f g h)))
-accepted_on kind form index place shell (of_htlc_success revocation_hash remote local payment expiry at t digest n d) slots e path is prog stands =
+accepted_on kind form index place shell (of_htlc_success revocation_hash remote local payment expiry_height at t digest n d) slots e path is prog stands =
     both_below (λ s. judgement_of form index s place shell ≡ Ok path) slots (PreimageOf payment) local.bytes (token_of remote.bytes digest) e
     (λ x k w u a f g h.
     subst (λ y. judgement_of form index (y ∷ Sig k ∷ Exact w ∷ Exact u ∷ []) place shell ≡ Ok path) (sym (is_preimage x payment a))
     (judged_fixed form index (Preimage payment ∷ Sig k ∷ Exact w ∷ Exact u ∷ []) place t digest path d is prog stands
-    (htlc_success_row revocation_hash remote local.bytes payment expiry digest w u k (digest_length t (spelling form.ops) place.value digest d) n f g h)))
+    (htlc_success_row revocation_hash remote local.bytes payment expiry_height digest w u k (digest_length t (spelling form.ops) place.value digest d) n f g h)))
 
 pub accepted : (kind : ClaimKind) (slots : List Slot) → map filling_of slots ≡ fillings_of kind → AreAccepted kind slots
 accepted kind slots e = λ form index path place shell row at prog stands. accepted_on kind form index place shell row slots e path at prog stands
 
 -- a kind of claim takes one path
 pub one_path : (kind : ClaimKind) (form : CheckedScript) (index : ℕ) (place : Place) (shell : Shell) → Claims kind form index place shell → path_taken_by kind ≡ index
-one_path kind form index place shell (of_penalty revocation delay delayed at) = refl
-one_path kind form index place shell (of_delayed revocation delay key at h) = refl
+one_path kind form index place shell (of_penalty revocation delay_blocks delayed at) = refl
+one_path kind form index place shell (of_delayed revocation delay_blocks key at h) = refl
 one_path kind form index place shell (of_offered_penalty revocation remote local payment_hash at) = refl
-one_path kind form index place shell (of_received_penalty revocation remote local payment_hash expiry at) = refl
+one_path kind form index place shell (of_received_penalty revocation remote local payment_hash expiry_height at) = refl
 one_path kind form index place shell (of_preimage revocation_hash remote local payment at n) = refl
-one_path kind form index place shell (of_timeout revocation_hash remote local payment_hash expiry at l n) = refl
+one_path kind form index place shell (of_timeout revocation_hash remote local payment_hash expiry_height at l n) = refl
 one_path kind form index place shell (of_key k at) = refl
 one_path kind form index place shell (of_htlc_timeout revocation_hash remote local payment_hash at t digest n d) = refl
-one_path kind form index place shell (of_htlc_success revocation_hash remote local payment expiry at t digest n d) = refl
+one_path kind form index place shell (of_htlc_success revocation_hash remote local payment expiry_height at t digest n d) = refl
 
 -- a path that contradicts itself, or whose first fact is not met
 record IsRefusedBy (known : Option (List ℕ)) (slots : List Slot) (refusal : AcceptError) (p : Path) : Type 0 where
@@ -299,9 +299,9 @@ refused_row form index slots place shell q refusal same prog stands r =
     some_same : (p q : Path) → Some p ≡ Some q → p ≡ q
     some_same p q e = cc
 
-no_timeout_row : (known : Option (List ℕ)) (remote local payment_hash : List ℕ) (expiry : ℕ) (w : WitnessItem) (k : Key) → w.item ≡ [] → IsRefusedRow known (Exact w ∷ Sig k ∷ []) (Unmet (no (Hash 0 (hash160 [])))) (received_ways (hash160 []) remote local payment_hash expiry) 2
-no_timeout_row None remote local payment_hash expiry w k e = let s = same_bytes (hash160 []) in record { path = _; at = refl; refuses = record { arity = refl; refused = λ q. rw (e, s) refl } }
-no_timeout_row (Some d) remote local payment_hash expiry w k e = let s = same_bytes (hash160 []) in record { path = _; at = refl; refuses = record { arity = refl; refused = λ q. rw (e, s) refl } }
+no_timeout_row : (known : Option (List ℕ)) (remote local payment_hash : List ℕ) (expiry_height : ℕ) (w : WitnessItem) (k : Key) → w.item ≡ [] → IsRefusedRow known (Exact w ∷ Sig k ∷ []) (Unmet (no (Hash 0 (hash160 [])))) (received_ways (hash160 []) remote local payment_hash expiry_height) 2
+no_timeout_row None remote local payment_hash expiry_height w k e = let s = same_bytes (hash160 []) in record { path = _; at = refl; refuses = record { arity = refl; refused = λ q. rw (e, s) refl } }
+no_timeout_row (Some d) remote local payment_hash expiry_height w k e = let s = same_bytes (hash160 []) in record { path = _; at = refl; refuses = record { arity = refl; refused = λ q. rw (e, s) refl } }
 
 no_preimage_row : (known : Option (List ℕ)) (remote local payment : List ℕ) (x y : Slot) → IsRefusedRow known (x ∷ y ∷ []) Contradiction (offered_ways (ripemd160 payment) remote local (ripemd160 payment)) 2
 no_preimage_row known remote local payment x y = let s = same_bytes (ripemd160 payment) in record { path = _; at = refl; refuses = record { arity = refl; refused = λ q. rw s refl } }
@@ -310,13 +310,13 @@ no_htlc_timeout_row : (known : Option (List ℕ)) (remote local payment_hash : L
 no_htlc_timeout_row None remote local payment_hash v w u k e = let s = same_bytes (hash160 []) in record { path = _; at = refl; refuses = record { arity = refl; refused = λ q. rw (e, s) refl } }
 no_htlc_timeout_row (Some d) remote local payment_hash v w u k e = let s = same_bytes (hash160 []) in record { path = _; at = refl; refuses = record { arity = refl; refused = λ q. rw (e, s) refl } }
 
-no_htlc_success_row : (known : Option (List ℕ)) (remote local payment : List ℕ) (expiry : ℕ) (x y z w : Slot) → IsRefusedRow known (x ∷ y ∷ z ∷ w ∷ []) Contradiction (received_ways (ripemd160 payment) remote local (ripemd160 payment) expiry) 1
-no_htlc_success_row known remote local payment expiry x y z w = let s = same_bytes (ripemd160 payment) in record { path = _; at = refl; refuses = record { arity = refl; refused = λ q. rw s refl } }
+no_htlc_success_row : (known : Option (List ℕ)) (remote local payment : List ℕ) (expiry_height : ℕ) (x y z w : Slot) → IsRefusedRow known (x ∷ y ∷ z ∷ w ∷ []) Contradiction (received_ways (ripemd160 payment) remote local (ripemd160 payment) expiry_height) 1
+no_htlc_success_row known remote local payment expiry_height x y z w = let s = same_bytes (ripemd160 payment) in record { path = _; at = refl; refuses = record { arity = refl; refused = λ q. rw s refl } }
 
 refused_on : (kind : ClaimKind) (form : CheckedScript) (index : ℕ) (place : Place) (shell : Shell) (refusal : AcceptError) → Refused kind form index place shell refusal → (slots : List Slot) → map filling_of slots ≡ fillings_of kind → (path : Path) → slice_get form.paths index ≡ Some path → is_program (spelling form.ops) place.program ≡ true → is_shell path place shell ≡ true → judgement_of form index slots place shell ≡ Err refusal
-refused_on kind form index place shell refusal (no_timeout remote local payment_hash expiry at round) slots e path is prog stands =
+refused_on kind form index place shell refusal (no_timeout remote local payment_hash expiry_height at round) slots e path is prog stands =
     exact_two (λ s. judgement_of form index s place shell ≡ Err refusal) slots [] remote.bytes e
-    (λ w k f g. refused_row form index (Exact w ∷ Sig k ∷ []) place shell path refusal is prog stands (no_timeout_row (known_digest (spelling form.ops) place shell) remote.bytes local payment_hash expiry w k f))
+    (λ w k f g. refused_row form index (Exact w ∷ Sig k ∷ []) place shell path refusal is prog stands (no_timeout_row (known_digest (spelling form.ops) place shell) remote.bytes local payment_hash expiry_height w k f))
 refused_on kind form index place shell refusal (no_preimage remote local payment at round) slots e path is prog stands =
     preimage_two (λ s. judgement_of form index s place shell ≡ Err refusal) slots payment remote.bytes e
     (λ k g. refused_row form index (Preimage payment ∷ Sig k ∷ []) place shell path refusal is prog stands (no_preimage_row (known_digest (spelling form.ops) place shell) remote.bytes local payment (Preimage payment) (Sig k)))
@@ -325,10 +325,10 @@ refused_on kind form index place shell refusal (no_htlc_timeout remote local pay
     (λ x k w u a f g h. let v = is_bytes x [] a in
     subst (λ y. judgement_of form index (y ∷ Sig k ∷ Exact w ∷ Exact u ∷ []) place shell ≡ Err refusal) (sym v.slot)
     (refused_row form index (Exact v.item ∷ Sig k ∷ Exact w ∷ Exact u ∷ []) place shell path refusal is prog stands (no_htlc_timeout_row (known_digest (spelling form.ops) place shell) remote.bytes local.bytes payment_hash v.item w u k v.bytes)))
-refused_on kind form index place shell refusal (no_htlc_success remote local payment token expiry at round) slots e path is prog stands =
+refused_on kind form index place shell refusal (no_htlc_success remote local payment token expiry_height at round) slots e path is prog stands =
     both_below (λ s. judgement_of form index s place shell ≡ Err refusal) slots (PreimageOf payment) local.bytes token e
     (λ x k w u a f g h. refused_row form index (x ∷ Sig k ∷ Exact w ∷ Exact u ∷ []) place shell path refusal is prog stands
-    (no_htlc_success_row (known_digest (spelling form.ops) place shell) remote.bytes local.bytes payment expiry x (Sig k) (Exact w) (Exact u)))
+    (no_htlc_success_row (known_digest (spelling form.ops) place shell) remote.bytes local.bytes payment expiry_height x (Sig k) (Exact w) (Exact u)))
 
 pub refused : (kind : ClaimKind) (slots : List Slot) → map filling_of slots ≡ fillings_of kind → AreRefused kind slots
 refused kind slots e = λ form index path place shell refusal row at prog stands. refused_on kind form index place shell refusal row slots e path at prog stands

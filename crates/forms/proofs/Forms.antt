@@ -80,11 +80,11 @@ size_pushed = refl
 low : (n : ℕ) → n < LOCKTIME_THRESHOLD → nat_lt n LOCKTIME_THRESHOLD ≡ true
 low n h = lt-ltb n LOCKTIME_THRESHOLD h
 
-pub to_local_filled : (revocation : List ℕ) (delay : ℕ) (delayed : List ℕ) → delay < 2 ^ 16 → key revocation → key delayed → IsFilledTo to_local_pieces (Key revocation ∷ Num delay ∷ Key delayed ∷ []) (to_local_form revocation delay delayed)
+pub to_local_filled : (revocation : List ℕ) (delay_blocks : ℕ) (delayed : List ℕ) → delay_blocks < 2 ^ 16 → key revocation → key delayed → IsFilledTo to_local_pieces (Key revocation ∷ Num delay_blocks ∷ Key delayed ∷ []) (to_local_form revocation delay_blocks delayed)
 unfolding fits
-to_local_filled revocation delay delayed h k l = record {
-  ops = let n = low delay (omega arith) in let p = pushed_alike delay in rw (k, n, l, p) refl;
-  ways = to_local-listed revocation delay delayed h k l (key_length revocation k) (key_length delayed l);
+to_local_filled revocation delay_blocks delayed h k l = record {
+  ops = let n = low delay_blocks (omega arith) in let p = pushed_alike delay_blocks in rw (k, n, l, p) refl;
+  ways = to_local-listed revocation delay_blocks delayed h k l (key_length revocation k) (key_length delayed l);
 }
 
 key_hash_filled : (h : List ℕ) → hash h → IsFilledTo key_hash_pieces (Hash h ∷ []) (key_hash_form h)
@@ -98,11 +98,11 @@ offered_filled r remote local p m n k l = record {
   ways = offered-listed r remote local p k l (key_length remote k) (key_length local l) m n;
 }
 
-received_filled : (r remote local p : List ℕ) (expiry : ℕ) → hash r → hash p → key remote → key local → expiry < LOCKTIME_THRESHOLD → IsFilledTo received_pieces (Hash r ∷ Key remote ∷ Hash p ∷ Key local ∷ Num expiry ∷ []) (received_form r remote local p expiry)
+received_filled : (r remote local p : List ℕ) (expiry_height : ℕ) → hash r → hash p → key remote → key local → expiry_height < LOCKTIME_THRESHOLD → IsFilledTo received_pieces (Hash r ∷ Key remote ∷ Hash p ∷ Key local ∷ Num expiry_height ∷ []) (received_form r remote local p expiry_height)
 unfolding fits
-received_filled r remote local p expiry m n k l h = record {
-  ops = let s = size_pushed in let o = low expiry h in let q = pushed_alike expiry in rw (m, k, n, l, o, q, s) refl;
-  ways = received-listed r remote local p expiry (omega arith) k l (key_length remote k) (key_length local l) m n;
+received_filled r remote local p expiry_height m n k l h = record {
+  ops = let s = size_pushed in let o = low expiry_height h in let q = pushed_alike expiry_height in rw (m, k, n, l, o, q, s) refl;
+  ways = received-listed r remote local p expiry_height (omega arith) k l (key_length remote k) (key_length local l) m n;
 }
 
 -- the same of hashes that were computed
@@ -116,12 +116,12 @@ offered_at r revocation remote local p payment e f k l =
     subst (λ y. IsFilledTo offered_pieces (Hash (hash160 revocation) ∷ Key remote ∷ Key local ∷ Hash y ∷ []) form) (sym f) (
     offered_filled (hash160 revocation) remote local (ripemd160 payment) (length-ripemd160 _) (length-ripemd160 _) k l))
 
-pub received_at : (r revocation remote local p payment : List ℕ) (expiry : ℕ) → r ≡ hash160 revocation → p ≡ ripemd160 payment → key remote → key local → expiry < LOCKTIME_THRESHOLD → IsFilledTo received_pieces (Hash r ∷ Key remote ∷ Hash p ∷ Key local ∷ Num expiry ∷ []) (received_form (hash160 revocation) remote local (ripemd160 payment) expiry)
-received_at r revocation remote local p payment expiry e f k l h =
-    let form = received_form (hash160 revocation) remote local (ripemd160 payment) expiry in
-    subst (λ x. IsFilledTo received_pieces (Hash x ∷ Key remote ∷ Hash p ∷ Key local ∷ Num expiry ∷ []) form) (sym e) (
-    subst (λ y. IsFilledTo received_pieces (Hash (hash160 revocation) ∷ Key remote ∷ Hash y ∷ Key local ∷ Num expiry ∷ []) form) (sym f) (
-    received_filled (hash160 revocation) remote local (ripemd160 payment) expiry (length-ripemd160 _) (length-ripemd160 _) k l h))
+pub received_at : (r revocation remote local p payment : List ℕ) (expiry_height : ℕ) → r ≡ hash160 revocation → p ≡ ripemd160 payment → key remote → key local → expiry_height < LOCKTIME_THRESHOLD → IsFilledTo received_pieces (Hash r ∷ Key remote ∷ Hash p ∷ Key local ∷ Num expiry_height ∷ []) (received_form (hash160 revocation) remote local (ripemd160 payment) expiry_height)
+received_at r revocation remote local p payment expiry_height e f k l h =
+    let form = received_form (hash160 revocation) remote local (ripemd160 payment) expiry_height in
+    subst (λ x. IsFilledTo received_pieces (Hash x ∷ Key remote ∷ Hash p ∷ Key local ∷ Num expiry_height ∷ []) form) (sym e) (
+    subst (λ y. IsFilledTo received_pieces (Hash (hash160 revocation) ∷ Key remote ∷ Hash y ∷ Key local ∷ Num expiry_height ∷ []) form) (sym f) (
+    received_filled (hash160 revocation) remote local (ripemd160 payment) expiry_height (length-ripemd160 _) (length-ripemd160 _) k l h))
 
 -- each pattern's ways are listed
 pub two_of_two_is_listed : is_listed two_of_two_pieces ≡ true

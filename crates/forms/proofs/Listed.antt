@@ -48,16 +48,16 @@ not_above : (n : ℕ) → n ≤ 96 → ltb 96 n ≡ false
 not_above n h = le-ltb 96 n h
 
 -- a delay of 16 bits has only the bits of the lock
-pub to_local-listed : (revocation : List ℕ) (delay : ℕ) (delayed : List ℕ) → delay < 2 ^ 16 → is_key revocation ≡ true → is_key delayed ≡ true → length revocation ≡ 33 → length delayed ≡ 33 → listing (to_local revocation delay delayed) ≡ Ok (to_local_ways revocation delay delayed)
+pub to_local-listed : (revocation : List ℕ) (delay_blocks : ℕ) (delayed : List ℕ) → delay_blocks < 2 ^ 16 → is_key revocation ≡ true → is_key delayed ≡ true → length revocation ≡ 33 → length delayed ≡ 33 → listing (to_local revocation delay_blocks delayed) ≡ Ok (to_local_ways revocation delay_blocks delayed)
 unfolding to_local_by
-to_local-listed revocation delay delayed h k l m o =
-    let b31 : bit_at 31 delay ≡ false = ne_eqb (delay / 2 ^ 31 % 2) 1 (λ e. omega arith) in
-    let b22 : bit_at 22 delay ≡ false = ne_eqb (delay / 2 ^ 22 % 2) 1 (λ e. omega arith) in
-    let md : delay % 65536 ≡ delay = omega arith in
-    let ms : age_bits delay ≡ delay = omega arith in
-    by_push (λ op. listing (to_local_by op revocation delayed) ≡ Ok (to_local_ways revocation delay delayed)) delay (omega arith)
-    (λ b s nb. to_local-item revocation delayed b delay k l m o (not_above (length b) (omega arith)) nb b31 ms b22 md)
-    (λ p q nb. to_local-number revocation delayed delay k l m o (not_above (80 + delay) (omega arith)) nb b31 ms b22 md)
+to_local-listed revocation delay_blocks delayed h k l m o =
+    let b31 : bit_at 31 delay_blocks ≡ false = ne_eqb (delay_blocks / 2 ^ 31 % 2) 1 (λ e. omega arith) in
+    let b22 : bit_at 22 delay_blocks ≡ false = ne_eqb (delay_blocks / 2 ^ 22 % 2) 1 (λ e. omega arith) in
+    let md : delay_blocks % 65536 ≡ delay_blocks = omega arith in
+    let ms : age_bits delay_blocks ≡ delay_blocks = omega arith in
+    by_push (λ op. listing (to_local_by op revocation delayed) ≡ Ok (to_local_ways revocation delay_blocks delayed)) delay_blocks (omega arith)
+    (λ b s nb. to_local-item revocation delayed b delay_blocks k l m o (not_above (length b) (omega arith)) nb b31 ms b22 md)
+    (λ p q nb. to_local-number revocation delayed delay_blocks k l m o (not_above (80 + delay_blocks) (omega arith)) nb b31 ms b22 md)
 
 received_by : (o : Op) (revocation_hash remote local payment_hash : List ℕ) → List Op
 received_by o revocation_hash remote local payment_hash =
@@ -76,9 +76,9 @@ received-number : (revocation_hash remote local payment_hash : List ℕ) (n : �
 unfolding listing rule_of check_multi_sig number_of minimal_bytes_of digits number_push received_by
 received-number revocation_hash remote local payment_hash n k l m o r p lb nb = rw (m, o, r, p, lb, k, l, nb, k) refl
 
-pub received-listed : (revocation_hash remote local payment_hash : List ℕ) (expiry : ℕ) → expiry < 2 ^ 32 → is_key remote ≡ true → is_key local ≡ true → length remote ≡ 33 → length local ≡ 33 → length revocation_hash ≡ 20 → length payment_hash ≡ 20 → listing (received revocation_hash remote local payment_hash expiry) ≡ Ok (received_ways revocation_hash remote local payment_hash expiry)
+pub received-listed : (revocation_hash remote local payment_hash : List ℕ) (expiry_height : ℕ) → expiry_height < 2 ^ 32 → is_key remote ≡ true → is_key local ≡ true → length remote ≡ 33 → length local ≡ 33 → length revocation_hash ≡ 20 → length payment_hash ≡ 20 → listing (received revocation_hash remote local payment_hash expiry_height) ≡ Ok (received_ways revocation_hash remote local payment_hash expiry_height)
 unfolding received_by
-received-listed revocation_hash remote local payment_hash expiry h k l m o r p =
-    by_push (λ op. listing (received_by op revocation_hash remote local payment_hash) ≡ Ok (received_ways revocation_hash remote local payment_hash expiry)) expiry h
-    (λ b s nb. received-item revocation_hash remote local payment_hash b expiry k l m o r p (not_above (length b) (omega arith)) nb)
-    (λ a b nb. received-number revocation_hash remote local payment_hash expiry k l m o r p (not_above (80 + expiry) (omega arith)) nb)
+received-listed revocation_hash remote local payment_hash expiry_height h k l m o r p =
+    by_push (λ op. listing (received_by op revocation_hash remote local payment_hash) ≡ Ok (received_ways revocation_hash remote local payment_hash expiry_height)) expiry_height h
+    (λ b s nb. received-item revocation_hash remote local payment_hash b expiry_height k l m o r p (not_above (length b) (omega arith)) nb)
+    (λ a b nb. received-number revocation_hash remote local payment_hash expiry_height k l m o r p (not_above (80 + expiry_height) (omega arith)) nb)

@@ -13,9 +13,9 @@ two_of_two_form first second = record { ops = two_of_two first second; paths = t
 abbrev pub funding_form : List ℕ → List ℕ → CheckedScript
 funding_form key other = record { ops = funding key other; paths = funding_ways key other }
 
-abbrev pub to_local_form : (revocation : List ℕ) (delay : ℕ) (delayed : List ℕ) → CheckedScript
-to_local_form key delay delayed =
-    record { ops = to_local key delay delayed; paths = to_local_ways key delay delayed }
+abbrev pub to_local_form : (revocation : List ℕ) (delay_blocks : ℕ) (delayed : List ℕ) → CheckedScript
+to_local_form key delay_blocks delayed =
+    record { ops = to_local key delay_blocks delayed; paths = to_local_ways key delay_blocks delayed }
 
 abbrev pub key_hash_form : List ℕ → CheckedScript
 key_hash_form hash = record { ops = key_hash hash; paths = key_hash_ways hash }
@@ -25,7 +25,7 @@ abbrev pub offered_form : (revocation remote local payment : List ℕ) → Check
 offered_form h remote local p =
     record { ops = offered h remote local p; paths = offered_ways h remote local p }
 
-abbrev pub received_form : (revocation remote local payment : List ℕ) (expiry : ℕ) → CheckedScript
+abbrev pub received_form : (revocation remote local payment : List ℕ) (expiry_height : ℕ) → CheckedScript
 received_form h remote local p t =
     record { ops = received h remote local p t; paths = received_ways h remote local p t }
 
@@ -35,4 +35,4 @@ abbrev pub offered_htlc : HtlcKeys → List ℕ → CheckedScript
 offered_htlc keys payment_hash = offered_form (hash160 keys.revocation.bytes) keys.remote.bytes keys.local.bytes (ripemd160 payment_hash)
 
 abbrev pub received_htlc : HtlcKeys → List ℕ → ℕ → CheckedScript
-received_htlc keys payment_hash expiry = received_form (hash160 keys.revocation.bytes) keys.remote.bytes keys.local.bytes (ripemd160 payment_hash) expiry
+received_htlc keys payment_hash expiry_height = received_form (hash160 keys.revocation.bytes) keys.remote.bytes keys.local.bytes (ripemd160 payment_hash) expiry_height

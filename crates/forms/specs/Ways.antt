@@ -49,9 +49,9 @@ abbrev pub takes_neither : List ℕ → List Stated → List Stated
 takes_neither h facts = no (HashIs 0 h) ∷ no (SizeIs 0 32) ∷ facts
 
 -- the way of the revocation key, and that of the delayed key
-abbrev pub to_local_ways : (revocation : List ℕ) (delay : ℕ) (delayed : List ℕ) → List Path
-to_local_ways revocation delay delayed = way 2 (yes (Truth 0) ∷ key_signs revocation) 6 2
-    ∷ path_with 2 (no (Truth 0) ∷ yes (Age delay) ∷ key_signs delayed) 6 2 None (Some delay) ∷ []
+abbrev pub to_local_ways : (revocation : List ℕ) (delay_blocks : ℕ) (delayed : List ℕ) → List Path
+to_local_ways revocation delay_blocks delayed = way 2 (yes (Truth 0) ∷ key_signs revocation) 6 2
+    ∷ path_with 2 (no (Truth 0) ∷ yes (Age delay_blocks) ∷ key_signs delayed) 6 2 None (Some delay_blocks) ∷ []
 
 -- the one way through a key hash
 abbrev pub key_hash_ways : List ℕ → List Path
@@ -65,7 +65,7 @@ offered_ways h remote local p =
     ∷ way 2 (takes_preimage h p (key_signs remote)) 19 5 ∷ []
 
 -- the revocation key's way, the success with both keys and the preimage, and the remote key's way from a height on
-abbrev pub received_ways : (revocation remote local payment : List ℕ) (expiry : ℕ) → List Path
+abbrev pub received_ways : (revocation remote local payment : List ℕ) (expiry_height : ℕ) → List Path
 received_ways h remote local p t =
     key_way h 21
     ∷ way 4 (takes_preimage h p (both_sign remote local)) 23 7

@@ -43,19 +43,19 @@ pub fn funding(
 }
 
 /// The script of a commitment's to_local output, and of the output of an HTLC transaction (BOLT 3): the revocation key, or the delayed key
-/// after `delay` blocks. Its paths are these two, in this order. The only error is that memory ran out.
+/// after `delay_blocks` blocks. Its paths are these two, in this order. The only error is that memory ran out.
 pub fn to_local(
     alloc: Global,
     patterns: &Patterns,
     revocation: &Key,
-    delay: u16,
+    delay_blocks: u16,
     delayed: &Key,
 ) -> Result<Checked, AllocError>
-    ensures { IfOk result (λ c. c ≡ to_local_form revocation.now.bytes delay delayed.now.bytes) }
+    ensures { IfOk result (λ c. c ≡ to_local_form revocation.now.bytes delay_blocks delayed.now.bytes) }
 {
     let fills = [
         Fill::Key(revocation.bytes),
-        Fill::Num(delay as u32),
+        Fill::Num(delay_blocks as u32),
         Fill::Key(delayed.bytes),
     ];
     instance_of(alloc, &patterns.to_local, &fills)

@@ -4,7 +4,7 @@
 //! (`IsRead`). So both accept the same texts, and a value looks the same from both. What differs is memory: `serde_json` keeps the members of an object in a B-tree, 800 bytes for its first one, and
 //! here they are a list of exactly as many members.
 //!
-//! `texts` reads plain forms from values, for `scenario` and `book`. The tokens come from the toolchain's `json`, and a number is `serde_json`'s. The reader and its proof follow those of that library
+//! `texts` reads plain forms from values, for `scenario` and `book_dump`. The tokens come from the toolchain's `json`, and a number is `serde_json`'s. The reader and its proof follow those of that library
 //! (MIT or Apache-2.0).
 //!
 //! ```rust

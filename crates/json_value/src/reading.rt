@@ -48,10 +48,7 @@ fn read_all(alloc: Global, text: &str, scratch: &mut Scratch) -> Result<Value, R
         Ok(reader) => reader,
         Err(_) => return Err(ReadError::NoMemory),
     };
-    let value = match read(alloc, &mut reader, MAX_DEPTH) {
-        Ok(value) => value,
-        Err(error) => return Err(error),
-    };
+    let value = read(alloc, &mut reader, MAX_DEPTH)?;
     if reader.next().is_some() {
         return Err(ReadError::NotJson);
     }

@@ -57,18 +57,17 @@ fn close<W: Write>(alloc: Global, book: &mut Book, store: &mut W) -> Result<u64>
 /// Takes a message of the peer; the answer is to be sent once it is kept.
 fn take(book: &mut Book, message: Message) -> Result<Option<Message>, StepError> {
     match message {
-        Message::Updated(update) => book.step(SEAT, 0, Step::Updated(update)),
-        Message::CommitmentSigned(tokens) => book.step(SEAT, 0, Step::Signed(tokens)),
-        Message::RevokeAndAck { secret, next_point } => {
-            let _number = book.revoke(SEAT, 0, secret, next_point)?;
+        Message::Step(step) => book.step(SEAT, 0, Step::Peer(step)),
+        Message::RevokeAndAck(revocation) => {
+            let _number = book.revoke(SEAT, 0, revocation)?;
             Ok(None)
         }
     }
 }
 
 // A's book offers an HTLC.
-fn offered(rt: &impl Abort, a: &mut Book, expiry: u32) -> Message {
-    let step = Step::Own(offer(1_000_000, expiry));
+fn offered(rt: &impl Abort, a: &mut Book, expiry_height: u32) -> Message {
+    let step = Step::Own(offer(1_000_000, expiry_height));
     let sent = a.step(SEAT, 0, step).expect(rt, "an offer");
     sent.expect(rt, "a message")
 }

@@ -10,11 +10,11 @@ use updates::ChannelError;
 /// Offers an HTLC, and signs the peer's next commitment with it. Both messages are to be sent, the offer first.
 fn offer_and_sign(
     channel: &mut Channel,
-    amount: u64,
+    amount_msat: u64,
     hash: [u8; 32],
-    expiry: u32,
+    expiry_height: u32,
 ) -> Result<(Message, Message), ChannelError> {
-    let offer = channel.offer(amount, hash, expiry)?;
+    let offer = channel.offer(amount_msat, hash, expiry_height)?;
     let signature = channel.signed()?;
     Ok((offer, signature))
 }

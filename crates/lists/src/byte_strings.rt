@@ -21,6 +21,16 @@ impl Model for ByteString {
     ghost view = { λ b. b.bytes.items };
 }
 
+impl Clone for ByteString {
+    ghost is_clone = { λ b copy. copy ≡ b };
+
+    fn clone(&self) -> Result<Self, AllocError> {
+        Ok(ByteString {
+            bytes: self.bytes.clone()?,
+        })
+    }
+}
+
 impl ByteString {
     /// The empty string, which takes no memory.
     pub fn new(alloc: Global) -> Self
@@ -79,9 +89,7 @@ impl ByteString {
     pub fn copy(&self) -> Result<Self, AllocError>
         ensures { IfOk result (λ b. b ≡ self.now) }
     {
-        Ok(ByteString {
-            bytes: self.bytes.clone()?,
-        })
+        self.clone()
     }
 
     /// Whether two strings have the same bytes.

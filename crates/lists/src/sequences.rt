@@ -19,6 +19,18 @@ impl<T> Model for List<T> {
     ghost view = { λ l. l.items.items };
 }
 
+impl<T: Clone> Clone for List<T> {
+    ghost use Rattle.std.specs.List.{AllZip};
+
+    ghost is_clone = { λ l copy. AllZip T.is_clone l copy };
+
+    fn clone(&self) -> Result<Self, AllocError> {
+        Ok(List {
+            items: self.items.clone()?,
+        })
+    }
+}
+
 impl<T: Drop> List<T> {
     /// The empty list, which takes no memory.
     pub fn new(alloc: Global) -> Self

@@ -1,5 +1,5 @@
 -- What a worker does with the jobs that it takes.
-use Rattle.std.specs.Prelude.{◌≡◌, ℕ, ◌+◌, ◌^◌, List, [], ◌∷◌, ◌++◌, length, Option, Some, None}
+use Rattle.std.specs.Prelude.{◌≡◌, ℕ, ◌^◌, List, [], ◌∷◌, ◌++◌, length, Option, Some, None}
 use Rattle.std.specs.List.{flat_map}
 use Rattle.keys.specs.declared.compressed.Key.{Key}
 use Rattle.board.specs.declared.rule.SeatView.{SeatView}

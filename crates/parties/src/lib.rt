@@ -61,53 +61,58 @@ pub fn one_key(key: Key) -> BaseKeys
 
 /// A side with these base keys and this starting balance in millisatoshis. It has a dust limit of 546 satoshis, a delay of 144 blocks, and takes HTLCs of at
 /// least 1,000 millisatoshis.
-pub fn party_with(bases: BaseKeys, start: u64) -> Party
+pub fn party_with(bases: BaseKeys, start_msat: u64) -> Party
     ensures { result ≡ record {
-      dust = 546;
-      delay = 144;
-      minimum = 1000;
-      start = start;
+      dust_sat = 546;
+      delay_blocks = 144;
+      minimum_msat = 1000;
+      start_msat = start_msat;
       bases = bases;
     } }
 {
     Party {
-        dust: 546,
-        delay: 144,
-        minimum: 1000,
-        start,
+        dust_sat: 546,
+        delay_blocks: 144,
+        minimum_msat: 1000,
+        start_msat,
         bases,
     }
 }
 
 /// A side with its signer's base keys and this starting balance in millisatoshis.
-pub fn party(signer: &Signer, start: u64) -> Party
+pub fn party(signer: &Signer, start_msat: u64) -> Party
     ensures { IsSeedOf signer.now.seed result.bases }
 {
-    party_with(BaseKeys::of(signer), start)
+    party_with(BaseKeys::of(signer), start_msat)
 }
 
 /// The terms of a channel that A opened with this capacity in satoshis, at 1,000 satoshis per 1,000 units of weight.
-pub fn terms_of(funding: OutPoint, capacity: u64, a: Party, b: Party) -> Result<Terms, TermsError>
+pub fn terms_of(
+    funding: OutPoint,
+    capacity_sat: u64,
+    a: Party,
+    b: Party,
+) -> Result<Terms, TermsError>
     ensures a { IfOk result (λ t. t.a ≡ a) }
     ensures b { IfOk result (λ t. t.b ≡ b) }
 {
-    Terms::new(funding, capacity, Side::A, 1000, a, b)
+    Terms::new(funding, capacity_sat, Side::A, 1000, a, b)
 }
 
 /// An HTLC whose payment hash is 32 equal bytes.
-pub fn htlc(id: u64, amount: u64, fill: u8, expiry: u32) -> Htlc {
+pub fn htlc(id: u64, amount_msat: u64, fill: u8, expiry_height: u32) -> Htlc {
     Htlc {
         id,
-        amount,
+        amount_msat,
         hash: [fill; 32],
-        expiry,
+        expiry_height,
     }
 }
 
 // What a view gives to a side: this balance in millisatoshis, and the HTLCs that it offered.
-fn share(alloc: Global, balance: u64, htlcs: &[Htlc]) -> Result<Share, AllocError> {
+fn share(alloc: Global, balance_msat: u64, htlcs: &[Htlc]) -> Result<Share, AllocError> {
     Ok(Share {
-        balance,
+        balance_msat,
         offered: List::from_vec(Vec::from_slice(alloc, htlcs)?),
     })
 }
@@ -115,15 +120,15 @@ fn share(alloc: Global, balance: u64, htlcs: &[Htlc]) -> Result<Share, AllocErro
 /// A view with these balances of A and of B in millisatoshis, and the HTLCs that each offered, at 1,000 satoshis per 1,000 units of weight.
 pub fn view(
     alloc: Global,
-    balances: [u64; 2],
+    balances_msat: [u64; 2],
     of_a: &[Htlc],
     of_b: &[Htlc],
 ) -> Result<View, AllocError> {
-    let a = share(alloc, balances[0], of_a)?;
-    let b = share(alloc, balances[1], of_b)?;
+    let a = share(alloc, balances_msat[0], of_a)?;
+    let b = share(alloc, balances_msat[1], of_b)?;
     Ok(View {
         a,
         b,
-        feerate: 1000,
+        feerate_per_kw: 1000,
     })
 }

@@ -8,7 +8,7 @@ ghost use Rattle.script.specs.Number.{number_of};
 
 use crate::state::Halt;
 use facts::{FactOver, KeySourceOver, StatedOver, SymOver};
-use lists::{ByteString, List};
+use lists::ByteString;
 use script::limits::MAX_SCRIPT_ELEMENT_SIZE;
 use script::num;
 use script::num::Limit;
@@ -28,7 +28,7 @@ pub enum HoleKind {
 }
 
 /// Bytes that a script pushes.
-#[derive(Debug, Drop)]
+#[derive(Clone, Debug, Drop)]
 pub enum Constant {
     /// These bytes.
     Known(ByteString),
@@ -37,7 +37,7 @@ pub enum Constant {
 }
 
 /// The number of a lock.
-#[derive(Debug, Drop)]
+#[derive(Clone, Debug, Drop)]
 pub enum Amount<N> {
     /// This number.
     Known(N),
@@ -71,10 +71,7 @@ impl Constant {
     pub fn copy(&self) -> Result<Self, AllocError>
         ensures { IfOk result (λ c. c ≡ self.now) }
     {
-        match self {
-            Constant::Known(item) => Ok(Constant::Known(item.copy()?)),
-            Constant::Hole(kind, at) => Ok(Constant::Hole(*kind, *at)),
-        }
+        self.clone()
     }
 
     /// Its length in bytes, as a script number.
@@ -280,57 +277,11 @@ fn count(bytes: &ByteString, limit: usize) -> Result<usize, Halt>
     }
 }
 
-/// A copy of a number.
-pub fn copied_amount<N: Copy>(amount: &Amount<N>) -> Amount<N>
-    ensures { result ≡ amount.now }
-{
-    match amount {
-        Amount::Known(n) => Amount::Known(*n),
-        Amount::Hole(at) => Amount::Hole(*at),
-    }
-}
-
-/// A copy of a key. The only error is that memory ran out.
-pub fn copied_key(key: &KeySource) -> Result<KeySource, AllocError>
-    ensures { IfOk result (λ k. k ≡ key.now) }
-{
-    match key {
-        KeySource::Const(constant) => Ok(KeySource::Const(constant.copy()?)),
-        KeySource::Slot(i) => Ok(KeySource::Slot(*i)),
-    }
-}
-
-// Copies of keys.
-fn copied_keys(alloc: Global, keys: &[KeySource]) -> Result<Vec<KeySource>, AllocError>
-    ensures { IfOk result (λ v. v.items ≡ keys.now) }
-{
-    let mut copies = Vec::new(alloc);
-    for key in keys {
-        copies.push(copied_key(key)?)?;
-    }
-    Ok(copies)
-}
-
 /// A copy of a fact. The only error is that memory ran out.
 pub fn copied_fact(fact: &Fact) -> Result<Fact, AllocError>
     ensures { IfOk result (λ f. f ≡ fact.now) }
 {
-    match fact {
-        Fact::Hash(i, hash) => Ok(Fact::Hash(*i, hash.copy()?)),
-        Fact::Size(i, n) => Ok(Fact::Size(*i, *n)),
-        Fact::Truth(i) => Ok(Fact::Truth(*i)),
-        Fact::Is(i, bytes) => Ok(Fact::Is(*i, bytes.copy()?)),
-        Fact::KeyForm(i) => Ok(Fact::KeyForm(*i)),
-        Fact::Form(i) => Ok(Fact::Form(*i)),
-        Fact::Token(i, key) => Ok(Fact::Token(*i, copied_key(key)?)),
-        Fact::Assigned(slots, keys) => {
-            let slots = List::from_vec(Vec::from_slice(slots.allocator(), slots.values())?);
-            let keys = List::from_vec(copied_keys(keys.allocator(), keys.values())?);
-            Ok(Fact::Assigned(slots, keys))
-        }
-        Fact::Lock(n) => Ok(Fact::Lock(copied_amount(n))),
-        Fact::Age(n) => Ok(Fact::Age(copied_amount(n))),
-    }
+    fact.clone()
 }
 
 /// A copy of a stated fact. The only error is that memory ran out.
@@ -347,11 +298,5 @@ pub fn copied_stated(stated: &Stated) -> Result<Stated, AllocError>
 pub fn copied_sym(sym: &Sym) -> Result<Sym, AllocError>
     ensures { IfOk result (λ s. s ≡ sym.now) }
 {
-    match sym {
-        Sym::Slot(i) => Ok(Sym::Slot(*i)),
-        Sym::Const(constant) => Ok(Sym::Const(constant.copy()?)),
-        Sym::HashOf(i) => Ok(Sym::HashOf(*i)),
-        Sym::SizeOf(i) => Ok(Sym::SizeOf(*i)),
-        Sym::Holds(fact) => Ok(Sym::Holds(copied_fact(fact)?)),
-    }
+    sym.clone()
 }

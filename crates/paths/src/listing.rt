@@ -12,7 +12,6 @@ ghost use Rattle.script.specs.Run.{counted_in as counted_of};
 
 use crate::balance::is_balanced;
 use crate::constants::HoleKind;
-use crate::copies::copied_paths;
 use crate::errors::CheckError;
 use crate::filling::filled_paths;
 use crate::state::{Path, PatternPath};
@@ -107,10 +106,9 @@ impl Checked {
     pub fn copy(&self) -> Result<Self, AllocError>
         ensures { IfOk result (λ c. c ≡ self.now) }
     {
-        let paths = copied_paths(self.paths.allocator(), self.paths.values())?;
         Ok(Checked {
             script: self.script.copy()?,
-            paths: List::from_vec(paths),
+            paths: self.paths.clone()?,
         })
     }
 }

@@ -151,7 +151,7 @@ pub struct Path {
     pub ops: usize,
     /// The greatest number of elements of a run, at most 1,000.
     pub height: usize,
-    /// The greatest absolute lock that the run checks (BIP 65).
+    /// The greatest absolute lock that the run checks (BIP 65): a height below 500,000,000, else a time in seconds.
     pub lock: Option<u64>,
     /// The greatest relative lock in blocks that the run checks (BIP 68, 112).
     pub age: Option<u16>,

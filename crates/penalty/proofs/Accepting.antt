@@ -61,38 +61,38 @@ is_claim kind checked index slots place shell c i f a = record {
     exactly m fs n gs e g = rw (e, g) refl
 
 -- the claims on the forms
-pub claims_to_local : (revocation : Key) (delay : ℕ) (delayed : List ℕ) (checked : CheckedScript) (place : Place) → checked ≡ to_local_form revocation.bytes delay delayed → Claims (Penalty revocation) checked 0 place Open
-claims_to_local revocation delay delayed checked place e = subst (λ x. Claims (Penalty revocation) x 0 place Open) (sym e) (of_penalty revocation delay delayed place)
+pub claims_to_local : (revocation : Key) (delay_blocks : ℕ) (delayed : List ℕ) (checked : CheckedScript) (place : Place) → checked ≡ to_local_form revocation.bytes delay_blocks delayed → Claims (Penalty revocation) checked 0 place Open
+claims_to_local revocation delay_blocks delayed checked place e = subst (λ x. Claims (Penalty revocation) x 0 place Open) (sym e) (of_penalty revocation delay_blocks delayed place)
 
 pub claims_key : (key : Key) (checked : CheckedScript) (place : Place) → checked ≡ key_hash_form (hash160 key.bytes) → Claims (KeyHash key) checked 0 place Open
 claims_key key checked place e = subst (λ x. Claims (KeyHash key) x 0 place Open) (sym e) (of_key key place)
 
 pub claims_htlc : (k : CommitmentKeys) (direction : Direction) (h : Htlc) (checked : CheckedScript) (place : Place) → checked ≡ htlc_form (bytes_of k) direction h → Claims (HtlcPenalty k.revocation) checked 0 place Open
 claims_htlc k Offered h checked place e = subst (λ x. Claims (HtlcPenalty k.revocation) x 0 place Open) (sym e) (of_offered_penalty k.revocation k.remote_htlc.bytes k.local_htlc.bytes (ripemd160 h.hash) place)
-claims_htlc k Received h checked place e = subst (λ x. Claims (HtlcPenalty k.revocation) x 0 place Open) (sym e) (of_received_penalty k.revocation k.remote_htlc.bytes k.local_htlc.bytes (ripemd160 h.hash) h.expiry place)
+claims_htlc k Received h checked place e = subst (λ x. Claims (HtlcPenalty k.revocation) x 0 place Open) (sym e) (of_received_penalty k.revocation k.remote_htlc.bytes k.local_htlc.bytes (ripemd160 h.hash) h.expiry_height place)
 
 -- each has its path, round which any transaction may stand
 pub open_way : (kind : ClaimKind) (checked : CheckedScript) (index : ℕ) (place : Place) → Claims kind checked index place Open → HasWay checked index place Open
-open_way kind checked index place (of_penalty revocation delay delayed p) = (_, refl, refl)
-open_way kind checked index place (of_delayed revocation delay delayed p few) = (_, refl, refl)
+open_way kind checked index place (of_penalty revocation delay_blocks delayed p) = (_, refl, refl)
+open_way kind checked index place (of_delayed revocation delay_blocks delayed p few) = (_, refl, refl)
 open_way kind checked index place (of_offered_penalty revocation remote local payment_hash p) = (_, refl, refl)
-open_way kind checked index place (of_received_penalty revocation remote local payment_hash expiry p) = (_, refl, refl)
+open_way kind checked index place (of_received_penalty revocation remote local payment_hash expiry_height p) = (_, refl, refl)
 open_way kind checked index place (of_preimage revocation_hash remote local payment_hash p d) = (_, refl, refl)
-open_way kind checked index place (of_timeout revocation_hash remote local payment_hash expiry p low d) = (_, refl, refl)
+open_way kind checked index place (of_timeout revocation_hash remote local payment_hash expiry_height p low d) = (_, refl, refl)
 open_way kind checked index place (of_key key p) = (_, refl, refl)
 
 -- by the keys of the commitment
-pub as_to_local : (c : Contents) (k : CommitmentKeys) (delay : ℕ) (checked : CheckedScript) → bytes_of k ≡ c.keys → delay ≡ c.delay → checked ≡ to_local_form k.revocation.bytes delay k.delayed.bytes
-    → checked ≡ to_local_form c.keys.revocation c.delay c.keys.delayed
-as_to_local c k delay checked e d f = f ∙ ap (λ n. to_local_form k.revocation.bytes n k.delayed.bytes) d ∙ ap (λ (b : KeyBytes). to_local_form b.revocation c.delay b.delayed) e
+pub as_to_local : (c : Contents) (k : CommitmentKeys) (delay_blocks : ℕ) (checked : CheckedScript) → bytes_of k ≡ c.keys → delay_blocks ≡ c.delay_blocks → checked ≡ to_local_form k.revocation.bytes delay_blocks k.delayed.bytes
+    → checked ≡ to_local_form c.keys.revocation c.delay_blocks c.keys.delayed
+as_to_local c k delay_blocks checked e d f = f ∙ ap (λ n. to_local_form k.revocation.bytes n k.delayed.bytes) d ∙ ap (λ (b : KeyBytes). to_local_form b.revocation c.delay_blocks b.delayed) e
 
-pub as_penalty : (c : Contents) (k : CommitmentKeys) (delay : ℕ) (checked : CheckedScript) (place : Place) (claim : ClaimParts) → bytes_of k ≡ c.keys → delay ≡ c.delay
-    → checked ≡ to_local_form k.revocation.bytes delay k.delayed.bytes
+pub as_penalty : (c : Contents) (k : CommitmentKeys) (delay_blocks : ℕ) (checked : CheckedScript) (place : Place) (claim : ClaimParts) → bytes_of k ≡ c.keys → delay_blocks ≡ c.delay_blocks
+    → checked ≡ to_local_form k.revocation.bytes delay_blocks k.delayed.bytes
     → IsClaimOn (record { place = place; form = checked; path = 0; slots = fillings_of (Penalty k.revocation); shell = Open }) claim → IsClaimOn (penalty_on c place) claim
-as_penalty c k delay checked place claim e d f i =
+as_penalty c k delay_blocks checked place claim e d f i =
     subst (λ o. IsClaimOn o claim)
-    (ap (λ (x : CheckedScript). record { place = place; form = x; path = 0; slots = fillings_of (Penalty k.revocation); shell = Open }) (as_to_local c k delay checked e d f)
-    ∙ ap (λ (b : KeyBytes). record { place = place; form = to_local_form c.keys.revocation c.delay c.keys.delayed; path = 0; slots = Bytes (1 ∷ []) ∷ Signature b.revocation ∷ []; shell = Open }) e)
+    (ap (λ (x : CheckedScript). record { place = place; form = x; path = 0; slots = fillings_of (Penalty k.revocation); shell = Open }) (as_to_local c k delay_blocks checked e d f)
+    ∙ ap (λ (b : KeyBytes). record { place = place; form = to_local_form c.keys.revocation c.delay_blocks c.keys.delayed; path = 0; slots = Bytes (1 ∷ []) ∷ Signature b.revocation ∷ []; shell = Open }) e)
     i
 
 pub as_payment : (c : Contents) (k : CommitmentKeys) (checked : CheckedScript) (place : Place) (claim : ClaimParts) → bytes_of k ≡ c.keys → checked ≡ key_hash_form (hash160 k.remote.bytes)

@@ -30,15 +30,15 @@ filling o = (o.path, o.slots)
 -- Two HTLCs of one hash and one value, which A offered, in the order of their expiries: a commitment of 58,932 to A and 20,000 to B.
 module _ (funding : OutPoint) (hidden : Obscured) (k : KeyBytes) (hash : List ℕ) where
   abbrev twin : ℕ → ℕ → Htlc
-  twin id expiry = record { id = id; amount = 10000000; hash = hash; expiry = expiry }
+  twin id expiry_height = record { id = id; amount_msat = 10000000; hash = hash; expiry_height = expiry_height }
 
   abbrev twins : Contents
   twins = record {
     funding = funding;
     hidden = hidden;
     keys = k;
-    delay = 144;
-    feerate = 1000;
+    delay_blocks = 144;
+    feerate_per_kw = 1000;
     outputs = htlc_output k Offered (twin 1 500) ∷ htlc_output k Offered (twin 0 600) ∷ to_remote_output k 20000 ∷ to_local_output 144 k 58932 ∷ [];
   }
 
@@ -64,17 +64,17 @@ module _ (funding : OutPoint) (hidden : Obscured) (k : KeyBytes) (hash : List �
 
 module _ (funding : OutPoint) (of_a of_b : BaseKeys) (hash secret : List ℕ) where
   abbrev side : ℕ → ℕ → BaseKeys → Party
-  side start delay bases = record { dust = 546; delay = delay; minimum = 0; start = start; bases = bases }
+  side start_msat delay_blocks bases = record { dust_sat = 546; delay_blocks = delay_blocks; minimum_msat = 0; start_msat = start_msat; bases = bases }
 
   -- 100,000 satoshis, of which A has 80,000 at the start; A opened the channel
   abbrev terms : Terms
-  terms = record { funding = funding; capacity = 100000; opener = A; feerate = 1000; a = side 80000000 144 of_a; b = side 20000000 72 of_b; limited = lit≤ tt; whole = refl; short_a = lit< tt; short_b = lit< tt }
+  terms = record { funding = funding; capacity_sat = 100000; opener = A; feerate_per_kw = 1000; a = side 80000000 144 of_a; b = side 20000000 72 of_b; limited = lit≤ tt; whole = refl; short_a = lit< tt; short_b = lit< tt }
 
   abbrev htlc : ℕ → ℕ → ℕ → Htlc
-  htlc id amount expiry = record { id = id; amount = amount; hash = hash; expiry = expiry }
+  htlc id amount_msat expiry_height = record { id = id; amount_msat = amount_msat; hash = hash; expiry_height = expiry_height }
 
   abbrev view : ℕ → List Htlc → ℕ → List Htlc → View
-  view a from_a b from_b = record { a = record { balance = a; offered = from_a }; b = record { balance = b; offered = from_b }; feerate = 1000 }
+  view a from_a b from_b = record { a = record { balance_msat = a; offered = from_a }; b = record { balance_msat = b; offered = from_b }; feerate_per_kw = 1000 }
 
   -- the outputs that are claimed: the index and the value of each
   abbrev summary : RevokedState → List (ℕ × ℕ)

@@ -26,12 +26,12 @@ same_bytes xs = (bytes_eq-Decides xs xs).1 refl
 by_hash : (script bytes : List ℕ) → bytes ≡ script → is_program script (script_hash_program bytes) ≡ true
 by_hash script bytes e = rw e (or_left _ _ (same_bytes (script_hash_program script)))
 
-same_to_local : (delay : ℕ) (k : KeyBytes) → to_local_script delay k ≡ spelling (to_local k.revocation delay k.delayed)
+same_to_local : (delay_blocks : ℕ) (k : KeyBytes) → to_local_script delay_blocks k ≡ spelling (to_local k.revocation delay_blocks k.delayed)
 unfolding to_local_script
-same_to_local delay k = refl
+same_to_local delay_blocks k = refl
 
-pub to_local_program : (delay : ℕ) (k : KeyBytes) → is_program (spelling (to_local k.revocation delay k.delayed)) (script_hash_program (to_local_script delay k)) ≡ true
-to_local_program delay k = by_hash _ _ (same_to_local delay k)
+pub to_local_program : (delay_blocks : ℕ) (k : KeyBytes) → is_program (spelling (to_local k.revocation delay_blocks k.delayed)) (script_hash_program (to_local_script delay_blocks k)) ≡ true
+to_local_program delay_blocks k = by_hash _ _ (same_to_local delay_blocks k)
 
 pub same_htlc : (k : KeyBytes) (direction : Direction) (h : Htlc) → htlc_script k direction h ≡ spelling (htlc_form k direction h).ops
 unfolding htlc_script
@@ -49,9 +49,9 @@ key_program key =
     or_right (bytes_eq (0x00 ∷ 0x14 ∷ hash160 key) (script_hash_program (spelling (key_hash (hash160 key))))) (is_key_program (spelling (key_hash (hash160 key))) (0x00 ∷ 0x14 ∷ hash160 key)) e
 
 -- of a script that was built, on the output that stands for it
-pub on_to_local : (c : Contents) (checked : CheckedScript) (program : List ℕ) → checked ≡ to_local_form c.keys.revocation c.delay c.keys.delayed
-    → program ≡ script_hash_program (to_local_script c.delay c.keys) → is_program (spelling checked.ops) program ≡ true
-on_to_local c checked program e f = ap (λ (x : CheckedScript). is_program (spelling x.ops) program) e ∙ ap (is_program (spelling (to_local c.keys.revocation c.delay c.keys.delayed))) f ∙ to_local_program c.delay c.keys
+pub on_to_local : (c : Contents) (checked : CheckedScript) (program : List ℕ) → checked ≡ to_local_form c.keys.revocation c.delay_blocks c.keys.delayed
+    → program ≡ script_hash_program (to_local_script c.delay_blocks c.keys) → is_program (spelling checked.ops) program ≡ true
+on_to_local c checked program e f = ap (λ (x : CheckedScript). is_program (spelling x.ops) program) e ∙ ap (is_program (spelling (to_local c.keys.revocation c.delay_blocks c.keys.delayed))) f ∙ to_local_program c.delay_blocks c.keys
 
 pub on_htlc : (c : Contents) (k : KeyBytes) (direction : Direction) (h : Htlc) (checked : CheckedScript) (program : List ℕ) → k ≡ c.keys → checked ≡ htlc_form k direction h
     → program ≡ script_hash_program (htlc_script c.keys direction h) → is_program (spelling checked.ops) program ≡ true

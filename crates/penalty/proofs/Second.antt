@@ -57,7 +57,7 @@ stands c k t o h p e f g i =
     i (htlc_tx_output c h) (first_output c h t j) ∙ ap (λ (x : Transaction). place_in x 0 (htlc_tx_output c h)) j
 
 pub its_program : (c : Contents) (k : ℕ) (t : Transaction) (o : Option Transaction) (p : Place) → IsSome (slice_get (htlcs_of c) k) → o ≡ htlc_tx_at c k → o ≡ Some t
-    → ((out : Output) → slice_get t.outputs 0 ≡ Some out → p ≡ place_in t 0 out) → p.program ≡ script_hash_program (to_local_script c.delay c.keys)
+    → ((out : Output) → slice_get t.outputs 0 ≡ Some out → p ≡ place_in t 0 out) → p.program ≡ script_hash_program (to_local_script c.delay_blocks c.keys)
 its_program c k t o p s f g i =
     let h = some_of (slice_get (htlcs_of c) k) s in
     ap (λ (x : Place). x.program) (stands c k t o h.0 p h.1 f g i)

@@ -34,44 +34,44 @@ use Rattle.penalty.specs.Claimable.{commitment_in}
 use Rattle.penalty.specs.Outputs.{IsOutput, AreOutputs}
 
 abbrev ExpiresLow : Htlc → Type 0
-ExpiresLow h = h.expiry < LOCKTIME_THRESHOLD
+ExpiresLow h = h.expiry_height < LOCKTIME_THRESHOLD
 
 low_heights : (hs : List Htlc) → expire_at_heights hs ≡ true → All ExpiresLow hs
 low_heights [] e = All-nil ExpiresLow
 low_heights (h ∷ hs) e =
     let p = and_parts _ _ e in
-    All-cons ExpiresLow h hs (ltb-true h.expiry LOCKTIME_THRESHOLD p.0) (low_heights hs p.1)
+    All-cons ExpiresLow h hs (ltb-true h.expiry_height LOCKTIME_THRESHOLD p.0) (low_heights hs p.1)
 
 of_side : (side : Side) (view : View) → has_heights view ≡ true → All ExpiresLow (share side view).offered
 of_side A view e = low_heights view.a.offered (and_parts _ _ e).0
 of_side B view e = low_heights view.b.offered (and_parts _ _ e).1
 
-to_htlcs : (delay : ℕ) (k : KeyBytes) (direction : Direction) (hs : List Htlc) → All ExpiresLow hs → All (IsOutput delay k) (map (htlc_output k direction) hs)
-to_htlcs delay k direction hs a = All-map (IsOutput delay k) (htlc_output k direction) hs (λ i d l. record { program = refl; height = a i d l })
+to_htlcs : (delay_blocks : ℕ) (k : KeyBytes) (direction : Direction) (hs : List Htlc) → All ExpiresLow hs → All (IsOutput delay_blocks k) (map (htlc_output k direction) hs)
+to_htlcs delay_blocks k direction hs a = All-map (IsOutput delay_blocks k) (htlc_output k direction) hs (λ i d l. record { program = refl; height = a i d l })
 
-to_local : (delay : ℕ) (k : KeyBytes) (value : Option ℕ) → All (IsOutput delay k) (where_paid (to_local_output delay k) value)
-to_local delay k None = All-nil (IsOutput delay k)
-to_local delay k (Some v) = All-cons (IsOutput delay k) (to_local_output delay k v) [] (record { program = refl; height = tt }) (All-nil (IsOutput delay k))
+to_local : (delay_blocks : ℕ) (k : KeyBytes) (value : Option ℕ) → All (IsOutput delay_blocks k) (where_paid (to_local_output delay_blocks k) value)
+to_local delay_blocks k None = All-nil (IsOutput delay_blocks k)
+to_local delay_blocks k (Some v) = All-cons (IsOutput delay_blocks k) (to_local_output delay_blocks k v) [] (record { program = refl; height = tt }) (All-nil (IsOutput delay_blocks k))
 
-to_remote : (delay : ℕ) (k : KeyBytes) (value : Option ℕ) → All (IsOutput delay k) (where_paid (to_remote_output k) value)
-to_remote delay k None = All-nil (IsOutput delay k)
-to_remote delay k (Some v) = All-cons (IsOutput delay k) (to_remote_output k v) [] (record { program = refl; height = tt }) (All-nil (IsOutput delay k))
+to_remote : (delay_blocks : ℕ) (k : KeyBytes) (value : Option ℕ) → All (IsOutput delay_blocks k) (where_paid (to_remote_output k) value)
+to_remote delay_blocks k None = All-nil (IsOutput delay_blocks k)
+to_remote delay_blocks k (Some v) = All-cons (IsOutput delay_blocks k) (to_remote_output k v) [] (record { program = refl; height = tt }) (All-nil (IsOutput delay_blocks k))
 
-collected : (delay : ℕ) (k : KeyBytes) (a : Amounts) → All ExpiresLow a.offered → All ExpiresLow a.received → All (IsOutput delay k) (outputs_of delay k a)
+collected : (delay_blocks : ℕ) (k : KeyBytes) (a : Amounts) → All ExpiresLow a.offered → All ExpiresLow a.received → All (IsOutput delay_blocks k) (outputs_of delay_blocks k a)
 unfolding outputs_of
-collected delay k a o r =
-    All-append (IsOutput delay k) _ _
-    (All-append (IsOutput delay k) _ _
-    (All-append (IsOutput delay k) _ _ (to_htlcs delay k Offered a.offered o) (to_htlcs delay k Received a.received r))
-    (to_local delay k a.to_local))
-    (to_remote delay k a.to_remote)
+collected delay_blocks k a o r =
+    All-append (IsOutput delay_blocks k) _ _
+    (All-append (IsOutput delay_blocks k) _ _
+    (All-append (IsOutput delay_blocks k) _ _ (to_htlcs delay_blocks k Offered a.offered o) (to_htlcs delay_blocks k Received a.received r))
+    (to_local delay_blocks k a.to_local))
+    (to_remote delay_blocks k a.to_remote)
 
 each_stands : (terms : Terms) (view : View) (owner : Side) (number : ℕ) (point : List ℕ) → CanPay terms view
-    → All (IsOutput (commitment_of terms view owner number point).delay (commitment_of terms view owner number point).keys) (commitment_of terms view owner number point).outputs
+    → All (IsOutput (commitment_of terms view owner number point).delay_blocks (commitment_of terms view owner number point).keys) (commitment_of terms view owner number point).outputs
 unfolding commitment_of
 each_stands terms view owner number point p =
-    All-permutation (IsOutput (party owner terms).delay (keys_of terms owner point)) _ _
-    (there_is_one (outputs_of (party owner terms).delay (keys_of terms owner point) (amounts_of terms view owner))).0.same
+    All-permutation (IsOutput (party owner terms).delay_blocks (keys_of terms owner point)) _ _
+    (there_is_one (outputs_of (party owner terms).delay_blocks (keys_of terms owner point) (amounts_of terms view owner))).0.same
     (collected _ _ _
     (All-filter _ ExpiresLow _ (of_side owner view p.heights))
     (All-filter _ ExpiresLow _ (of_side (other owner) view p.heights)))

@@ -12,16 +12,16 @@ use Rattle.penalty.specs.Paying.{refusal_of}
 
 module _ (funding : OutPoint) (bases : BaseKeys) where
   abbrev side : ℕ → Party
-  side start = record { dust = 546; delay = 144; minimum = 0; start = start; bases = bases }
+  side start_msat = record { dust_sat = 546; delay_blocks = 144; minimum_msat = 0; start_msat = start_msat; bases = bases }
 
   abbrev terms : Terms
-  terms = record { funding = funding; capacity = 10; opener = A; feerate = 1000; a = side 10000; b = side 0; limited = lit≤ tt; whole = refl; short_a = lit< tt; short_b = lit< tt }
+  terms = record { funding = funding; capacity_sat = 10; opener = A; feerate_per_kw = 1000; a = side 10000; b = side 0; limited = lit≤ tt; whole = refl; short_a = lit< tt; short_b = lit< tt }
 
   abbrev htlcs : ℕ → ℕ → ℕ → List Htlc
-  htlcs count amount expiry = replicate count (record { id = 0; amount = amount; hash = []; expiry = expiry })
+  htlcs count amount_msat expiry_height = replicate count (record { id = 0; amount_msat = amount_msat; hash = []; expiry_height = expiry_height })
 
   abbrev view : ℕ → List Htlc → ℕ → List Htlc → View
-  view a from_a b from_b = record { a = record { balance = a; offered = from_a }; b = record { balance = b; offered = from_b }; feerate = 1000 }
+  view a from_a b from_b = record { a = record { balance_msat = a; offered = from_a }; b = record { balance_msat = b; offered = from_b }; feerate_per_kw = 1000 }
 
   -- balances and HTLCs of both sides count
   totals : (refusal_of terms (view 4000 (htlcs 1 1000 5) 3000 (htlcs 2 1000 5)) ≡ None)

@@ -9,7 +9,7 @@ use Rattle.terms.specs.declared.agreement.BaseKeys.{BaseKeys}
 use Rattle.terms.specs.declared.agreement.Party.{Party}
 use Rattle.terms.specs.declared.agreement.Terms.{Terms}
 use Rattle.terms.specs.declared.views.View.{View}
-use Rattle.commit.specs.Sums.{fee_paid, left_out, rounded_off}
+use Rattle.commit.specs.Sums.{fee_paid_sat, left_out_sat, rounded_off_msat}
 use Rattle.commit.specs.Outputs.{outputs_of}
 use Rattle.commit.specs.Order.{output_cmp, in_order}
 use Rattle.commit.specs.Commitments.{commitment_of, htlcs_from}
@@ -20,16 +20,16 @@ use Rattle.penalty.specs.Worth.{staged, first_stage, value_of, fees_with, IsCapa
 -- The dust limits are 546 for A and 1,000 for B. The feerate at the start is 5,000, but no commitment here uses it: their views say 1,000.
 module _ (funding : OutPoint) (bases : BaseKeys) (hash secret : List ℕ) where
   abbrev side : ℕ → ℕ → Party
-  side dust start = record { dust = dust; delay = 144; minimum = 0; start = start; bases = bases }
+  side dust_sat start_msat = record { dust_sat = dust_sat; delay_blocks = 144; minimum_msat = 0; start_msat = start_msat; bases = bases }
 
   abbrev opened_by : Side → Terms
-  opened_by opener = record { funding = funding; capacity = 100000; opener = opener; feerate = 5000; a = side 546 60000000; b = side 1000 40000000; limited = lit≤ tt; whole = refl; short_a = lit< tt; short_b = lit< tt }
+  opened_by opener = record { funding = funding; capacity_sat = 100000; opener = opener; feerate_per_kw = 5000; a = side 546 60000000; b = side 1000 40000000; limited = lit≤ tt; whole = refl; short_a = lit< tt; short_b = lit< tt }
 
   abbrev offers : List ℕ → List Htlc
-  offers amounts = map (λ amount. record { id = 0; amount = amount; hash = hash; expiry = 600 }) amounts
+  offers amounts = map (λ amount_msat. record { id = 0; amount_msat = amount_msat; hash = hash; expiry_height = 600 }) amounts
 
   abbrev view : ℕ → List ℕ → ℕ → List ℕ → View
-  view a from_a b from_b = record { a = record { balance = a; offered = offers from_a }; b = record { balance = b; offered = offers from_b }; feerate = 1000 }
+  view a from_a b from_b = record { a = record { balance_msat = a; offered = offers from_a }; b = record { balance_msat = b; offered = offers from_b }; feerate_per_kw = 1000 }
 
   -- the satoshis of each claim, and the fees of the HTLC transactions on the chain. Then the fee that the opener pays, what is left out, and the
   -- millisatoshis that are rounded off
@@ -37,9 +37,9 @@ module _ (funding : OutPoint) (bases : BaseKeys) (hash secret : List ℕ) where
   figures stands s = (
     map (λ o. o.place.value) (staged stands (commitment_in s)),
     fees_with stands (commitment_in s),
-    fee_paid s.terms s.view s.owner,
-    left_out s.terms s.view s.owner,
-    rounded_off s.view,
+    fee_paid_sat s.terms s.view s.owner,
+    left_out_sat s.terms s.view s.owner,
+    rounded_off_msat s.view,
   )
 
   abbrev none : ℕ → Bool

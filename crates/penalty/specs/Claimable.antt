@@ -43,7 +43,7 @@ place_in t index o = record { outpoint = outpoint_at t index; value = o.value; p
 
 -- a penalty on to_local, or on the output of an HTLC transaction: by the revocation key
 abbrev pub penalty_on : Contents → Place → Claimable
-penalty_on c place = claimable_with place (to_local_form c.keys.revocation c.delay c.keys.delayed) 0
+penalty_on c place = claimable_with place (to_local_form c.keys.revocation c.delay_blocks c.keys.delayed) 0
     (Bytes (1 ∷ []) ∷ Signature c.keys.revocation ∷ []) Open
 
 -- to_remote: by the peer's payment key
@@ -56,7 +56,7 @@ abbrev pub htlc_form : KeyBytes → Direction → Htlc → CheckedScript
 htlc_form k Offered h =
     offered_form (hash160 k.revocation) k.remote_htlc k.local_htlc (ripemd160 h.hash)
 htlc_form k Received h =
-    received_form (hash160 k.revocation) k.remote_htlc k.local_htlc (ripemd160 h.hash) h.expiry
+    received_form (hash160 k.revocation) k.remote_htlc k.local_htlc (ripemd160 h.hash) h.expiry_height
 
 -- a penalty on an HTLC's output: by the revocation key
 abbrev pub htlc_penalty_on : Contents → Direction → Htlc → Place → Claimable

@@ -18,23 +18,23 @@ use Rattle.commit.specs.Commitments.{Contents}
 
 -- the program of an output, by its kind
 abbrev pub program_of : ℕ → KeyBytes → OutputKind → List ℕ
-program_of delay k ToLocal = script_hash_program (to_local_script delay k)
-program_of delay k ToRemote = key_hash_program k.remote
-program_of delay k (ToHtlc direction h) = script_hash_program (htlc_script k direction h)
+program_of delay_blocks k ToLocal = script_hash_program (to_local_script delay_blocks k)
+program_of delay_blocks k ToRemote = key_hash_program k.remote
+program_of delay_blocks k (ToHtlc direction h) = script_hash_program (htlc_script k direction h)
 
 -- an HTLC expires at a height
 abbrev pub HasHeight : OutputKind → Type 0
 HasHeight ToLocal = Unit {0}
 HasHeight ToRemote = Unit {0}
-HasHeight (ToHtlc direction h) = h.expiry < LOCKTIME_THRESHOLD
+HasHeight (ToHtlc direction h) = h.expiry_height < LOCKTIME_THRESHOLD
 
-pub record IsOutput (delay : ℕ) (k : KeyBytes) (o : CommitmentOutput) : Type 0 where
-  pub program : o.program ≡ program_of delay k o.kind
+pub record IsOutput (delay_blocks : ℕ) (k : KeyBytes) (o : CommitmentOutput) : Type 0 where
+  pub program : o.program ≡ program_of delay_blocks k o.kind
   pub height : HasHeight o.kind
 
 pub record AreOutputs (c : Contents) : Type 0 where
   pub few : length c.outputs ≤ MAX_OUTPUTS
-  pub each : All (λ o. IsOutput c.delay c.keys o) c.outputs
+  pub each : All (λ o. IsOutput c.delay_blocks c.keys o) c.outputs
 
 -- a form has the path at an index, and the transaction may stand round it
 abbrev pub HasWay : CheckedScript → ℕ → Place → Shell → Type 0

@@ -11,7 +11,7 @@ htlc_count view = length view.a.offered + length view.b.offered
 
 -- each HTLC expires at a height (BIP 65)
 abbrev pub expire_at_heights : List Htlc → Bool
-expire_at_heights htlcs = list_all (λ h. nat_lt h.expiry LOCKTIME_THRESHOLD) htlcs
+expire_at_heights htlcs = list_all (λ h. nat_lt h.expiry_height LOCKTIME_THRESHOLD) htlcs
 
 abbrev pub has_heights : View → Bool
 has_heights view = expire_at_heights view.a.offered && expire_at_heights view.b.offered

@@ -7,8 +7,8 @@ use Rattle.claim.specs.declared.parts.Place.{Place}
 use Rattle.commit.specs.declared.outputs.OutputKind.{OutputKind}
 use Rattle.commit.specs.declared.outputs.OutputKind.TheVariants.{ToLocal, ToRemote, ToHtlc}
 use Rattle.commit.specs.declared.outputs.HtlcOutput.{HtlcOutput}
-use Rattle.commit.specs.Fees.{fee_of, htlc_weight}
-use Rattle.commit.specs.Sums.{fee_paid, left_out, rounded_off}
+use Rattle.commit.specs.Fees.{fee_sat_of, htlc_weight}
+use Rattle.commit.specs.Sums.{fee_paid_sat, left_out_sat, rounded_off_msat}
 use Rattle.commit.specs.Commitments.{Contents, htlcs_of}
 use Rattle.penalty.specs.declared.states.RevokedState.{RevokedState}
 use Rattle.penalty.specs.Claimable.{Claimable, penalty_on, payment_on, htlc_penalty_on, second_stage_penalty, claims_by, commitment_in, claimable_of}
@@ -39,18 +39,18 @@ value_of os = sum_by (λ o. o.place.value) os
 
 -- the fee of an HTLC's transaction, if it is on the chain; and the fees of all that are
 abbrev pub fee_with : (ℕ → Bool) → ℕ → HtlcOutput → ℕ
-fee_with stands feerate h = if stands h.index then fee_of (htlc_weight h.direction) feerate else 0
+fee_with stands feerate_per_kw h = if stands h.index then fee_sat_of (htlc_weight h.direction) feerate_per_kw else 0
 
 abbrev pub fees_with : (ℕ → Bool) → Contents → ℕ
-fees_with stands c = sum_by (λ h. fee_with stands c.feerate h) (htlcs_of c)
+fees_with stands c = sum_by (λ h. fee_with stands c.feerate_per_kw h) (htlcs_of c)
 
 -- satoshis are the capacity together with three amounts. These are the commitment's fee, of which the opener pays no
 -- more than it has, what was left out as dust, and the millisatoshis that were rounded off
 abbrev pub IsCapacityWith : RevokedState → ℕ → Type 0
 IsCapacityWith s satoshis =
-    MSAT_PER_SAT * (satoshis + fee_paid s.terms s.view s.owner + left_out s.terms s.view s.owner)
-    + rounded_off s.view
-    ≡ MSAT_PER_SAT * s.terms.capacity
+    MSAT_PER_SAT * (satoshis + fee_paid_sat s.terms s.view s.owner + left_out_sat s.terms s.view s.owner)
+    + rounded_off_msat s.view
+    ≡ MSAT_PER_SAT * s.terms.capacity_sat
 
 -- the outputs of the commitment are worth that; all of them are claimable, and the peer's own is among them
 abbrev pub FirstStageIsWorthTheCapacity : Type 0

@@ -49,7 +49,7 @@ fn push_claims_on(
     output: &CommitmentOutput,
     claims: &mut Vec<Claim>,
 ) -> Result<(), AllocError>
-    requires output { IsOutput commitment.now.delay commitment.now.keys output.now }
+    requires output { IsOutput commitment.now.delay_blocks commitment.now.keys output.now }
     requires htlc { (h : HtlcOutput) → htlc_at index output.now.kind ≡ Some h
         → slice_get (htlcs_of commitment.now) k ≡ Some h }
     ensures { OnOk result ((done : Values Claimable) → AreClaimsOn done claims.old.items

@@ -55,12 +55,18 @@ pub fn to_local_script(
     alloc: Global,
     patterns: &Patterns,
     keys: &CommitmentKeys,
-    delay: u16,
+    delay_blocks: u16,
 ) -> Result<Checked, AllocError>
-    ensures { IfOk result (λ s. s ≡ to_local_form keys.now.revocation.bytes delay
+    ensures { IfOk result (λ s. s ≡ to_local_form keys.now.revocation.bytes delay_blocks
         keys.now.delayed.bytes) }
 {
-    to_local(alloc, patterns, &keys.revocation, delay, &keys.delayed)
+    to_local(
+        alloc,
+        patterns,
+        &keys.revocation,
+        delay_blocks,
+        &keys.delayed,
+    )
 }
 
 /// The penalty on an output of the form of to_local.
@@ -71,12 +77,12 @@ pub(crate) fn penalty_on(
     place: Place,
 ) -> Result<Claim, AllocError>
     requires { place.program ≡ script_hash_program
-        (to_local_script_of commitment.now.delay commitment.now.keys) }
+        (to_local_script_of commitment.now.delay_blocks commitment.now.keys) }
     ensures { IfOk result (IsClaimOn (penalty_on commitment.now place)) }
 {
     let keys = commitment.keys();
     let revocation = keys.revocation;
-    let checked = to_local_script(alloc, patterns, keys, commitment.delay())?;
+    let checked = to_local_script(alloc, patterns, keys, commitment.delay_blocks())?;
     claim_of(
         alloc,
         &ClaimKind::Penalty { revocation },
@@ -115,7 +121,7 @@ pub fn htlc_script(
     direction: Direction,
     htlc: &Htlc,
 ) -> Result<Checked, AllocError>
-    requires { htlc.now.expiry < locktime_threshold }
+    requires { htlc.now.expiry_height < locktime_threshold }
     ensures { IfOk result (λ s. s ≡ htlc_form (bytes_of keys.now) direction htlc.now) }
 {
     let htlc_keys = HtlcKeys {
@@ -127,7 +133,7 @@ pub fn htlc_script(
         Direction::Offered => offered(alloc, patterns, &htlc_keys, &htlc.hash),
         Direction::Received => {
             let expiry = Expiry {
-                height: htlc.expiry,
+                height: htlc.expiry_height,
             };
             received(alloc, patterns, &htlc_keys, &htlc.hash, expiry)
         }
@@ -143,7 +149,7 @@ pub(crate) fn htlc_penalty_on(
     htlc: &Htlc,
     place: Place,
 ) -> Result<Claim, AllocError>
-    requires height { htlc.now.expiry < locktime_threshold }
+    requires height { htlc.now.expiry_height < locktime_threshold }
     requires program { place.program ≡ script_hash_program
         (htlc_script_of commitment.now.keys direction htlc.now) }
     ensures { IfOk result (IsClaimOn (htlc_penalty_on commitment.now direction htlc.now place)) }

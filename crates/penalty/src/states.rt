@@ -2,7 +2,7 @@
 
 ghost use Rattle.std.specs.Prelude.{◌≡◌, ◌+◌, ◌*◌, ◌<◌, ◌≤◌, ◌^◌, length, IsTrue, IfNone};
 ghost use Rattle.terms.specs.declared.amounts.TheConstants.{MSAT_PER_SAT};
-ghost use Rattle.commit.specs.Sums.{millisatoshis_of, total_of};
+ghost use Rattle.commit.specs.Sums.{millisatoshis_of, total_msat_of};
 ghost use Rattle.penalty.specs.Views.{expire_at_heights, has_heights, htlc_count};
 ghost use Rattle.penalty.specs.Paying.{CanPay, refusal_of};
 
@@ -28,7 +28,7 @@ pub struct RevokedState {
     pub secret: [u8; 32],
     pub ghost few: { htlc_count view ≤ 3998 },
     pub ghost heights: { IsTrue (has_heights view) },
-    pub ghost whole: { total_of view ≡ MSAT_PER_SAT * terms.capacity },
+    pub ghost whole: { total_msat_of view ≡ MSAT_PER_SAT * terms.capacity_sat },
 }
 
 // Whether each HTLC expires at a height.
@@ -37,7 +37,7 @@ fn expire_at_heights(htlcs: &[Htlc]) -> bool
 {
     htlcs
         .iter()
-        .all(|htlc| u64::from(htlc.expiry) < LOCKTIME_THRESHOLD)
+        .all(|htlc| u64::from(htlc.expiry_height) < LOCKTIME_THRESHOLD)
 }
 
 // The millisatoshis of HTLCs. The sum never overflows.
@@ -47,8 +47,8 @@ fn millisatoshis(htlcs: &[Htlc]) -> u128
 {
     let mut total = 0;
     for htlc in htlcs {
-        let amount = htlc.amount;
-        total += u128::from(amount);
+        let amount_msat = htlc.amount_msat;
+        total += u128::from(amount_msat);
     }
     total
 }
@@ -56,17 +56,17 @@ fn millisatoshis(htlcs: &[Htlc]) -> u128
 // The millisatoshis of what a view gives to one side.
 fn share_total(share: &Share) -> u128
     requires { length share.now.offered ≤ 3998 }
-    ensures value { result ≡ share.now.balance + millisatoshis_of share.now.offered }
+    ensures value { result ≡ share.now.balance_msat + millisatoshis_of share.now.offered }
     ensures bound { result < 2 ^ 100 }
 {
-    let balance = share.balance;
-    u128::from(balance) + millisatoshis(share.offered.values())
+    let balance_msat = share.balance_msat;
+    u128::from(balance_msat) + millisatoshis(share.offered.values())
 }
 
 // The millisatoshis of a view.
 fn total(view: &View) -> u128
     requires { htlc_count view.now ≤ 3998 }
-    ensures { result ≡ total_of view.now }
+    ensures { result ≡ total_msat_of view.now }
 {
     share_total(&view.a) + share_total(&view.b)
 }
@@ -87,14 +87,15 @@ pub fn refusal(terms: &Terms, view: &View) -> Option<StateError>
     if !(expire_at_heights(a) && expire_at_heights(b)) {
         return Some(StateError::ExpiryTooLarge);
     }
-    if total(view) != u128::from(MSAT_PER_SAT) * u128::from(terms.capacity) {
+    if total(view) != u128::from(MSAT_PER_SAT) * u128::from(terms.capacity_sat) {
         return Some(StateError::WrongTotal);
     }
     None
 }
 
 impl RevokedState {
-    ghost use Rattle.std.specs.Prelude.{◌≡◌, Some, None, MatchResult, IfOk};
+    ghost use Rattle.std.specs.Prelude.{◌≡◌, IfOk};
+    ghost use Rattle.terms.specs.Refusals.{OkUnless, IsFirst};
     ghost use Rattle.penalty.specs.States.{HasParts};
     ghost use Rattle.penalty.specs.Paying.{refusal_of};
 
@@ -106,8 +107,7 @@ impl RevokedState {
         number: u64,
         secret: [u8; 32],
     ) -> Result<RevokedState, StateError>
-        ensures ok { MatchResult result (λ _. refusal_of terms view ≡ None)
-            (λ e. refusal_of terms view ≡ Some e) }
+        ensures ok { OkUnless result (refusal_of terms view) IsFirst }
         ensures parts { IfOk result (HasParts terms view owner number secret) }
     {
         if let Some(refusal) = refusal(&terms, &view) {

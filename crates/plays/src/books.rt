@@ -29,8 +29,8 @@ fn short_number(word: &str) -> u32 {
 
 /// An offer of an amount in millisatoshis, up to an expiry.
 fn offer_of(words: &str) -> Act {
-    let (amount, expiry) = words.split_once(' ').unwrap_or((words, ""));
-    Act::Update(offer(number(amount), short_number(expiry)))
+    let (amount_msat, expiry_height) = words.split_once(' ').unwrap_or((words, ""));
+    Act::Update(offer(number(amount_msat), short_number(expiry_height)))
 }
 
 /// The call of a word followed by numbers.
@@ -39,7 +39,7 @@ fn act_with(word: &str, words: &str) -> Option<Act> {
         Some(offer_of(words))
     } else if word == "fee" {
         Some(Act::Update(OwnUpdate::SetFee {
-            rate: short_number(words),
+            feerate_per_kw: short_number(words),
         }))
     } else if word == "keep" {
         Some(Act::Keep(number(words)))

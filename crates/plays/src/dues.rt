@@ -24,44 +24,44 @@ const SHORT_DELAYS: Delays = [4, 3];
 const THREE: [Offer; 3] = [
     Offer {
         satoshis: 5_000,
-        expiry: 500,
+        expiry_height: 500,
     },
     Offer {
         satoshis: 6_000,
-        expiry: 600,
+        expiry_height: 600,
     },
     Offer {
         satoshis: 7_000,
-        expiry: 700,
+        expiry_height: 700,
     },
 ];
 
 /// One HTLC of A, with one of B.
 const OF_A: [Offer; 1] = [Offer {
     satoshis: 12_000,
-    expiry: 500,
+    expiry_height: 500,
 }];
 
 const OF_B: [Offer; 1] = [Offer {
     satoshis: 9_000,
-    expiry: 500,
+    expiry_height: 500,
 }];
 
 /// The same with an early expiry.
 const SOON_OF_A: [Offer; 1] = [Offer {
     satoshis: 12_000,
-    expiry: 6,
+    expiry_height: 6,
 }];
 
 const SOON_OF_B: [Offer; 1] = [Offer {
     satoshis: 9_000,
-    expiry: 7,
+    expiry_height: 7,
 }];
 
 /// The HTLC of A's commitment 1, for which A is punished.
 const SCENARIO: [Offer; 1] = [Offer {
     satoshis: 10_000,
-    expiry: 5,
+    expiry_height: 5,
 }];
 
 /// Shows the steps in a channel that was opened on a chain.

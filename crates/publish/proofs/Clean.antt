@@ -99,20 +99,20 @@ offered-valid r m l p rl ml ll pl =
 pub offered-short : (r m l p : List ℕ) → length r ≡ 20 → length m ≡ 33 → length l ≡ 33 → length p ≡ 20 → length (spelling (offered r m l p)) ≤ 10000
 offered-short r m l p rl ml ll pl = let size = (push_is 32 (omega arith)).short in simp length-append (omega (arith, size, rl, ml, ll, pl))
 
-pub received-valid : (r m l p : List ℕ) (expiry : ℕ) → expiry < 2 ^ 32 → length r ≡ 20 → length m ≡ 33 → length l ≡ 33 → length p ≡ 20 → All IsOp (received r m l p expiry)
-received-valid r m l p expiry low rl ml ll pl =
+pub received-valid : (r m l p : List ℕ) (expiry_height : ℕ) → expiry_height < 2 ^ 32 → length r ≡ 20 → length m ≡ 33 → length l ≡ 33 → length p ≡ 20 → All IsOp (received r m l p expiry_height)
+received-valid r m l p expiry_height low rl ml ll pl =
     let size = (push_is 32 (omega arith)).valid in
-    let height = (push_is expiry low).valid in
+    let height = (push_is expiry_height low).valid in
     let rv : IsOp (Push r) = omega (arith, rl) in
     let mv : IsOp (Push m) = omega (arith, ml) in
     let lv : IsOp (Push l) = omega (arith, ll) in
     let pv : IsOp (Push p) = omega (arith, pl) in
-    from_each IsOp (received r m l p expiry) (tt, (tt, (rv, (tt, (tt, (tt, (tt, (mv, (tt, (tt, (size, (tt, (tt, (tt, (pv, (tt, (two, (tt, (lv, (two, (tt, (tt, (tt, (height, (tt, (tt, (tt, (tt, (tt, tt)))))))))))))))))))))))))))))
+    from_each IsOp (received r m l p expiry_height) (tt, (tt, (rv, (tt, (tt, (tt, (tt, (mv, (tt, (tt, (size, (tt, (tt, (tt, (pv, (tt, (two, (tt, (lv, (two, (tt, (tt, (tt, (height, (tt, (tt, (tt, (tt, (tt, tt)))))))))))))))))))))))))))))
 
-pub received-short : (r m l p : List ℕ) (expiry : ℕ) → expiry < 2 ^ 32 → length r ≡ 20 → length m ≡ 33 → length l ≡ 33 → length p ≡ 20 → length (spelling (received r m l p expiry)) ≤ 10000
-received-short r m l p expiry low rl ml ll pl =
+pub received-short : (r m l p : List ℕ) (expiry_height : ℕ) → expiry_height < 2 ^ 32 → length r ≡ 20 → length m ≡ 33 → length l ≡ 33 → length p ≡ 20 → length (spelling (received r m l p expiry_height)) ≤ 10000
+received-short r m l p expiry_height low rl ml ll pl =
     let size = (push_is 32 (omega arith)).short in
-    let height = (push_is expiry low).short in
+    let height = (push_is expiry_height low).short in
     simp length-append (omega (arith, size, height, rl, ml, ll, pl))
 
 -- ---- what meets the paths of both keys

@@ -56,21 +56,21 @@ may_sign_htlc s n c h own found =
     (ap (λ o. derived_key (party o s.held.terms).bases.htlc.bytes point) own ∙ ap (λ k. derived_key k point) h.htlc)
 
 -- an HTLC of a commitment expires at a height
-low_from : (delay : ℕ) (b : KeyBytes) (i : ℕ) (os : List CommitmentOutput) (k : ℕ) (h : HtlcOutput) → All (λ o. IsOutput delay b o) os → slice_get (htlcs_from i os) k ≡ Some h → h.htlc.expiry < LOCKTIME_THRESHOLD
+low_from : (delay_blocks : ℕ) (b : KeyBytes) (i : ℕ) (os : List CommitmentOutput) (k : ℕ) (h : HtlcOutput) → All (λ o. IsOutput delay_blocks b o) os → slice_get (htlcs_from i os) k ≡ Some h → h.htlc.expiry_height < LOCKTIME_THRESHOLD
 unfolding htlcs_from
-low_from delay b i [] k h a e = absurd (cc)
-low_from delay b i (o ∷ os) k h a e =
-    by_kind o.kind k (All-head (λ x. IsOutput delay b x) o os a).height (λ j f. low_from delay b (i + 1) os j h (All-tail (λ x. IsOutput delay b x) o os a) f) e
+low_from delay_blocks b i [] k h a e = absurd (cc)
+low_from delay_blocks b i (o ∷ os) k h a e =
+    by_kind o.kind k (All-head (λ x. IsOutput delay_blocks b x) o os a).height (λ j f. low_from delay_blocks b (i + 1) os j h (All-tail (λ x. IsOutput delay_blocks b x) o os a) f) e
   where
-    by_kind : (kind : OutputKind) (k : ℕ) → HasHeight kind → ((j : ℕ) → slice_get (htlcs_from (i + 1) os) j ≡ Some h → h.htlc.expiry < LOCKTIME_THRESHOLD)
-        → slice_get (cons_option (htlc_at i kind) (htlcs_from (i + 1) os)) k ≡ Some h → h.htlc.expiry < LOCKTIME_THRESHOLD
+    by_kind : (kind : OutputKind) (k : ℕ) → HasHeight kind → ((j : ℕ) → slice_get (htlcs_from (i + 1) os) j ≡ Some h → h.htlc.expiry_height < LOCKTIME_THRESHOLD)
+        → slice_get (cons_option (htlc_at i kind) (htlcs_from (i + 1) os)) k ≡ Some h → h.htlc.expiry_height < LOCKTIME_THRESHOLD
     by_kind ToLocal k low rest e = rest k e
     by_kind ToRemote k low rest e = rest k e
-    by_kind (ToHtlc d x) zero low rest e = subst (λ (y : HtlcOutput). y.htlc.expiry < LOCKTIME_THRESHOLD) (same_Some _ h e) low
+    by_kind (ToHtlc d x) zero low rest e = subst (λ (y : HtlcOutput). y.htlc.expiry_height < LOCKTIME_THRESHOLD) (same_Some _ h e) low
     by_kind (ToHtlc d x) (suc k) low rest e = rest k e
 
-pub low_expiry : (c : Contents) (k : ℕ) (h : HtlcOutput) → AreOutputs c → slice_get (htlcs_of c) k ≡ Some h → h.htlc.expiry < LOCKTIME_THRESHOLD
-low_expiry c k h a e = low_from c.delay c.keys 0 c.outputs k h a.each e
+pub low_expiry : (c : Contents) (k : ℕ) (h : HtlcOutput) → AreOutputs c → slice_get (htlcs_of c) k ≡ Some h → h.htlc.expiry_height < LOCKTIME_THRESHOLD
+low_expiry c k h a e = low_from c.delay_blocks c.keys 0 c.outputs k h a.each e
 
 -- what stands for the k-th HTLC among its commitment's digests, and among the peer's tokens
 pub digest_at : (c : Contents) (k : ℕ) (h : HtlcOutput) → slice_get (htlcs_of c) k ≡ Some h → slice_get (htlc_digests c) k ≡ Some (htlc_digest c h)

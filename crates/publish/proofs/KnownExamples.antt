@@ -40,10 +40,10 @@ module _ (known : Known) (first second : SignedCommitment) where
 -- Commitment 0 of A pays both sides. Commitment 1, its newest, has an HTLC each way too, of 10,000 and 11,000 satoshis.
 module _ (known : Known) (terms : Terms) (funding : OutPoint) (hidden : Obscured) (keys : KeyBytes) (hash : List ℕ) where
   abbrev htlc : ℕ → ℕ → Htlc
-  htlc amount expiry = record { id = 0; amount = amount; hash = hash; expiry = expiry }
+  htlc amount_msat expiry_height = record { id = 0; amount_msat = amount_msat; hash = hash; expiry_height = expiry_height }
 
   abbrev contents : List CommitmentOutput → Contents
-  contents outputs = record { funding = funding; hidden = hidden; keys = keys; delay = 144; feerate = 1000; outputs = outputs }
+  contents outputs = record { funding = funding; hidden = hidden; keys = keys; delay_blocks = 144; feerate_per_kw = 1000; outputs = outputs }
 
   abbrev plain : Contents
   plain = contents (to_remote_output keys 20000 ∷ to_local_output 144 keys 79276 ∷ [])

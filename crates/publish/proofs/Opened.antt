@@ -84,7 +84,7 @@ both_run t input value a b digest k l false e w =
 abbrev commitment_input : Terms → Contents → TxIn
 commitment_input terms c = record { outpoint = c.funding; sequence = c.hidden.sequence; witness = funding_witness terms c }
 
-same_digest : (terms : Terms) (c : Contents) → commitment_digest terms c ≡ sha256d (signed_list (signed_transaction terms c) (commitment_input terms c) (funding_script terms) terms.capacity)
+same_digest : (terms : Terms) (c : Contents) → commitment_digest terms c ≡ sha256d (signed_list (signed_transaction terms c) (commitment_input terms c) (funding_script terms) terms.capacity_sat)
 unfolding commitment_digest transaction_of signed_list all_outpoints all_sequences
 same_digest terms c = refl
 
@@ -93,7 +93,7 @@ unfolding funding_script
 commitment_runs terms c =
     let a = terms.a.bases.funding in
     let b = terms.b.bases.funding in
-    both_run (signed_transaction terms c) (commitment_input terms c) terms.capacity a.bytes b.bytes (commitment_digest terms c) a.form b.form (is_lesser b.bytes a.bytes) (same_digest terms c) refl
+    both_run (signed_transaction terms c) (commitment_input terms c) terms.capacity_sat a.bytes b.bytes (commitment_digest terms c) a.form b.form (is_lesser b.bytes a.bytes) (same_digest terms c) refl
 
 -- the fields that carry a number lock nothing
 hidden_final : (height x : ℕ) (inputs : List TxIn) → is_final height (0x20 * 2 ^ 24 + x % 2 ^ 24) inputs ≡ true
@@ -137,20 +137,20 @@ timeout_run t input value r m l p digest mk lk rl pl apart e w =
     (subst (λ d. input.witness ≡ ([] ∷ token_of m d ∷ token_of l d ∷ [] ∷ []) ++ spelling ops ∷ []) e w)
     (meets_timeout (spend_of t input (spelling ops) value) r m l mk lk (length-sha256 _) apart)
 
-success_run : (t : Transaction) (input : TxIn) (value : ℕ) (r m l hash : List ℕ) (expiry : ℕ) (item digest : List ℕ) → is_key m ≡ true → is_key l ≡ true → length r ≡ 20 → expiry < 2 ^ 32
+success_run : (t : Transaction) (input : TxIn) (value : ℕ) (r m l hash : List ℕ) (expiry_height : ℕ) (item digest : List ℕ) → is_key m ≡ true → is_key l ≡ true → length r ≡ 20 → expiry_height < 2 ^ 32
     → length item ≡ 32 → sha256 item ≡ hash → bytes_eq (hash160 item) r ≡ false
-    → digest ≡ sha256d (signed_list t input (spelling (received r m l (ripemd160 hash) expiry)) value)
-    → input.witness ≡ [] ∷ token_of m digest ∷ token_of l digest ∷ item ∷ spelling (received r m l (ripemd160 hash) expiry) ∷ []
-    → run_of t input (record { value = value; script = script_hash_program (spelling (received r m l (ripemd160 hash) expiry)) }) ≡ Some (Clean 23 7)
-success_run t input value r m l hash expiry item digest mk lk rl low il is apart e w =
+    → digest ≡ sha256d (signed_list t input (spelling (received r m l (ripemd160 hash) expiry_height)) value)
+    → input.witness ≡ [] ∷ token_of m digest ∷ token_of l digest ∷ item ∷ spelling (received r m l (ripemd160 hash) expiry_height) ∷ []
+    → run_of t input (record { value = value; script = script_hash_program (spelling (received r m l (ripemd160 hash) expiry_height)) }) ≡ Some (Clean 23 7)
+success_run t input value r m l hash expiry_height item digest mk lk rl low il is apart e w =
     let ml = key-length m mk in
     let ll = key-length l lk in
     let p = ripemd160 hash in
     let pl = length-ripemd160 hash in
-    let ops = received r m l p expiry in
-    let ways = received_ways r m l p expiry in
-    let all = listing-sound ops ways (received-listed r m l p expiry low mk lk ml ll rl pl) in
-    runs_clean t input value ops _ _ (received-valid r m l p expiry low rl ml ll pl) (received-short r m l p expiry low rl ml ll pl) (sound-at ops ways 1 _ all refl)
+    let ops = received r m l p expiry_height in
+    let ways = received_ways r m l p expiry_height in
+    let all = listing-sound ops ways (received-listed r m l p expiry_height low mk lk ml ll rl pl) in
+    runs_clean t input value ops _ _ (received-valid r m l p expiry_height low rl ml ll pl) (received-short r m l p expiry_height low rl ml ll pl) (sound-at ops ways 1 _ all refl)
     (subst (λ d. input.witness ≡ ([] ∷ token_of m d ∷ token_of l d ∷ item ∷ []) ++ spelling ops ∷ []) e w)
     (meets_success (spend_of t input (spelling ops) value) r m l hash item mk lk (length-sha256 _) il is apart)
 
@@ -158,7 +158,7 @@ abbrev second_input : Contents → HtlcOutput → List ℕ → TxIn
 second_input c h item = record { outpoint = outpoint_of c h; sequence = 0; witness = htlc_witness c h item }
 
 second_digest : (c : Contents) (h : HtlcOutput) (item : List ℕ)
-    → htlc_digest c h ≡ sha256d (signed_list (signed_htlc_tx_with c h item) (second_input c h item) (htlc_script c.keys h.direction h.htlc) (satoshis_of h.htlc.amount))
+    → htlc_digest c h ≡ sha256d (signed_list (signed_htlc_tx_with c h item) (second_input c h item) (htlc_script c.keys h.direction h.htlc) (satoshis_of h.htlc.amount_msat))
 unfolding htlc_digest htlc_tx_of signed_list all_outpoints all_sequences
 second_digest c h item = refl
 
@@ -178,34 +178,34 @@ runs_to Offered = 21
 runs_to Received = 23
 
 second_runs : (c : Contents) (index : ℕ) (d : Direction) (x : Htlc) (preimages : List (List ℕ)) (item : List ℕ) → is_key c.keys.remote_htlc ≡ true → is_key c.keys.local_htlc ≡ true
-    → branch_item preimages d x ≡ Some item → All (λ p. length p ≡ 32) preimages → x.expiry < 2 ^ 32 → bytes_eq (hash160 item) (hash160 c.keys.revocation) ≡ false
+    → branch_item preimages d x ≡ Some item → All (λ p. length p ≡ 32) preimages → x.expiry_height < 2 ^ 32 → bytes_eq (hash160 item) (hash160 c.keys.revocation) ≡ false
     → let h : HtlcOutput = record { index = index; direction = d; htlc = x } in run_of (signed_htlc_tx_with c h item) (second_input c h item) (output_of c h) ≡ Some (Clean (runs_to d) 7)
 unfolding htlc_script
 second_runs c index Offered x preimages item mk lk e a low apart =
     let h : HtlcOutput = record { index = index; direction = Offered; htlc = x } in
     let empty : [] ≡ item = same_Some [] item e in
     subst (λ y. run_of (signed_htlc_tx_with c h y) (second_input c h y) (output_of c h) ≡ Some (Clean 21 7)) empty
-    (timeout_run (signed_htlc_tx_with c h []) (second_input c h []) (satoshis_of x.amount) (hash160 c.keys.revocation) c.keys.remote_htlc c.keys.local_htlc (ripemd160 x.hash) (htlc_digest c h)
+    (timeout_run (signed_htlc_tx_with c h []) (second_input c h []) (satoshis_of x.amount_msat) (hash160 c.keys.revocation) c.keys.remote_htlc c.keys.local_htlc (ripemd160 x.hash) (htlc_digest c h)
     mk lk (length-ripemd160 _) (length-ripemd160 _) (subst (λ y. bytes_eq (hash160 y) (hash160 c.keys.revocation) ≡ false) (sym empty) apart) (second_digest c h []) refl)
 second_runs c index Received x preimages item mk lk e a low apart =
     let h : HtlcOutput = record { index = index; direction = Received; htlc = x } in
     let is = found x.hash preimages item a e in
-    success_run (signed_htlc_tx_with c h item) (second_input c h item) (satoshis_of x.amount) (hash160 c.keys.revocation) c.keys.remote_htlc c.keys.local_htlc x.hash x.expiry item (htlc_digest c h)
+    success_run (signed_htlc_tx_with c h item) (second_input c h item) (satoshis_of x.amount_msat) (hash160 c.keys.revocation) c.keys.remote_htlc c.keys.local_htlc x.hash x.expiry_height item (htlc_digest c h)
     mk lk (length-ripemd160 _) low is.0 is.1 apart (second_digest c h item) refl
 
 derived_form : (base point : List ℕ) → is_key (derived_key base point) ≡ true
 unfolding derived_key is_key
 derived_form base point = let h = length-sha256 (codes "derive" ++ base ++ point) in cc
 
-second_final : (d : Direction) (x : Htlc) (height : ℕ) (inputs : List TxIn) → x.expiry < LOCKTIME_THRESHOLD → lock_time_of d x < height → is_final height (lock_time_of d x) inputs ≡ true
-second_final Offered x height inputs low reached = rw (lt-ltb x.expiry 500000000 low, lt-ltb x.expiry height reached) refl
+second_final : (d : Direction) (x : Htlc) (height : ℕ) (inputs : List TxIn) → x.expiry_height < LOCKTIME_THRESHOLD → lock_time_of d x < height → is_final height (lock_time_of d x) inputs ≡ true
+second_final Offered x height inputs low reached = rw (lt-ltb x.expiry_height 500000000 low, lt-ltb x.expiry_height height reached) refl
 second_final Received x height inputs low reached = rw (lt-ltb 0 height reached) refl
 
 second_old : (height coin : ℕ) → coin ≤ height → is_old_enough height 2 0 coin ≡ true
 second_old height coin l = le-leb (coin + 0) height (omega arith)
 
 second_taken : (terms : Terms) (state : CommitmentState) (h : HtlcOutput) (preimages : List (List ℕ)) (item : List ℕ) (blocks : List Block) (height : ℕ)
-    → branch_item preimages h.direction h.htlc ≡ Some item → All (λ p. length p ≡ 32) preimages → h.htlc.expiry < LOCKTIME_THRESHOLD
+    → branch_item preimages h.direction h.htlc ≡ Some item → All (λ p. length p ≡ 32) preimages → h.htlc.expiry_height < LOCKTIME_THRESHOLD
     → bytes_eq (hash160 item) (hash160 (contents_of terms state).keys.revocation) ≡ false
     → (here : HasUnspent blocks (outpoint_of (contents_of terms state) h) (output_of (contents_of terms state) h)) → here.coin.height ≤ height → lock_time_of h.direction h.htlc < height
     → IsTaken blocks height (signed_htlc_tx_with (contents_of terms state) h item)

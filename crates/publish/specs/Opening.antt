@@ -22,7 +22,7 @@ use Rattle.publish.specs.Published.{branch_item, signed_commitment_of, signed_ht
 
 -- the funding output of a channel: its capacity, for the funding script
 abbrev pub funding_output : Terms → Output
-funding_output terms = record { value = terms.capacity; script = script_hash_program (funding_script terms) }
+funding_output terms = record { value = terms.capacity_sat; script = script_hash_program (funding_script terms) }
 
 -- a chain has this output at an outpoint, unspent
 pub record HasUnspent (blocks : List Block) (o : OutPoint) (output : Output) : Type 0 where
@@ -62,6 +62,6 @@ pub record IsHtlcTx (s : State) (n k : ℕ) (preimages : List (List ℕ)) (c : C
 abbrev pub HtlcTxsSpend : Type 0
 HtlcTxsSpend =
     (s : State) (n k : ℕ) (preimages : List (List ℕ)) (c : Contents) (h : HtlcOutput) (item : List ℕ) (t : Transaction) (blocks : List Block) (height : ℕ)
-    → IsHtlcTx s n k preimages c h item t → All (λ p. length p ≡ 32) preimages → h.htlc.expiry < LOCKTIME_THRESHOLD
+    → IsHtlcTx s n k preimages c h item t → All (λ p. length p ≡ 32) preimages → h.htlc.expiry_height < LOCKTIME_THRESHOLD
     → bytes_eq (hash160 item) (hash160 c.keys.revocation) ≡ false
     → (here : HasUnspent blocks (outpoint_of c h) (output_of c h)) → here.coin.height ≤ height → lock_time_of h.direction h.htlc < height → IsTaken blocks height t

@@ -4,10 +4,11 @@ ghost use Rattle.std.specs.Prelude.{◌≡◌, Some, slice_get, IfOk};
 ghost use Rattle.penalty.specs.Outputs.{AreOutputs};
 ghost use Rattle.publish.specs.Recorded.{recorded_of};
 
-use channel::{Channel, CommitmentState, Tokens};
+use channel::{Channel, CommitmentState};
 use commit::Commitment;
 use penalty::payable_commitment;
 use std::alloc::{AllocError, Global};
+use updates::Tokens;
 
 /// A commitment, and the peer's tokens on it and on its HTLC transactions.
 #[derive(Drop)]

@@ -100,7 +100,7 @@ fn checked_htlc(
     keys: &CommitmentKeys,
     htlc: &HtlcOutput,
 ) -> Result<Checked, AllocError>
-    requires { htlc.now.htlc.expiry < locktime_threshold }
+    requires { htlc.now.htlc.expiry_height < locktime_threshold }
     ensures { IfOk result (λ c. c ≡ htlc_form
         (bytes_of keys.now) htlc.now.direction htlc.now.htlc) }
 {
@@ -115,7 +115,7 @@ fn htlc_item(
     keys: &CommitmentKeys,
     htlc: &HtlcOutput,
 ) -> Result<ByteString, AllocError>
-    requires { htlc.now.htlc.expiry < locktime_threshold }
+    requires { htlc.now.htlc.expiry_height < locktime_threshold }
     ensures value { IfOk result (λ s. s ≡ htlc_script_of
         (bytes_of keys.now) htlc.now.direction htlc.now.htlc) }
     ensures short { IfOk result (λ s. length s ≤ max_bytes) }
@@ -134,7 +134,7 @@ pub(crate) fn htlc_witness(
     local: &Token,
     item: ByteString,
 ) -> Result<Witness, AllocError>
-    requires height { htlc.now.htlc.expiry < locktime_threshold }
+    requires height { htlc.now.htlc.expiry_height < locktime_threshold }
     requires short { length item ≤ 32 }
     ensures { IfOk result (λ w. w ≡ [] ∷ remote.now ∷ local.now ∷ item ∷ htlc_script_of
         (bytes_of keys.now) htlc.now.direction htlc.now.htlc ∷ []) }

@@ -1,5 +1,5 @@
 -- The claims other than penalties are accepted.
-use Rattle.std.proofs.Common.{◌≡◌, ℕ, ◌<◌, ◌^◌, Bool, true, List, [], ◌∷◌, Some, refl, sym, ap, subst, ◌∙◌}
+use Rattle.std.proofs.Common.{◌≡◌, ℕ, ◌<◌, ◌^◌, true, List, [], ◌∷◌, Some, refl, sym, ap, subst, ◌∙◌}
 use Rattle.std.specs.Prelude.{◌≢◌, not}
 use Rattle.std.specs.Str.{bytes_eq}
 use Rattle.std.proofs.lemmas.Bool.{false≢true}
@@ -19,7 +19,7 @@ use Rattle.claim.specs.declared.parts.Shell.TheVariants.{Open, Fixed}
 use Rattle.claim.specs.Claims.{ClaimParts}
 use Rattle.claim.specs.Judgement.{bare_shell}
 use Rattle.forms.specs.declared.kinds.ClaimKind.{ClaimKind}
-use Rattle.forms.specs.declared.kinds.ClaimKind.TheVariants.{Delayed, DirectPreimage, DirectTimeout, HtlcTimeout, HtlcSuccess}
+use Rattle.forms.specs.declared.kinds.ClaimKind.TheVariants.{Delayed}
 use Rattle.forms.specs.Claims.{Claims, of_delayed, of_preimage, of_timeout, of_htlc_timeout, of_htlc_success, path_taken_by}
 use Rattle.forms.specs.Fillings.{Filling, Signature, Bytes, fillings_of}
 use Rattle.forms.specs.Forms.{to_local_form}
@@ -35,35 +35,34 @@ use Rattle.penalty.specs.Claimable.{Claimable, htlc_form}
 use Rattle.penalty.specs.Sets.{IsClaimOn}
 use Rattle.penalty.specs.Outputs.{HasWay}
 use Rattle.penalty.proofs.Programs.{same_htlc}
-use Rattle.penalty.proofs.Accepting.{open_way}
 use Rattle.resolve.specs.Due.{delayed_on, item_with_peers_key, direct_on, item_with_both_keys, second_stage_on}
 use Rattle.resolve.specs.Kinds.{direct_kind_of, second_stage_kind_of, IsDirect, IsSecondStage, IsHtlcPlace}
-use Rattle.resolve.proofs.Standing.{second_stage_way, htlc_tx_digest, htlc_tx_bare}
+use Rattle.resolve.proofs.Standing.{htlc_tx_digest, htlc_tx_bare}
 
 -- to_local
-pub claims_delayed : (revocation : List ℕ) (delay : ℕ) (delayed : Key) (checked : CheckedScript) (place : Place) → delay < 2 ^ 16 → checked ≡ to_local_form revocation delay delayed.bytes
+pub claims_delayed : (revocation : List ℕ) (delay_blocks : ℕ) (delayed : Key) (checked : CheckedScript) (place : Place) → delay_blocks < 2 ^ 16 → checked ≡ to_local_form revocation delay_blocks delayed.bytes
     → Claims (Delayed delayed) checked 1 place Open
-claims_delayed revocation delay delayed checked place l e = subst (λ x. Claims (Delayed delayed) x 1 place Open) (sym e) (of_delayed revocation delay delayed place l)
+claims_delayed revocation delay_blocks delayed checked place l e = subst (λ x. Claims (Delayed delayed) x 1 place Open) (sym e) (of_delayed revocation delay_blocks delayed place l)
 
-pub as_delayed : (c : Contents) (k : CommitmentKeys) (delay : ℕ) (checked : CheckedScript) (place : Place) (claim : ClaimParts) → bytes_of k ≡ c.keys → delay ≡ c.delay
-    → checked ≡ to_local_form k.revocation.bytes delay k.delayed.bytes
+pub as_delayed : (c : Contents) (k : CommitmentKeys) (delay_blocks : ℕ) (checked : CheckedScript) (place : Place) (claim : ClaimParts) → bytes_of k ≡ c.keys → delay_blocks ≡ c.delay_blocks
+    → checked ≡ to_local_form k.revocation.bytes delay_blocks k.delayed.bytes
     → IsClaimOn (record { place = place; form = checked; path = 1; slots = fillings_of (Delayed k.delayed); shell = Open }) claim → IsClaimOn (delayed_on c place) claim
-as_delayed c k delay checked place claim e d f i =
+as_delayed c k delay_blocks checked place claim e d f i =
     subst (λ o. IsClaimOn o claim)
     (ap (λ (x : CheckedScript). record { place = place; form = x; path = 1; slots = fillings_of (Delayed k.delayed); shell = Open }) (f ∙ ap (λ n. to_local_form k.revocation.bytes n k.delayed.bytes) d)
-    ∙ ap (λ (b : KeyBytes). record { place = place; form = to_local_form b.revocation c.delay b.delayed; path = 1; slots = Bytes [] ∷ Signature b.delayed ∷ []; shell = Open }) e)
+    ∙ ap (λ (b : KeyBytes). record { place = place; form = to_local_form b.revocation c.delay_blocks b.delayed; path = 1; slots = Bytes [] ∷ Signature b.delayed ∷ []; shell = Open }) e)
     i
 
 -- an HTLC by the peer's key
 differs : (a b : List ℕ) → not (bytes_eq a b) ≡ true → b ≢ a
 differs a b t e = false≢true (sym (ap not ((bytes_eq-Decides a b).1 (sym e))) ∙ t)
 
-claims_direct_at : (k : CommitmentKeys) (direction : Direction) (h : Htlc) (place : Place) → h.expiry < LOCKTIME_THRESHOLD → IsDirect (bytes_of k) direction h
+claims_direct_at : (k : CommitmentKeys) (direction : Direction) (h : Htlc) (place : Place) → h.expiry_height < LOCKTIME_THRESHOLD → IsDirect (bytes_of k) direction h
     → Claims (direct_kind_of k direction h) (htlc_form (bytes_of k) direction h) (path_taken_by (direct_kind_of k direction h)) place Open
 claims_direct_at k Offered h place l o = of_preimage (hash160 k.revocation.bytes) k.remote_htlc k.local_htlc.bytes h.hash place (differs (hash160 k.revocation.bytes) (ripemd160 h.hash) o)
-claims_direct_at k Received h place l o = of_timeout (hash160 k.revocation.bytes) k.remote_htlc k.local_htlc.bytes (ripemd160 h.hash) h.expiry place l (differs (hash160 k.revocation.bytes) (hash160 []) o)
+claims_direct_at k Received h place l o = of_timeout (hash160 k.revocation.bytes) k.remote_htlc k.local_htlc.bytes (ripemd160 h.hash) h.expiry_height place l (differs (hash160 k.revocation.bytes) (hash160 []) o)
 
-pub claims_direct : (c : Contents) (k : CommitmentKeys) (direction : Direction) (h : Htlc) (checked : CheckedScript) (place : Place) → bytes_of k ≡ c.keys → h.expiry < LOCKTIME_THRESHOLD
+pub claims_direct : (c : Contents) (k : CommitmentKeys) (direction : Direction) (h : Htlc) (checked : CheckedScript) (place : Place) → bytes_of k ≡ c.keys → h.expiry_height < LOCKTIME_THRESHOLD
     → IsDirect c.keys direction h → checked ≡ htlc_form (bytes_of k) direction h → Claims (direct_kind_of k direction h) checked (path_taken_by (direct_kind_of k direction h)) place Open
 claims_direct c k direction h checked place b l o e =
     subst (λ x. Claims (direct_kind_of k direction h) x (path_taken_by (direct_kind_of k direction h)) place Open) (sym e)
@@ -100,7 +99,7 @@ claims_second_at : (c : Contents) (k : CommitmentKeys) (direction : Direction) (
 claims_second_at c k Offered htlc h place o d =
     of_htlc_timeout (hash160 k.revocation.bytes) k.remote_htlc k.local_htlc (ripemd160 htlc.hash) place (htlc_tx_of c h) (htlc_digest c h) (differs (hash160 k.revocation.bytes) (hash160 []) o) d
 claims_second_at c k Received htlc h place o d =
-    of_htlc_success (hash160 k.revocation.bytes) k.remote_htlc k.local_htlc htlc.hash htlc.expiry place (htlc_tx_of c h) (htlc_digest c h) (differs (hash160 k.revocation.bytes) (ripemd160 htlc.hash) o) d
+    of_htlc_success (hash160 k.revocation.bytes) k.remote_htlc k.local_htlc htlc.hash htlc.expiry_height place (htlc_tx_of c h) (htlc_digest c h) (differs (hash160 k.revocation.bytes) (ripemd160 htlc.hash) o) d
 
 second_path : (k : CommitmentKeys) (direction : Direction) (h : Htlc) (token : List ℕ) → path_taken_by (second_stage_kind_of k direction h token) ≡ 1
 second_path k Offered h token = refl

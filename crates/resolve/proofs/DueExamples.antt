@@ -1,5 +1,5 @@
 -- What is due on commitments with an HTLC each way, by amounts and paths that were worked out by hand from BOLT 3 and BOLT 5.
-use Rattle.std.proofs.Common.{◌≡◌, ◌==◌, ℕ, Bool, true, false, map, List, [], ◌∷◌, Some, None, refl, replicate}
+use Rattle.std.proofs.Common.{◌≡◌, ◌==◌, ℕ, true, false, map, List, [], ◌∷◌, Some, None, refl, replicate}
 use Rattle.std.specs.Str.{bytes_eq}
 use Rattle.sha2.specs.Sha256.{sha256}
 use Rattle.tx.specs.declared.input.OutPoint.{OutPoint}
@@ -7,8 +7,7 @@ use Rattle.terms.specs.declared.htlcs.Htlc.{Htlc}
 use Rattle.terms.specs.declared.numbers.Obscured.{Obscured}
 use Rattle.claim.specs.declared.parts.Shell.{Shell}
 use Rattle.claim.specs.declared.parts.Shell.TheVariants.{Open, Fixed}
-use Rattle.forms.specs.Fillings.{Filling, Signature, PreimageOf, Bytes}
-use Rattle.script.specs.Token.{token_of}
+use Rattle.forms.specs.Fillings.{Signature, PreimageOf, Bytes}
 use Rattle.commit.specs.declared.fees.Direction.TheVariants.{Offered, Received}
 use Rattle.commit.specs.Keys.{KeyBytes}
 use Rattle.commit.specs.Outputs.{htlc_output, to_remote_output, to_local_output}
@@ -32,15 +31,15 @@ spot o = (o.place.outpoint.index, o.place.value, o.path, fixed_at o.shell)
 -- the owner offered an HTLC of 10,000 satoshis and received one of 11,000; 20,000 to the peer, and 58,000 to itself
 module _ (funding : OutPoint) (hidden : Obscured) (k : KeyBytes) (hash : List ℕ) (preimages : List (List ℕ)) where
   abbrev htlc : ℕ → ℕ → Htlc
-  htlc amount expiry = record { id = 0; amount = amount; hash = hash; expiry = expiry }
+  htlc amount_msat expiry_height = record { id = 0; amount_msat = amount_msat; hash = hash; expiry_height = expiry_height }
 
   abbrev both : Contents
   both = record {
     funding = funding;
     hidden = hidden;
     keys = k;
-    delay = 144;
-    feerate = 1000;
+    delay_blocks = 144;
+    feerate_per_kw = 1000;
     outputs = htlc_output k Offered (htlc 10000000 500) ∷ htlc_output k Received (htlc 11000000 600) ∷ to_remote_output k 20000 ∷ to_local_output 144 k 58000 ∷ [];
   }
 

@@ -1,9 +1,8 @@
 -- Claims that are appended to those on earlier outputs.
-use Rattle.std.proofs.Common.{◌≡◌, ℕ, ◌<◌, Bool, true, false, List, [], ◌∷◌, ◌++◌, zero, suc, ◌&&◌, map, length, get_or, Option, Some, None, refl, sym, ap, subst, ◌∙◌, arith, append-nil}
+use Rattle.std.proofs.Common.{◌≡◌, ℕ, ◌<◌, Bool, true, false, List, [], ◌∷◌, ◌++◌, ◌&&◌, length, get_or, Some, sym, ap, subst, ◌∙◌, append-nil}
 use Rattle.std.specs.Prelude.{slice_get, option_map, if◌then◌else◌}
 use Rattle.std.proofs.lemmas.Option.{slice_get-map, slice_get_within, get_or_from_slice_get}
 use Rattle.script.specs.Token.{token_of}
-use Rattle.tx.specs.Parts.{Output}
 use Rattle.terms.specs.declared.htlcs.Htlc.{Htlc}
 use Rattle.claim.specs.Claims.{ClaimParts}
 use Rattle.claim.specs.declared.parts.Place.{Place}
@@ -13,18 +12,15 @@ use Rattle.commit.specs.declared.outputs.OutputKind.{OutputKind}
 use Rattle.commit.specs.declared.outputs.OutputKind.TheVariants.{ToHtlc}
 use Rattle.commit.specs.declared.outputs.CommitmentOutput.{CommitmentOutput}
 use Rattle.commit.specs.declared.outputs.HtlcOutput.{HtlcOutput}
-use Rattle.commit.specs.Fees.{satoshis_of}
 use Rattle.commit.specs.Keys.{KeyBytes}
-use Rattle.sighash.specs.Programs.{script_hash_program}
-use Rattle.commit.specs.Outputs.{htlc_script}
-use Rattle.commit.specs.Commitments.{Contents, IsOutputOf, IsHtlcOf, tx_output, transaction_of, id_of, htlcs_of, htlc_at}
+use Rattle.commit.specs.Commitments.{Contents, IsOutputOf, IsHtlcOf, tx_output, transaction_of, htlcs_of}
 use Rattle.commit.specs.Signing.{htlc_digest, htlc_digests}
 use Rattle.penalty.specs.Claimable.{Claimable, place_in, claims_by}
 use Rattle.penalty.specs.Sets.{IsClaimOn, AreClaimsOn}
 use Rattle.penalty.specs.Outputs.{HasHeight, program_of, IsOutput}
 use Rattle.script.specs.declared.limits.TheConstants.{LOCKTIME_THRESHOLD}
 use Rattle.resolve.specs.Preimages.{is_known}
-use Rattle.resolve.specs.Due.{can_time_out, can_pay, is_owners, is_peers, direct_on, second_stage_on, delayed_second_stage, owners_on, peers_on, owners_due, peers_due}
+use Rattle.resolve.specs.Due.{can_pay, is_owners, is_peers, direct_on, second_stage_on, delayed_second_stage, owners_on, peers_on, owners_due, peers_due}
 use Rattle.resolve.specs.Kinds.{IsDirect, IsSecondStage, IsHtlcPlace}
 use Rattle.resolve.specs.Signed.{AreHtlcTokens}
 
@@ -45,17 +41,17 @@ token_is c tokens k h token a e f = f ∙ get_or_from_slice_get tokens k (token_
 
 -- what a claim on an HTLC's output needs
 pub htlc_place : (c : Contents) (index : ℕ) (o : CommitmentOutput) (direction : Direction) (h : Htlc) (place : Place) → o.kind ≡ ToHtlc direction h
-    → IsOutput c.delay c.keys o → IsOutputOf c.keys o → place ≡ place_in (transaction_of c) index (tx_output o)
+    → IsOutput c.delay_blocks c.keys o → IsOutputOf c.keys o → place ≡ place_in (transaction_of c) index (tx_output o)
     → IsHtlcPlace c (record { index = index; direction = direction; htlc = h }) place
 htlc_place c index o direction h place k i l e = record {
   id = ap (λ (p : Place). p.outpoint.txid) e;
   index = ap (λ (p : Place). p.outpoint.index) e;
   value = ap (λ (p : Place). p.value) e ∙ (subst (IsHtlcOf c.keys o) k l.htlc).0;
-  program = ap (λ (p : Place). p.program) e ∙ i.program ∙ ap (program_of c.delay c.keys) k;
+  program = ap (λ (p : Place). p.program) e ∙ i.program ∙ ap (program_of c.delay_blocks c.keys) k;
 }
 
-pub htlc_height : (delay : ℕ) (b : KeyBytes) (o : CommitmentOutput) (direction : Direction) (h : Htlc) → o.kind ≡ ToHtlc direction h → IsOutput delay b o → h.expiry < LOCKTIME_THRESHOLD
-htlc_height delay b o direction h k i = subst HasHeight k i.height
+pub htlc_height : (delay_blocks : ℕ) (b : KeyBytes) (o : CommitmentOutput) (direction : Direction) (h : Htlc) → o.kind ≡ ToHtlc direction h → IsOutput delay_blocks b o → h.expiry_height < LOCKTIME_THRESHOLD
+htlc_height delay_blocks b o direction h k i = subst HasHeight k i.height
 
 second_part : (a b : Bool) → (a && b) ≡ true → b ≡ true
 second_part true b e = e

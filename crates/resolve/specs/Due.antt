@@ -47,7 +47,7 @@ is_peers preimages k Received h = can_time_out k
 abbrev pub delayed_on : Contents → Place → Claimable
 delayed_on c place = record {
   place = place;
-  form = to_local_form c.keys.revocation c.delay c.keys.delayed;
+  form = to_local_form c.keys.revocation c.delay_blocks c.keys.delayed;
   path = 1;
   slots = Bytes [] ∷ Signature c.keys.delayed ∷ [];
   shell = Open;

@@ -38,5 +38,5 @@ IsSecondStage k Received h = can_pay k h ≡ true
 pub record IsHtlcPlace (c : Contents) (h : HtlcOutput) (place : Place) : Type 0 where
   pub id : place.outpoint.txid ≡ id_of c
   pub index : place.outpoint.index ≡ h.index
-  pub value : place.value ≡ satoshis_of h.htlc.amount
+  pub value : place.value ≡ satoshis_of h.htlc.amount_msat
   pub program : place.program ≡ script_hash_program (htlc_script c.keys h.direction h.htlc)

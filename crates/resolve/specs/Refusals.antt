@@ -1,5 +1,5 @@
 -- The refusals by their numbers.
-use Rattle.std.specs.Prelude.{◌≡◌, ℕ, Option, Some}
+use Rattle.std.specs.Prelude.{ℕ}
 use Rattle.penalty.specs.declared.errors.StateError.{StateError}
 use Rattle.penalty.specs.declared.errors.StateError.TheVariants.{TooManyHtlcs as ManyHtlcs, ExpiryTooLarge as LargeExpiry, WrongTotal as OtherTotal}
 use Rattle.resolve.specs.declared.errors.KnownError.{KnownError}

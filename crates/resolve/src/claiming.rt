@@ -75,11 +75,11 @@ pub(crate) fn delayed_on(
     place: Place,
 ) -> Result<Claim, AllocError>
     requires { place.program ≡ script_hash_program
-        (to_local_script_of commitment.now.delay commitment.now.keys) }
+        (to_local_script_of commitment.now.delay_blocks commitment.now.keys) }
     ensures { IfOk result (IsClaimOn (delayed_on commitment.now place)) }
 {
     let keys = commitment.keys();
-    let checked = to_local_script(alloc, patterns, keys, commitment.delay())?;
+    let checked = to_local_script(alloc, patterns, keys, commitment.delay_blocks())?;
     let kind = ClaimKind::Delayed {
         delayed: keys.delayed,
     };
@@ -110,7 +110,7 @@ pub(crate) fn direct_on(
     place: Place,
 ) -> Result<Claim, AllocError>
     requires open { IsDirect commitment.now.keys direction htlc.now }
-    requires height { htlc.now.expiry < locktime_threshold }
+    requires height { htlc.now.expiry_height < locktime_threshold }
     requires program { place.program ≡ script_hash_program
         (htlc_script_of commitment.now.keys direction htlc.now) }
     ensures { IfOk result (IsClaimOn (direct_on commitment.now direction htlc.now place)) }
@@ -155,7 +155,7 @@ pub(crate) fn second_stage_on(
     place: Place,
 ) -> Result<Claim, AllocError>
     requires open { IsSecondStage commitment.now.keys htlc.now.direction htlc.now.htlc }
-    requires height { htlc.now.htlc.expiry < locktime_threshold }
+    requires height { htlc.now.htlc.expiry_height < locktime_threshold }
     requires token { token ≡ token_of commitment.now.keys.remote_htlc
         (htlc_digest commitment.now htlc.now) }
     requires tx { tx ≡ htlc_tx_of commitment.now htlc.now }

@@ -34,7 +34,7 @@ fn push_second_stage(
 ) -> Result<(), AllocError>
     requires kth { slice_get (htlcs_of own.now.commitment) k ≡ Some htlc.now }
     requires open { IsSecondStage own.now.commitment.keys htlc.now.direction htlc.now.htlc }
-    requires height { htlc.now.htlc.expiry < locktime_threshold }
+    requires height { htlc.now.htlc.expiry_height < locktime_threshold }
     requires place { IsHtlcPlace own.now.commitment htlc.now place }
     ensures { OnOk result ((done : Values Claimable) → AreClaimsOn done claims.old.items
         → AreClaimsOn (done ++ second_stage_on own.now.commitment htlc.now place
@@ -62,7 +62,7 @@ fn push_owners(
     output: &CommitmentOutput,
     claims: &mut Vec<Claim>,
 ) -> Result<(), AllocError>
-    requires output { IsOutput own.now.commitment.delay own.now.commitment.keys output.now }
+    requires output { IsOutput own.now.commitment.delay_blocks own.now.commitment.keys output.now }
     requires value { IsOutputOf own.now.commitment.keys output.now }
     requires htlc { (h : HtlcParts) → htlc_at index output.now.kind ≡ Some h
         → slice_get (htlcs_of own.now.commitment) k ≡ Some h }
@@ -133,7 +133,7 @@ fn push_peers(
     output: &CommitmentOutput,
     claims: &mut Vec<Claim>,
 ) -> Result<(), AllocError>
-    requires { IsOutput theirs.now.delay theirs.now.keys output.now }
+    requires { IsOutput theirs.now.delay_blocks theirs.now.keys output.now }
     ensures { OnOk result ((done : Values Claimable) → AreClaimsOn done claims.old.items
         → AreClaimsOn (done ++ peers_on known.now theirs.now index
         (place_in (transaction_of theirs.now) index (tx_output output.now)) output.now.kind)

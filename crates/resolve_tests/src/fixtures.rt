@@ -22,12 +22,12 @@ fn key(rt: &impl Abort, fill: u8) -> Key {
 }
 
 // A side whose funding key has this byte, and whose other keys have the next one.
-fn party(rt: &impl Abort, start: u64, fill: u8) -> Party {
+fn party(rt: &impl Abort, start_msat: u64, fill: u8) -> Party {
     let bases = BaseKeys {
         funding: key(rt, fill),
         ..one_key(key(rt, fill ^ 1))
     };
-    party_with(bases, start)
+    party_with(bases, start_msat)
 }
 
 /// The terms of a channel of 100,000 satoshis on a funding output.

@@ -29,9 +29,9 @@ fn funding_output(rt: &impl Abort, alloc: Global) -> TxOut {
 fn theirs(rt: &impl Abort, alloc: Global, terms: &Terms) -> KnownCommitment {
     let htlc = Htlc {
         id: 0,
-        amount: 10_000_000,
+        amount_msat: 10_000_000,
         hash: sha256(&PREIMAGE),
-        expiry: 500,
+        expiry_height: 500,
     };
     let view = view(alloc, [80_000_000, 10_000_000], &[], &[htlc]).expect(rt, "memory");
     commitment_to(rt, alloc, terms, &view, Side::B, 2)

@@ -82,7 +82,7 @@ out_of_memory : (call : Call) → ran_out (no_memory_of call) ≡ true
 out_of_memory (Open o) = refl
 out_of_memory (Step c step) = refl
 out_of_memory (Sign c) = refl
-out_of_memory (Revoke c secret next_point) = refl
+out_of_memory (Revoke c revocation) = refl
 out_of_memory (Keep c n claims) = refl
 out_of_memory (Release c batch) = refl
 out_of_memory (Close c) = refl

@@ -36,17 +36,17 @@ pub record IsFirstEnd (history : History) (e : End) : Type 0 where
   pub last : last_in e.seat ≡ history
 
 -- the same of both ends of a channel, each with its side's history
-pub record IsFirst (a b : History) (l : Line) : Type 0 where
+pub record IsFirstLine (a b : History) (l : Line) : Type 0 where
   pub a_first : IsFirstEnd a l.a
   pub b_first : IsFirstEnd b l.b
 
 -- the same at the desks of two sides, each with the history with which its desk was made
-abbrev pub IsFirstIn : Closers → Line → Type 0
-IsFirstIn closers = IsFirst (opening_in closers.a) (opening_in closers.b)
+abbrev pub IsFirstLineIn : Closers → Line → Type 0
+IsFirstLineIn closers = IsFirstLine (opening_in closers.a) (opening_in closers.b)
 
 -- the events of all channels below a number were played, each channel's from ends that have made no call, of sides whose books have these histories
 pub record AreAllPlayed (a b : History) (channels : ℕ) (events : List Event) (counts : List Counts) : Type 0 where
   pub lines : List Line
   pub numbers : map (λ l. l.channel) lines ≡ range_with_len 0 channels
-  pub first : All (IsFirst a b) lines
+  pub first : All (IsFirstLine a b) lines
   pub played : ArePlayed events lines counts

@@ -20,7 +20,7 @@ use desk::Seat;
 use jobs::{JobSender, Pass};
 use node::Job;
 use side::{call_of, message_of};
-use std::alloc::{AllocError, Global};
+use std::alloc::AllocError;
 use std::collections::VecDeque;
 use std::sync::Wait;
 use updates::OwnUpdate;
@@ -213,7 +213,6 @@ fn take<R: Wait>(
 // Receives the oldest message, if there is one.
 fn deliver<R: Wait>(
     rt: &R,
-    alloc: Global,
     office: &Office,
     me: &mut End,
     inbox: &mut VecDeque<Message>,
@@ -225,7 +224,7 @@ fn deliver<R: Wait>(
         me.new inbox.old.items inbox.new.items) }
 {
     match me.inbox.front() {
-        Some(message) => match call_of(alloc, channel, message) {
+        Some(message) => match call_of(channel, message) {
             Ok(call) => take(rt, office, me, inbox, channel, call),
             Err(error) => Err(error),
         },
@@ -237,7 +236,6 @@ fn deliver<R: Wait>(
 /// is that memory ran out.
 pub(crate) fn act_for<R: Wait>(
     rt: &R,
-    alloc: Global,
     office: &Office,
     me: &mut End,
     inbox: &mut VecDeque<Message>,
@@ -256,7 +254,7 @@ pub(crate) fn act_for<R: Wait>(
             send(rt, office, &mut me.seat, inbox, call)
         }
         Act::Sign => sign(rt, office, &mut me.seat, inbox, channel),
-        Act::Deliver => deliver(rt, alloc, office, me, inbox, channel),
+        Act::Deliver => deliver(rt, office, me, inbox, channel),
         Act::Close => send(rt, office, &mut me.seat, inbox, Call::Close { channel }),
     }
 }

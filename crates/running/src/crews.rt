@@ -5,7 +5,7 @@ ghost use Rattle.std.specs.List.{range_with_len};
 ghost use Rattle.board.specs.Seats as board_seats;
 ghost use Rattle.running.specs.Crews.{IsOwnSeat, IsStock, IsWorker, IsWatcher, IsMember, IsEnd, IsLine, IsPlayer, IsCrew};
 ghost use Rattle.desk.specs.Seats.{opening_in};
-ghost use Rattle.running.specs.Playing.{IsFirstEnd, IsFirstIn};
+ghost use Rattle.running.specs.Playing.{IsFirstEnd, IsFirstLineIn};
 
 use crate::ends::End;
 use crate::houses::{Closers, House, Office};
@@ -223,7 +223,7 @@ fn line_of(
     requires a { IsStock house.now.a closers.now.a a.old × (0 < length a.old.seats.items) }
     requires b { IsStock house.now.b closers.now.b b.old × (0 < length b.old.seats.items) }
     ensures line { IfOk result (λ l. IsLine house.now l × (l.channel ≡ channel)
-        × IsFirstIn closers.now l) }
+        × IsFirstLineIn closers.now l) }
     ensures a { IsStock house.now.a closers.now.a a.new }
     ensures b { IsStock house.now.b closers.now.b b.new }
     ensures a_left { OnOk result (length a.new.seats.items + 1 ≡ length a.old.seats.items) }
@@ -251,7 +251,7 @@ fn lines_of(
     requires a { IsStock house.now.a closers.now.a a.old × (count ≤ length a.old.seats.items) }
     requires b { IsStock house.now.b closers.now.b b.old × (count ≤ length b.old.seats.items) }
     ensures lines { IfOk result (λ v. All (IsLine house.now) v.items) }
-    ensures first { IfOk result (λ v. All (IsFirstIn closers.now) v.items) }
+    ensures first { IfOk result (λ v. All (IsFirstLineIn closers.now) v.items) }
     ensures channels { IfOk result (λ v. map (λ l. l.channel) v.items
         ≡ range_with_len 0 count) }
     ensures a { IsStock house.now.a closers.now.a a.new }
@@ -306,7 +306,7 @@ fn crew_from(
     ensures crew { IfOk result (IsCrew house.now) }
     ensures many_a { IfOk result (λ c. length c.staff_a.items ≡ workers + 1) }
     ensures many_b { IfOk result (λ c. length c.staff_b.items ≡ workers + 1) }
-    ensures first { IfOk result (λ c. All (IsFirstIn closers.now) c.lines.items) }
+    ensures first { IfOk result (λ c. All (IsFirstLineIn closers.now) c.lines.items) }
     ensures channels { IfOk result (λ c. map (λ l. l.channel) c.lines.items
         ≡ range_with_len 0 channels) }
 {
@@ -344,7 +344,7 @@ pub(crate) fn crew_of(
     ensures crew { IfOk result (IsCrew house.now) }
     ensures many_a { IfOk result (λ c. length c.staff_a.items ≡ workers + 1) }
     ensures many_b { IfOk result (λ c. length c.staff_b.items ≡ workers + 1) }
-    ensures first { IfOk result (λ c. All (IsFirstIn closers.now) c.lines.items) }
+    ensures first { IfOk result (λ c. All (IsFirstLineIn closers.now) c.lines.items) }
     ensures channels { IfOk result (λ c. map (λ l. l.channel) c.lines.items
         ≡ range_with_len 0 channels) }
 {

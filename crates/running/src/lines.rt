@@ -11,7 +11,7 @@ use crate::counts::Counts;
 use crate::ends::End;
 use crate::houses::House;
 use scenario::Event;
-use std::alloc::{AllocError, Global};
+use std::alloc::AllocError;
 use std::sync::Wait;
 use terms::Side;
 
@@ -79,7 +79,6 @@ fn turn_in(channel: u64, event: &Event) -> Option<Turn>
 // Does what a side does. Returns whether it was done and not refused. The only error is that memory ran out.
 fn play_turn<R: Wait>(
     rt: &R,
-    alloc: Global,
     house: &House,
     line: &mut Line,
     turn: &Turn,
@@ -93,7 +92,6 @@ fn play_turn<R: Wait>(
     match turn.side {
         Side::A => act_for(
             rt,
-            alloc,
             &house.a,
             &mut line.a,
             &mut line.b.inbox,
@@ -102,7 +100,6 @@ fn play_turn<R: Wait>(
         ),
         Side::B => act_for(
             rt,
-            alloc,
             &house.b,
             &mut line.b,
             &mut line.a.inbox,
@@ -115,7 +112,6 @@ fn play_turn<R: Wait>(
 // Plays an event, if it is one of the channel, and counts it. The only error is that memory ran out.
 fn play_event<R: Wait>(
     rt: &R,
-    alloc: Global,
     house: &House,
     line: &mut Line,
     event: &Event,
@@ -132,7 +128,7 @@ fn play_event<R: Wait>(
             refused: 0,
         });
     };
-    match play_turn(rt, alloc, house, line, &turn) {
+    match play_turn(rt, house, line, &turn) {
         Ok(true) => Ok(Counts {
             played: 1,
             refused: 0,
@@ -148,7 +144,6 @@ fn play_event<R: Wait>(
 // Plays the events of a channel, in their order. The only error is that memory ran out.
 fn play_all<R: Wait>(
     rt: &R,
-    alloc: Global,
     house: &House,
     events: &[Event],
     line: &mut Line,
@@ -161,7 +156,7 @@ fn play_all<R: Wait>(
         refused: 0,
     };
     for index in 0..events.len() {
-        let more = play_event(rt, alloc, house, line, &events[index])?;
+        let more = play_event(rt, house, line, &events[index])?;
         counts = Counts {
             played: counts.played + more.played,
             refused: counts.refused + more.refused,
@@ -174,7 +169,6 @@ fn play_all<R: Wait>(
 #[tactic(auto, using(crate::proofs::Playing::played_on))]
 pub(crate) fn play_line<R: Wait>(
     rt: &R,
-    alloc: Global,
     house: &House,
     events: &[Event],
     mine: Line,
@@ -183,7 +177,7 @@ pub(crate) fn play_line<R: Wait>(
     ensures { IfOk result (IsPlayed events.now mine) }
 {
     let mut line = mine;
-    let counts = play_all(rt, alloc, house, events, &mut line);
+    let counts = play_all(rt, house, events, &mut line);
     drop(line);
     counts
 }

@@ -90,7 +90,7 @@ fn play_lines<R: Threads + Wait + Sync>(
         &|line: Line| -> Result<Counts, AllocError>
             requires { IsLine house.now line }
             ensures { IfOk result (IsPlayed events.entry.now line) }
-        { play_line(rt, alloc, house, events, line) },
+        { play_line(rt, house, events, line) },
     )?;
     counts_in(alloc, played)
 }

@@ -29,7 +29,7 @@ use Rattle.safety.proofs.Outputs.{one_output}
 
 module _ (of_a of_b : BaseKeys) (point : Key) (hash : List ℕ) where
   abbrev side : ℕ → ℕ → BaseKeys → Party
-  side start delay bases = record { dust = 546; delay = delay; minimum = 0; start = start; bases = bases }
+  side start_msat delay_blocks bases = record { dust_sat = 546; delay_blocks = delay_blocks; minimum_msat = 0; start_msat = start_msat; bases = bases }
 
   abbrev funding : OutPoint
   funding = record { txid = replicate 32 0xab; index = 1 }
@@ -38,9 +38,9 @@ module _ (of_a of_b : BaseKeys) (point : Key) (hash : List ℕ) where
   abbrev terms : Terms
   terms = record {
     funding = funding;
-    capacity = 100000;
+    capacity_sat = 100000;
     opener = A;
-    feerate = 1000;
+    feerate_per_kw = 1000;
     a = side 80000000 144 of_a;
     b = side 20000000 72 of_b;
     limited = lit≤ tt;
@@ -50,10 +50,10 @@ module _ (of_a of_b : BaseKeys) (point : Key) (hash : List ℕ) where
   }
 
   abbrev htlc : Htlc
-  htlc = record { id = 0; amount = 10000000; hash = hash; expiry = 5 }
+  htlc = record { id = 0; amount_msat = 10000000; hash = hash; expiry_height = 5 }
 
   abbrev view : View
-  view = record { a = record { balance = 70000000; offered = htlc ∷ [] }; b = record { balance = 20000000; offered = [] }; feerate = 1000 }
+  view = record { a = record { balance_msat = 70000000; offered = htlc ∷ [] }; b = record { balance_msat = 20000000; offered = [] }; feerate_per_kw = 1000 }
 
   -- A's commitment of a number: A offers an HTLC of 10,000 satoshis
   abbrev held : ℕ → CommitmentState

@@ -79,26 +79,26 @@ any_last P [] y p = (0, y, omega arith, refl, p)
 any_last P (x ∷ xs) y p = let r = any_last P xs y p in (suc r.0, r.1, (let l = r.2 in omega (arith, l)), r.3, r.4)
 
 -- the revocation key's token, and 01
-penalty_clean : (revocation : List ℕ) (delay : ℕ) (delayed : List ℕ) → delay < 2 ^ 16 → is_key revocation ≡ true → is_key delayed ≡ true → (spend : Spend) → length spend.digest ≡ 32
-    → outcome spend (to_local revocation delay delayed) (token_of revocation spend.digest ∷ (1 ∷ []) ∷ []) ≡ Clean 6 2
-penalty_clean revocation delay delayed h k l spend d =
-    (sound-at (to_local revocation delay delayed) (to_local_ways revocation delay delayed) 0 _
-    (listing-sound (to_local revocation delay delayed) (to_local_ways revocation delay delayed) (to_local-listed revocation delay delayed h k l (key-length revocation k) (key-length delayed l))) refl).clean spend
+penalty_clean : (revocation : List ℕ) (delay_blocks : ℕ) (delayed : List ℕ) → delay_blocks < 2 ^ 16 → is_key revocation ≡ true → is_key delayed ≡ true → (spend : Spend) → length spend.digest ≡ 32
+    → outcome spend (to_local revocation delay_blocks delayed) (token_of revocation spend.digest ∷ (1 ∷ []) ∷ []) ≡ Clean 6 2
+penalty_clean revocation delay_blocks delayed h k l spend d =
+    (sound-at (to_local revocation delay_blocks delayed) (to_local_ways revocation delay_blocks delayed) 0 _
+    (listing-sound (to_local revocation delay_blocks delayed) (to_local_ways revocation delay_blocks delayed) (to_local-listed revocation delay_blocks delayed h k l (key-length revocation k) (key-length delayed l))) refl).clean spend
     (token_of revocation spend.digest ∷ (1 ∷ []) ∷ [])
     (record { exact = refl; short = rw (token_short revocation spend.digest k d) refl; holds = (refl, (token-signature revocation spend.digest k d, (same_eq (token_of revocation spend.digest), tt))) })
 
 -- the delayed key's token and the empty item, where the delay has passed
-delayed_clean : (revocation : List ℕ) (delay : ℕ) (delayed : List ℕ) → delay < 2 ^ 16 → is_key revocation ≡ true → is_key delayed ≡ true → (spend : Spend) → length spend.digest ≡ 32 → age_passes spend delay ≡ true
-    → outcome spend (to_local revocation delay delayed) (token_of delayed spend.digest ∷ [] ∷ []) ≡ Clean 6 2
-delayed_clean revocation delay delayed h k l spend d age =
-    (sound-at (to_local revocation delay delayed) (to_local_ways revocation delay delayed) 1 _
-    (listing-sound (to_local revocation delay delayed) (to_local_ways revocation delay delayed) (to_local-listed revocation delay delayed h k l (key-length revocation k) (key-length delayed l))) refl).clean spend
+delayed_clean : (revocation : List ℕ) (delay_blocks : ℕ) (delayed : List ℕ) → delay_blocks < 2 ^ 16 → is_key revocation ≡ true → is_key delayed ≡ true → (spend : Spend) → length spend.digest ≡ 32 → age_passes spend delay_blocks ≡ true
+    → outcome spend (to_local revocation delay_blocks delayed) (token_of delayed spend.digest ∷ [] ∷ []) ≡ Clean 6 2
+delayed_clean revocation delay_blocks delayed h k l spend d age =
+    (sound-at (to_local revocation delay_blocks delayed) (to_local_ways revocation delay_blocks delayed) 1 _
+    (listing-sound (to_local revocation delay_blocks delayed) (to_local_ways revocation delay_blocks delayed) (to_local-listed revocation delay_blocks delayed h k l (key-length revocation k) (key-length delayed l))) refl).clean spend
     (token_of delayed spend.digest ∷ [] ∷ [])
     (record { exact = refl; short = rw (token_short delayed spend.digest l d) refl; holds = (refl, (age, (token-signature delayed spend.digest l d, (same_eq (token_of delayed spend.digest), tt)))) })
 
 -- to_local's script is longer than a token
-script_long : (revocation : List ℕ) (delay : ℕ) (delayed : List ℕ) → length revocation ≡ 33 → length delayed ≡ 33 → 66 < length (spelling (to_local revocation delay delayed))
-script_long revocation delay delayed m n = simp length-append (omega (arith, m, n))
+script_long : (revocation : List ℕ) (delay_blocks : ℕ) (delayed : List ℕ) → length revocation ≡ 33 → length delayed ≡ 33 → 66 < length (spelling (to_local revocation delay_blocks delayed))
+script_long revocation delay_blocks delayed m n = simp length-append (omega (arith, m, n))
 
 -- the tokens of both HTLC keys between two empty items
 timeout_clean : (hash remote local payment : List ℕ) → length hash ≡ 20 → length payment ≡ 20 → is_key remote ≡ true → is_key local ≡ true → bytes_eq (hash160 []) hash ≡ false → (spend : Spend) → length spend.digest ≡ 32
@@ -143,17 +143,17 @@ abbrev pub bases : ℕ → BaseKeys
 bases b = record { funding = key b; payment = key (b + 1); delayed = key (b + 2); htlc = key (b + 3); revocation = key (b + 4) }
 
 abbrev pub side : ℕ → ℕ → BaseKeys → Party
-side start delay b = record { dust = 546; delay = delay; minimum = 0; start = start; bases = b }
+side start_msat delay_blocks b = record { dust_sat = 546; delay_blocks = delay_blocks; minimum_msat = 0; start_msat = start_msat; bases = b }
 
 module _ (funding : OutPoint) (hash : List ℕ) where
   abbrev pub terms : Terms
-  terms = record { funding = funding; capacity = 100000; opener = A; feerate = 1000; a = side 80000000 144 (bases 0x10); b = side 20000000 72 (bases 0x20); limited = lit≤ tt; whole = refl; short_a = lit< tt; short_b = lit< tt }
+  terms = record { funding = funding; capacity_sat = 100000; opener = A; feerate_per_kw = 1000; a = side 80000000 144 (bases 0x10); b = side 20000000 72 (bases 0x20); limited = lit≤ tt; whole = refl; short_a = lit< tt; short_b = lit< tt }
 
   abbrev pub htlc : Htlc
-  htlc = record { id = 0; amount = 10000000; hash = hash; expiry = 5 }
+  htlc = record { id = 0; amount_msat = 10000000; hash = hash; expiry_height = 5 }
 
   abbrev pub view : View
-  view = record { a = record { balance = 70000000; offered = htlc ∷ [] }; b = record { balance = 20000000; offered = [] }; feerate = 1000 }
+  view = record { a = record { balance_msat = 70000000; offered = htlc ∷ [] }; b = record { balance_msat = 20000000; offered = [] }; feerate_per_kw = 1000 }
 
   abbrev pub state : RevokedState
   state = record { terms = terms; view = view; owner = A; number = 1; secret = replicate 32 0x55; few = lit≤ tt; heights = refl; whole = refl }
@@ -163,7 +163,7 @@ module _ (funding : OutPoint) (hash : List ℕ) where
 
   -- to_local stands at index 2, and the HTLC at index 0
   abbrev on_to_local : Claimable
-  on_to_local = penalty_on c (place_in (transaction_of c) 2 (record { value = 69104; script = script_hash_program (to_local_script c.delay c.keys) }))
+  on_to_local = penalty_on c (place_in (transaction_of c) 2 (record { value = 69104; script = script_hash_program (to_local_script c.delay_blocks c.keys) }))
 
   abbrev pub on_htlc : Claimable
   on_htlc = htlc_penalty_on c Offered htlc (place_in (transaction_of c) 0 (record { value = 10000; script = script_hash_program (htlc_script c.keys Offered htlc) }))
@@ -194,16 +194,16 @@ module _ (funding : OutPoint) (hash : List ℕ) where
   same_digest sequence witness =
       ap sha256 (ap sha256 (sym (unsigned_list (spending (input_on on_to_local sequence witness)) (input_on on_to_local sequence witness) (spelling on_to_local.form.ops) on_to_local.place.value)))
 
-  delay_is : c.delay ≡ 144
+  delay_is : c.delay_blocks ≡ 144
   unfolding commitment_of
   delay_is = refl
 
-  same_to_local : script_hash_program (to_local_script c.delay c.keys) ≡ script_hash_program (spelling (to_local c.keys.revocation c.delay c.keys.delayed))
+  same_to_local : script_hash_program (to_local_script c.delay_blocks c.keys) ≡ script_hash_program (spelling (to_local c.keys.revocation c.delay_blocks c.keys.delayed))
   unfolding to_local_script
   same_to_local = refl
 
   script_short : length (spelling on_to_local.form.ops) ≤ MAX_SCRIPT_SIZE
-  script_short = no_longer _ _ (to_local_ops c.keys.revocation c.delay c.keys.delayed (omega (arith, delay_is)) (keys_in state).revocation (keys_in state).delayed)
+  script_short = no_longer _ _ (to_local_ops c.keys.revocation c.delay_blocks c.keys.delayed (omega (arith, delay_is)) (keys_in state).revocation (keys_in state).delayed)
 
   limits_on : (sequence : ℕ) (first second : List ℕ) → sequence < 2 ^ 32 → length first ≤ 100 → length second ≤ 100 → KeepsLimits (spending (input_on on_to_local sequence (first ∷ second ∷ spelling on_to_local.form.ops ∷ [])))
   limits_on sequence first second s a b = record {
@@ -228,10 +228,10 @@ module _ (funding : OutPoint) (hash : List ℕ) where
     passes = passes 2 (spending penalty) penalty (coin_of on_to_local) 6 2 refl refl refl
         (ap (λ p. run_of (spending penalty) penalty (record { value = 69104; script = p })) same_to_local
         ∙ shown (spending penalty) penalty 69104 on_to_local.form.ops ((1 ∷ []) ∷ token_of c.keys.revocation (digest_on 0) ∷ []) (Clean 6 2)
-        (to_local_ops c.keys.revocation c.delay c.keys.delayed (omega (arith, delay_is)) (keys_in state).revocation (keys_in state).delayed) refl
+        (to_local_ops c.keys.revocation c.delay_blocks c.keys.delayed (omega (arith, delay_is)) (keys_in state).revocation (keys_in state).delayed) refl
         (ap (λ d. outcome (spend_of (spending penalty) penalty (spelling on_to_local.form.ops) 69104) on_to_local.form.ops (token_of c.keys.revocation d ∷ (1 ∷ []) ∷ []))
         (sym (same_digest 0 (token_of c.keys.revocation (digest_on 0) ∷ (1 ∷ []) ∷ spelling on_to_local.form.ops ∷ [])))
-        ∙ penalty_clean c.keys.revocation c.delay c.keys.delayed (omega (arith, delay_is)) (keys_in state).revocation (keys_in state).delayed
+        ∙ penalty_clean c.keys.revocation c.delay_blocks c.keys.delayed (omega (arith, delay_is)) (keys_in state).revocation (keys_in state).delayed
         (spend_of (spending penalty) penalty (spelling on_to_local.form.ops) 69104) (length-sha256 _)));
   }
 
@@ -265,10 +265,10 @@ module _ (funding : OutPoint) (hash : List ℕ) where
     passes = passes 145 (spending late) late (coin_of on_to_local) 6 2 refl refl refl
         (ap (λ p. run_of (spending late) late (record { value = 69104; script = p })) same_to_local
         ∙ shown (spending late) late 69104 on_to_local.form.ops ([] ∷ token_of c.keys.delayed (digest_on 144) ∷ []) (Clean 6 2)
-        (to_local_ops c.keys.revocation c.delay c.keys.delayed (omega (arith, delay_is)) (keys_in state).revocation (keys_in state).delayed) refl
+        (to_local_ops c.keys.revocation c.delay_blocks c.keys.delayed (omega (arith, delay_is)) (keys_in state).revocation (keys_in state).delayed) refl
         (ap (λ d. outcome (spend_of (spending late) late (spelling on_to_local.form.ops) 69104) on_to_local.form.ops (token_of c.keys.delayed d ∷ [] ∷ []))
         (sym (same_digest 144 (token_of c.keys.delayed (digest_on 144) ∷ [] ∷ spelling on_to_local.form.ops ∷ [])))
-        ∙ delayed_clean c.keys.revocation c.delay c.keys.delayed (omega (arith, delay_is)) (keys_in state).revocation (keys_in state).delayed
+        ∙ delayed_clean c.keys.revocation c.delay_blocks c.keys.delayed (omega (arith, delay_is)) (keys_in state).revocation (keys_in state).delayed
         (spend_of (spending late) late (spelling on_to_local.form.ops) 69104) (length-sha256 _)
         (subst (λ n. age_passes (spend_of (spending late) late (spelling on_to_local.form.ops) 69104) n ≡ true) (sym delay_is) (late_age _))));
   }
@@ -294,7 +294,7 @@ module _ (funding : OutPoint) (hash : List ℕ) where
         ap length e,
         token-length key (digest_of (spend_on on_to_local (spending late) late)) (length-sha256 _),
         (peer_apart key i).1,
-        script_long c.keys.revocation c.delay c.keys.delayed (key-length c.keys.revocation (keys_in state).revocation) (key-length c.keys.delayed (keys_in state).delayed),
+        script_long c.keys.revocation c.delay_blocks c.keys.delayed (key-length c.keys.revocation (keys_in state).revocation) (key-length c.keys.delayed (keys_in state).delayed),
       ))
   late_shows key i (suc (suc (suc n)), l, e) = absurd (omega (arith, l))
 
@@ -391,7 +391,7 @@ module _ (funding : OutPoint) (hash : List ℕ) where
             tt,
           );
         };
-        outputs = record { count = omega arith; each = (record { value = omega arith; script = short_script_program (to_local_script c.delay c.keys) }, tt) };
+        outputs = record { count = omega arith; each = (record { value = omega arith; script = short_script_program (to_local_script c.delay_blocks c.keys) }, tt) };
         lock_time = omega arith;
       }
 

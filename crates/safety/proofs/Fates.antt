@@ -50,21 +50,21 @@ signed_with_commitment c h = refl
 
 -- an HTLC expires at a height
 abbrev ExpiresLow : HtlcOutput → Type 0
-ExpiresLow h = h.htlc.expiry < LOCKTIME_THRESHOLD
+ExpiresLow h = h.htlc.expiry_height < LOCKTIME_THRESHOLD
 
-expire_low : (c : Contents) (index : ℕ) (os : List CommitmentOutput) → All (λ o. IsOutput c.delay c.keys o) os → All ExpiresLow (htlcs_from index os)
+expire_low : (c : Contents) (index : ℕ) (os : List CommitmentOutput) → All (λ o. IsOutput c.delay_blocks c.keys o) os → All ExpiresLow (htlcs_from index os)
 unfolding htlcs_from
 expire_low c index [] a = All-nil ExpiresLow
 expire_low c index (o ∷ os) a =
-    let first : IsOutput c.delay c.keys o = All-head (λ o. IsOutput c.delay c.keys o) o os a in
-    by o.kind first.height (expire_low c (index + 1) os (All-tail (λ o. IsOutput c.delay c.keys o) o os a))
+    let first : IsOutput c.delay_blocks c.keys o = All-head (λ o. IsOutput c.delay_blocks c.keys o) o os a in
+    by o.kind first.height (expire_low c (index + 1) os (All-tail (λ o. IsOutput c.delay_blocks c.keys o) o os a))
   where
     by : (kind : OutputKind) → HasHeight kind → All ExpiresLow (htlcs_from (index + 1) os) → All ExpiresLow (cons_option (htlc_at index kind) (htlcs_from (index + 1) os))
     by ToLocal h rest = rest
     by ToRemote h rest = rest
     by (ToHtlc direction htlc) h rest = All-cons ExpiresLow (record { index = index; direction = direction; htlc = htlc }) (htlcs_from (index + 1) os) h rest
 
-low_lock : (direction : Direction) (h : Htlc) → h.expiry < LOCKTIME_THRESHOLD → lock_time_of direction h < LOCKTIME_THRESHOLD
+low_lock : (direction : Direction) (h : Htlc) → h.expiry_height < LOCKTIME_THRESHOLD → lock_time_of direction h < LOCKTIME_THRESHOLD
 low_lock Offered h l = l
 low_lock Received h l = omega arith
 
@@ -102,7 +102,7 @@ second_outputs : (c : Contents) (h : HtlcOutput) → (htlc_tx_of c h).outputs �
 unfolding htlc_tx_of
 second_outputs c h = refl
 
-second_final : (c : Contents) (h : HtlcOutput) (t : Transaction) → h.htlc.expiry < LOCKTIME_THRESHOLD → unsigned_transaction t ≡ htlc_tx_of c h → (height : ℕ) → is_final height t.lock_time t.inputs ≡ true
+second_final : (c : Contents) (h : HtlcOutput) (t : Transaction) → h.htlc.expiry_height < LOCKTIME_THRESHOLD → unsigned_transaction t ≡ htlc_tx_of c h → (height : ℕ) → is_final height t.lock_time t.inputs ≡ true
     → lock_time_of h.direction h.htlc < height
 unfolding htlc_tx_of
 second_final c h t l e height final =

@@ -4,8 +4,7 @@ use Rattle.std.specs.Prelude.{◌⊎◌}
 use Rattle.tx.specs.Fields.{Transaction, KeepsLimits, unsigned_transaction}
 use Rattle.tx.specs.Spelling.{number, compact_size, bytes_with_length, outpoint, input, output, body, stripped_spelling, transaction_id}
 use Rattle.tx.proofs.Witnesses.{same_id}
-use Rattle.digest.specs.Hash.{sha256d}
-use Rattle.safety.specs.Signing.{Collide}
+use Rattle.digest.specs.Hash.{sha256d, Collide}
 use Rattle.safety.proofs.Ids.{one_id}
 
 -- it spends output 3 of a transaction, and pays 1,000 satoshis to the hash of a key

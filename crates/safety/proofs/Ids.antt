@@ -5,13 +5,12 @@ use Rattle.std.specs.List.{flat_map}
 use Rattle.std.specs.Str.{bytes_eq}
 use Rattle.std.proofs.lemmas.Bool.{false≢true}
 use Rattle.std.proofs.lemmas.Slice.Eq.{bytes_eq-Decides}
-use Rattle.digest.specs.Hash.{sha256d}
+use Rattle.digest.specs.Hash.{sha256d, Collide}
 use Rattle.tx.specs.declared.input.TxIn.{TxIn}
 use Rattle.tx.specs.Fields.{Transaction, KeepsLimits, has_witness, unsigned_inputs, unsigned_transaction}
 use Rattle.tx.specs.Spelling.{input, body, stripped_spelling, IsStripped, transaction_id}
 use Rattle.tx.proofs.Whole.{one_stripped_value}
 use Rattle.tx.proofs.Witnesses.{unsigned_length, unsigned_within}
-use Rattle.safety.specs.Signing.{Collide}
 use Rattle.safety.specs.Ids.{OneId}
 
 -- ---- without its witnesses

@@ -54,10 +54,10 @@ no_longer bytes ops e = by (nat_le (length bytes) MAX_SCRIPT_SIZE) refl e
     by true f g = leb-true (length bytes) MAX_SCRIPT_SIZE f
     by false f g = absurd (none_some ops g)
 
-htlc_short : (c : Contents) (direction : Direction) (h : Htlc) → AreKeys c.keys → h.expiry < 2 ^ 32 → length (spelling (htlc_form c.keys direction h).ops) ≤ MAX_SCRIPT_SIZE
+htlc_short : (c : Contents) (direction : Direction) (h : Htlc) → AreKeys c.keys → h.expiry_height < 2 ^ 32 → length (spelling (htlc_form c.keys direction h).ops) ≤ MAX_SCRIPT_SIZE
 htlc_short c Offered h k l = no_longer _ _ (offered_ops (hash160 c.keys.revocation) c.keys.remote_htlc c.keys.local_htlc (ripemd160 h.hash) (length-ripemd160 _) (length-ripemd160 _) k.remote_htlc k.local_htlc)
 htlc_short c Received h k l =
-    no_longer _ _ (received_ops (hash160 c.keys.revocation) c.keys.remote_htlc c.keys.local_htlc (ripemd160 h.hash) h.expiry l (length-ripemd160 _) (length-ripemd160 _) k.remote_htlc k.local_htlc)
+    no_longer _ _ (received_ops (hash160 c.keys.revocation) c.keys.remote_htlc c.keys.local_htlc (ripemd160 h.hash) h.expiry_height l (length-ripemd160 _) (length-ripemd160 _) k.remote_htlc k.local_htlc)
 
 -- ---- what can be claimed
 
@@ -66,10 +66,10 @@ pub record IsPlain (o : Claimable) : Type 0 where
   pub short : length (spelling o.form.ops) ≤ MAX_SCRIPT_SIZE
   pub low : o.place.value ≤ MAX_VALUE
 
-on_to_local : (c : Contents) (place : Place) → c.delay < 2 ^ 16 → AreKeys c.keys → place.value ≤ MAX_VALUE → IsPlain (penalty_on c place)
-on_to_local c place l k v = record { short = no_longer _ _ (to_local_ops c.keys.revocation c.delay c.keys.delayed l k.revocation k.delayed); low = v }
+on_to_local : (c : Contents) (place : Place) → c.delay_blocks < 2 ^ 16 → AreKeys c.keys → place.value ≤ MAX_VALUE → IsPlain (penalty_on c place)
+on_to_local c place l k v = record { short = no_longer _ _ (to_local_ops c.keys.revocation c.delay_blocks c.keys.delayed l k.revocation k.delayed); low = v }
 
-on_output : (c : Contents) (index : ℕ) (place : Place) (kind : OutputKind) (o : CommitmentOutput) → c.delay < 2 ^ 16 → AreKeys c.keys → HasHeight kind → IsHtlcOf c.keys o kind → place.value ≡ o.value → o.value ≤ MAX_VALUE → All IsPlain (claims_on c index place kind)
+on_output : (c : Contents) (index : ℕ) (place : Place) (kind : OutputKind) (o : CommitmentOutput) → c.delay_blocks < 2 ^ 16 → AreKeys c.keys → HasHeight kind → IsHtlcOf c.keys o kind → place.value ≡ o.value → o.value ≤ MAX_VALUE → All IsPlain (claims_on c index place kind)
 on_output c index place ToLocal o l k h s e v = All-cons IsPlain (penalty_on c place) [] (on_to_local c place l k (omega (arith, e, v))) (All-nil IsPlain)
 on_output c index place ToRemote o l k h s e v =
     All-cons IsPlain (payment_on c place) [] (record { short = no_longer _ _ (key_hash_ops (hash160 c.keys.remote) (length-ripemd160 _)); low = omega (arith, e, v) }) (All-nil IsPlain)
@@ -80,15 +80,15 @@ on_output c index place (ToHtlc direction htlc) o l k h s e v =
     (All-cons IsPlain (second_stage_penalty c (record { index = index; direction = direction; htlc = htlc })) []
     (on_to_local c _ l k (omega (arith, v, z))) (All-nil IsPlain))
 
-from_here : (c : Contents) (index : ℕ) (os : List CommitmentOutput) → c.delay < 2 ^ 16 → AreKeys c.keys → All (λ o. IsOutput c.delay c.keys o) os → All (λ o. IsOutputOf c.keys o) os → All IsPlain (claims_from c index os)
+from_here : (c : Contents) (index : ℕ) (os : List CommitmentOutput) → c.delay_blocks < 2 ^ 16 → AreKeys c.keys → All (λ o. IsOutput c.delay_blocks c.keys o) os → All (λ o. IsOutputOf c.keys o) os → All IsPlain (claims_from c index os)
 unfolding claims_by
 from_here c index [] l k a b = All-nil IsPlain
 from_here c index (o ∷ os) l k a b =
-    let first : IsOutput c.delay c.keys o = All-head (λ o. IsOutput c.delay c.keys o) o os a in
+    let first : IsOutput c.delay_blocks c.keys o = All-head (λ o. IsOutput c.delay_blocks c.keys o) o os a in
     let limits : IsOutputOf c.keys o = All-head (λ o. IsOutputOf c.keys o) o os b in
     All-append IsPlain (claims_on c index (place_in (transaction_of c) index (tx_output o)) o.kind) (claims_from c (index + 1) os)
     (on_output c index (place_in (transaction_of c) index (tx_output o)) o.kind o l k first.height limits.htlc refl limits.limits.value)
-    (from_here c (index + 1) os l k (All-tail (λ o. IsOutput c.delay c.keys o) o os a) (All-tail (λ o. IsOutputOf c.keys o) o os b))
+    (from_here c (index + 1) os l k (All-tail (λ o. IsOutput c.delay_blocks c.keys o) o os a) (All-tail (λ o. IsOutputOf c.keys o) o os b))
 
 not_refused : (state : RevokedState) → refusal_of (commitment_in state).outputs ≡ None
 not_refused state = shared state.terms state.view state.owner state.number (point_of state.secret) state.whole state.few
@@ -96,9 +96,9 @@ not_refused state = shared state.terms state.view state.owner state.number (poin
 pub limited : (state : RevokedState) → All (λ o. IsOutputOf (commitment_in state).keys o) (commitment_in state).outputs
 unfolding commitment_of
 limited state =
-    each_output (party state.owner state.terms).delay (keys_of state.terms state.owner (point_of state.secret)) (amounts_of state.terms state.view state.owner) (not_refused state)
+    each_output (party state.owner state.terms).delay_blocks (keys_of state.terms state.owner (point_of state.secret)) (amounts_of state.terms state.view state.owner) (not_refused state)
 
-pub is_plain : (state : RevokedState) → (commitment_in state).delay < 2 ^ 16 → (o : Claimable) → Contains (claimable_of state) o → IsPlain o
+pub is_plain : (state : RevokedState) → (commitment_in state).delay_blocks < 2 ^ 16 → (o : Claimable) → Contains (claimable_of state) o → IsPlain o
 unfolding claimable_of
 is_plain state l o i =
     All-contains IsPlain (claims_from (commitment_in state) 0 (commitment_in state).outputs) o
@@ -110,21 +110,21 @@ pub id_length : (c : Contents) → length (id_of c) ≡ 32
 unfolding transaction_id
 id_length c = length-sha256 _
 
-low_lock : (direction : Direction) (h : Htlc) → h.expiry < 2 ^ 32 → lock_time_of direction h < 2 ^ 32
+low_lock : (direction : Direction) (h : Htlc) → h.expiry_height < 2 ^ 32 → lock_time_of direction h < 2 ^ 32
 low_lock Offered h l = l
 low_lock Received h l = omega arith
 
-second_limits : (c : Contents) (h : HtlcOutput) → h.index < 2 ^ 32 → h.htlc.expiry < 2 ^ 32 → satoshis_of h.htlc.amount ≤ MAX_VALUE → KeepsLimits (htlc_tx_of c h)
+second_limits : (c : Contents) (h : HtlcOutput) → h.index < 2 ^ 32 → h.htlc.expiry_height < 2 ^ 32 → satoshis_of h.htlc.amount_msat ≤ MAX_VALUE → KeepsLimits (htlc_tx_of c h)
 unfolding htlc_tx_of
 second_limits c h i l v = record {
   version = omega arith;
   some_input = omega arith;
   inputs = record { count = omega arith; each = (record { txid = id_length c; index = i; sequence = omega arith; witness = record { count = omega arith; each = tt } }, tt) };
-  outputs = record { count = omega arith; each = (record { value = omega (arith, v); script = short_script_program (to_local_script c.delay c.keys) }, tt) };
+  outputs = record { count = omega arith; each = (record { value = omega (arith, v); script = short_script_program (to_local_script c.delay_blocks c.keys) }, tt) };
   lock_time = low_lock h.direction h.htlc l;
 }
 
-signable : (c : Contents) (h : HtlcOutput) → AreKeys c.keys → h.index < 2 ^ 32 → h.htlc.expiry < 2 ^ 32 → satoshis_of h.htlc.amount ≤ MAX_VALUE → IsSignable (htlc_signed c h)
+signable : (c : Contents) (h : HtlcOutput) → AreKeys c.keys → h.index < 2 ^ 32 → h.htlc.expiry_height < 2 ^ 32 → satoshis_of h.htlc.amount_msat ≤ MAX_VALUE → IsSignable (htlc_signed c h)
 signable c h k i l v = record {
   transaction = second_limits c h i l v;
   input = record { txid = id_length c; index = i; sequence = omega arith; witness = record { count = omega arith; each = tt } };
@@ -132,15 +132,15 @@ signable c h k i l v = record {
   value = omega (arith, v);
 }
 
-signables_from : (c : Contents) (index : ℕ) (os : List CommitmentOutput) → AreKeys c.keys → index + length os ≤ MAX_OUTPUTS → All (λ o. IsOutput c.delay c.keys o) os → All (λ o. IsOutputOf c.keys o) os
+signables_from : (c : Contents) (index : ℕ) (os : List CommitmentOutput) → AreKeys c.keys → index + length os ≤ MAX_OUTPUTS → All (λ o. IsOutput c.delay_blocks c.keys o) os → All (λ o. IsOutputOf c.keys o) os
     → All IsSignable (map (htlc_signed c) (htlcs_from index os))
 unfolding htlcs_from
 signables_from c index [] k l a b = All-nil IsSignable
 signables_from c index (o ∷ os) k l a b =
-    let first : IsOutput c.delay c.keys o = All-head (λ o. IsOutput c.delay c.keys o) o os a in
+    let first : IsOutput c.delay_blocks c.keys o = All-head (λ o. IsOutput c.delay_blocks c.keys o) o os a in
     let limits : IsOutputOf c.keys o = All-head (λ o. IsOutputOf c.keys o) o os b in
     by o.kind first.height limits.htlc limits.limits.value
-    (signables_from c (index + 1) os k (omega (arith, l)) (All-tail (λ o. IsOutput c.delay c.keys o) o os a) (All-tail (λ o. IsOutputOf c.keys o) o os b))
+    (signables_from c (index + 1) os k (omega (arith, l)) (All-tail (λ o. IsOutput c.delay_blocks c.keys o) o os a) (All-tail (λ o. IsOutputOf c.keys o) o os b))
   where
     by : (kind : OutputKind) → HasHeight kind → IsHtlcOf c.keys o kind → o.value ≤ MAX_VALUE → All IsSignable (map (htlc_signed c) (htlcs_from (index + 1) os))
         → All IsSignable (map (htlc_signed c) (cons_option (htlc_at index kind) (htlcs_from (index + 1) os)))

@@ -46,8 +46,8 @@ passed height t input coin e =
     record { unspent = a.0; final = b.0; old = c.0; counted = r.0; tallest = r.1; clean = r.2 }
 
 -- a lock of blocks that binds was waited for
-waited : (t : Transaction) (input : TxIn) (coin height delay : ℕ) → Waits t input delay → is_old_enough height t.version input.sequence coin ≡ true → coin + delay ≤ height
-waited t input coin height delay w e =
+waited : (t : Transaction) (input : TxIn) (coin height delay_blocks : ℕ) → Waits t input delay_blocks → is_old_enough height t.version input.sequence coin ≡ true → coin + delay_blocks ≤ height
+waited t input coin height delay_blocks w e =
     let enough = w.enough in
     let v : nat_lt t.version 2 ≡ false = le-ltb t.version 2 w.version in
     let low = leb-true (coin + input.sequence % 2 ^ 16) height (by _ _ _ _ v w.on w.blocks e) in
@@ -67,7 +67,7 @@ later Late Later f c o t input (by_collision z) = by_collision z
 pub who_spends : WhoSpends
 who_spends state o height t input coin k =
     let p = passed height t input coin k.passes in
-    later (Waits t input (commitment_in state).delay) (IsLate (commitment_in state) coin.height height)
-    (λ w. waited t input coin.height height (commitment_in state).delay w p.old)
+    later (Waits t input (commitment_in state).delay_blocks) (IsLate (commitment_in state) coin.height height)
+    (λ w. waited t input coin.height height (commitment_in state).delay_blocks w p.old)
     (commitment_in state) o t input
     (who_can_spend state o k.claimable t input p.counted p.tallest (ap (run_of t input) (sym k.output) ∙ p.clean))

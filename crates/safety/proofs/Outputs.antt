@@ -12,8 +12,7 @@ use Rattle.channel.specs.declared.commitments.CommitmentState.{CommitmentState}
 use Rattle.channel.specs.Tokens.{contents_of}
 use Rattle.safety.proofs.Seconds.{bare_commitment}
 use Rattle.safety.proofs.Fates.{bare_second}
-use Rattle.digest.specs.Hash.{sha256d}
-use Rattle.safety.specs.Signing.{Collide}
+use Rattle.digest.specs.Hash.{sha256d, Collide}
 use Rattle.safety.specs.Recorded.{IsPayable, IsOfCommitment, of_commitment, of_htlc}
 use Rattle.safety.specs.Places.{of_output, of_second_stage}
 use Rattle.safety.specs.Strings.{IsHashedForCommitment, of_transaction, by_sha256d, StringsCollide}

@@ -7,6 +7,7 @@ use Rattle.std.proofs.lemmas.Bool.{false≢true}
 use Rattle.std.proofs.lemmas.Slice.Eq.{bytes_eq-Decides}
 use Rattle.sha2.specs.Sha256.{sha256}
 use Rattle.sha2.proofs.Facts256.{length-sha256}
+use Rattle.digest.specs.Hash.{Collide}
 use Rattle.keys.specs.declared.bases.Base.{Base}
 use Rattle.keys.specs.declared.bases.Base.TheVariants.{Payment, Htlc, Revocation}
 use Rattle.keys.specs.Derivation.{point_of, base_key, seed_secret, number_of, derived_key, revocation_key}
@@ -18,7 +19,7 @@ use Rattle.commit.specs.Commitments.{commitment_of}
 use Rattle.penalty.specs.declared.states.RevokedState.{RevokedState}
 use Rattle.penalty.specs.Claimable.{commitment_in}
 use Rattle.safety.specs.Spending.{peer_keys}
-use Rattle.safety.specs.Signing.{Collide, Collision}
+use Rattle.safety.specs.Signing.{Collision}
 use Rattle.safety.specs.Strings.{of_base, of_secret}
 use Rattle.safety.specs.Owning.{IsHashedForRights, of_seed, of_derived, of_revoked, peer_rights, AreOfSeed, OnlyPeerSigns}
 use Rattle.safety.proofs.Slots.{same_bytes, contains_first}

@@ -23,15 +23,15 @@ use Rattle.safety.specs.Places.{place_at, IsHtlcAt, IsOwnersClaim, delayed, dela
 -- the owner offered an HTLC of 10,000 satoshis and received one of 11,000; 20,000 to the peer, and 58,000 to itself
 module _ (funding : OutPoint) (hidden : Obscured) (k : KeyBytes) (hash : List ℕ) (preimages : List (List ℕ)) where
   abbrev htlc : ℕ → ℕ → Htlc
-  htlc amount expiry = record { id = 0; amount = amount; hash = hash; expiry = expiry }
+  htlc amount_msat expiry_height = record { id = 0; amount_msat = amount_msat; hash = hash; expiry_height = expiry_height }
 
   abbrev both : Contents
   both = record {
     funding = funding;
     hidden = hidden;
     keys = k;
-    delay = 144;
-    feerate = 1000;
+    delay_blocks = 144;
+    feerate_per_kw = 1000;
     outputs = htlc_output k Offered (htlc 10000000 500) ∷ htlc_output k Received (htlc 11000000 600) ∷ to_remote_output k 20000 ∷ to_local_output 144 k 58000 ∷ [];
   }
 

@@ -82,7 +82,7 @@ few_in terms k p = few_outputs (contents_of terms k).outputs (not_refused terms 
 
 limited : (terms : Terms) (k : CommitmentState) → CanPay terms k.view → All (λ o. IsOutputOf (contents_of terms k).keys o) (contents_of terms k).outputs
 unfolding commitment_of
-limited terms k p = each_output (party k.owner terms).delay (keys_of terms k.owner k.point.bytes) (amounts_of terms k.view k.owner) (not_refused terms k p)
+limited terms k p = each_output (party k.owner terms).delay_blocks (keys_of terms k.owner k.point.bytes) (amounts_of terms k.view k.owner) (not_refused terms k p)
 
 commitment_limits : (terms : Terms) (k : CommitmentState) → IsPayable terms k → KeepsLimits (transaction_of (contents_of terms k))
 commitment_limits terms k p =
@@ -91,32 +91,32 @@ commitment_limits terms k p =
 
 -- ---- the HTLC transactions
 
-low_lock : (direction : Direction) (h : Htlc) → h.expiry < 2 ^ 32 → lock_time_of direction h < 2 ^ 32
+low_lock : (direction : Direction) (h : Htlc) → h.expiry_height < 2 ^ 32 → lock_time_of direction h < 2 ^ 32
 low_lock Offered h l = l
 low_lock Received h l = omega arith
 
-second_keeps : (c : Contents) (h : HtlcOutput) → h.index < 2 ^ 32 → h.htlc.expiry < 2 ^ 32 → satoshis_of h.htlc.amount ≤ MAX_VALUE → KeepsLimits (htlc_tx_of c h)
+second_keeps : (c : Contents) (h : HtlcOutput) → h.index < 2 ^ 32 → h.htlc.expiry_height < 2 ^ 32 → satoshis_of h.htlc.amount_msat ≤ MAX_VALUE → KeepsLimits (htlc_tx_of c h)
 unfolding htlc_tx_of
 second_keeps c h i l v = record {
   version = omega arith;
   some_input = omega arith;
   inputs = record { count = omega arith; each = (record { txid = id_length c; index = i; sequence = omega arith; witness = record { count = omega arith; each = tt } }, tt) };
-  outputs = record { count = omega arith; each = (record { value = omega (arith, v); script = short_script_program (to_local_script c.delay c.keys) }, tt) };
+  outputs = record { count = omega arith; each = (record { value = omega (arith, v); script = short_script_program (to_local_script c.delay_blocks c.keys) }, tt) };
   lock_time = low_lock h.direction h.htlc l;
 }
 
 -- an HTLC of a commitment is one of its outputs, with the limits of that
 pub record IsLimitedHtlc (h : HtlcOutput) : Type 0 where
   pub index : h.index < MAX_OUTPUTS
-  pub height : h.htlc.expiry < LOCKTIME_THRESHOLD
-  pub value : satoshis_of h.htlc.amount ≤ MAX_VALUE
+  pub height : h.htlc.expiry_height < LOCKTIME_THRESHOLD
+  pub value : satoshis_of h.htlc.amount_msat ≤ MAX_VALUE
 
 pub limited_htlc : (terms : Terms) (k : CommitmentState) → CanPay terms k.view → (h : HtlcOutput) → Contains (htlcs_of (contents_of terms k)) h → IsLimitedHtlc h
 limited_htlc terms k p h i =
     let c = contents_of terms k in
     let at = htlc_in 0 c.outputs h i in
     let within : Contains c.outputs at.output = contained c.outputs at.place at.output at.there in
-    let stands : IsOutput c.delay c.keys at.output = All-contains (λ o. IsOutput c.delay c.keys o) c.outputs at.output (outputs_stand terms k.view k.owner k.number k.point.bytes p).each within in
+    let stands : IsOutput c.delay_blocks c.keys at.output = All-contains (λ o. IsOutput c.delay_blocks c.keys o) c.outputs at.output (outputs_stand terms k.view k.owner k.number k.point.bytes p).each within in
     let height : HasHeight (ToHtlc h.direction h.htlc) = subst HasHeight at.kind stands.height in
     let limits : IsOutputOf c.keys at.output = All-contains (λ o. IsOutputOf c.keys o) c.outputs at.output (limited terms k p) within in
     let value : IsHtlcOf c.keys at.output (ToHtlc h.direction h.htlc) = subst (λ kind. IsHtlcOf c.keys at.output kind) at.kind limits.htlc in

@@ -29,4 +29,4 @@ seeds_differ_too e = let f = ap (λ (x : List ℕ). get_or x 0 0) e in omega (ar
 
 -- a side with a dust limit of 546 satoshis and a delay of 144 blocks
 abbrev pub side_with : ℕ → BaseKeys → Party
-side_with start bases = record { dust = 546; delay = 144; minimum = 0; start = start; bases = bases }
+side_with start_msat bases = record { dust_sat = 546; delay_blocks = 144; minimum_msat = 0; start_msat = start_msat; bases = bases }

@@ -18,11 +18,11 @@ use Rattle.safety.specs.Satisfying.{HasToken, HasKeyOf, HasPreimage, SatisfiesTo
 use Rattle.safety.proofs.Slots.{slot_contained, same_bytes, slot_token}
 
 pub to_local_satisfied : ToLocalSatisfied
-to_local_satisfied revocation delay delayed h k l spend witness counted height e =
-    opened (listing-exhaustive (to_local revocation delay delayed) (to_local_ways revocation delay delayed)
-    (to_local-listed revocation delay delayed h k l (key_length revocation k) (key_length delayed l)) spend witness counted height e)
+to_local_satisfied revocation delay_blocks delayed h k l spend witness counted height e =
+    opened (listing-exhaustive (to_local revocation delay_blocks delayed) (to_local_ways revocation delay_blocks delayed)
+    (to_local-listed revocation delay_blocks delayed h k l (key_length revocation k) (key_length delayed l)) spend witness counted height e)
   where
-    opened : Any (SatisfiesBy spend witness counted height) (to_local_ways revocation delay delayed) → SatisfiesToLocal revocation delay delayed spend witness
+    opened : Any (SatisfiesBy spend witness counted height) (to_local_ways revocation delay_blocks delayed) → SatisfiesToLocal revocation delay_blocks delayed spend witness
     opened (zero, y, i, f, p) =
         let o = subst (SatisfiesBy spend witness counted height) (sym f) p in
         inl (slot_token spend witness 1 revocation (omega (arith, o.meets.exact)) o.meets.holds.1.1.0)
@@ -96,11 +96,11 @@ offered_satisfied revocation_hash remote local payment_hash m n k l spend witnes
     opened (suc (suc (suc j)), y, i, f, p) = absurd (omega (arith, i))
 
 pub received_satisfied : ReceivedSatisfied
-received_satisfied revocation_hash remote local payment_hash expiry h m n k l spend witness counted height e =
-    opened (listing-exhaustive (received revocation_hash remote local payment_hash expiry) (received_ways revocation_hash remote local payment_hash expiry)
-    (received-listed revocation_hash remote local payment_hash expiry h k l (key_length remote k) (key_length local l) m n) spend witness counted height e)
+received_satisfied revocation_hash remote local payment_hash expiry_height h m n k l spend witness counted height e =
+    opened (listing-exhaustive (received revocation_hash remote local payment_hash expiry_height) (received_ways revocation_hash remote local payment_hash expiry_height)
+    (received-listed revocation_hash remote local payment_hash expiry_height h k l (key_length remote k) (key_length local l) m n) spend witness counted height e)
   where
-    opened : Any (SatisfiesBy spend witness counted height) (received_ways revocation_hash remote local payment_hash expiry) → SatisfiesReceived revocation_hash remote local payment_hash expiry spend witness
+    opened : Any (SatisfiesBy spend witness counted height) (received_ways revocation_hash remote local payment_hash expiry_height) → SatisfiesReceived revocation_hash remote local payment_hash expiry_height spend witness
     opened (zero, y, i, f, p) =
         let o = subst (SatisfiesBy spend witness counted height) (sym f) p in
         inl (key_in spend witness revocation_hash o.meets.exact o.meets.holds.0 o.meets.holds.1.1.1.0)

@@ -62,11 +62,11 @@ same_push b k m x y e =
 
 -- what follows the revocation key in to_local
 abbrev after_revocation : ℕ → KeyBytes → List ℕ
-after_revocation delay k = spelling (Else ∷ number_push delay ∷ CheckSequenceVerify ∷ Drop ∷ Push k.delayed ∷ EndIf ∷ CheckSig ∷ [])
+after_revocation delay_blocks k = spelling (Else ∷ number_push delay_blocks ∷ CheckSequenceVerify ∷ Drop ∷ Push k.delayed ∷ EndIf ∷ CheckSig ∷ [])
 
-to_local_is : (delay : ℕ) (k : KeyBytes) → to_local_script delay k ≡ 0x63 ∷ length k.revocation ∷ (k.revocation ++ after_revocation delay k)
+to_local_is : (delay_blocks : ℕ) (k : KeyBytes) → to_local_script delay_blocks k ≡ 0x63 ∷ length k.revocation ∷ (k.revocation ++ after_revocation delay_blocks k)
 unfolding to_local_script
-to_local_is delay k = refl
+to_local_is delay_blocks k = refl
 
 pub same_revocation : (n m : ℕ) (a b : KeyBytes) → to_local_script n a ≡ to_local_script m b → a.revocation ≡ b.revocation
 same_revocation n m a b e = same_push 0x63 a.revocation b.revocation (after_revocation n a) (after_revocation m b) (sym (to_local_is n a) ∙ e ∙ to_local_is m b)
@@ -84,7 +84,7 @@ after_remote k Offered h =
 after_remote k Received h =
     spelling
     (Swap ∷ Size ∷ number_push 32 ∷ Equal ∷ If ∷ Hash160 ∷ Push (ripemd160 h.hash) ∷ EqualVerify ∷ Number 2 ∷ Swap ∷ Push k.local_htlc ∷ Number 2 ∷ CheckMultiSig
-    ∷ Else ∷ Drop ∷ number_push h.expiry ∷ CheckLockTimeVerify ∷ Drop ∷ CheckSig ∷ EndIf ∷ EndIf ∷ [])
+    ∷ Else ∷ Drop ∷ number_push h.expiry_height ∷ CheckLockTimeVerify ∷ Drop ∷ CheckSig ∷ EndIf ∷ EndIf ∷ [])
 
 htlc_is : (k : KeyBytes) (direction : Direction) (h : Htlc) → htlc_script k direction h ≡ htlc_front (hash160 k.revocation) k.remote_htlc (after_remote k direction h)
 unfolding htlc_script

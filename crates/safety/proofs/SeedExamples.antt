@@ -24,9 +24,9 @@ module _ (funding : OutPoint) (point : Key) where
   abbrev terms : BaseKeys → BaseKeys → Terms
   terms of_a of_b = record {
     funding = funding;
-    capacity = 100000;
+    capacity_sat = 100000;
     opener = A;
-    feerate = 1000;
+    feerate_per_kw = 1000;
     a = side_with 50000000 of_a;
     b = side_with 50000000 of_b;
     limited = lit≤ tt;
@@ -36,7 +36,7 @@ module _ (funding : OutPoint) (point : Key) where
   }
 
   abbrev view : ℕ → ℕ → View
-  view a b = record { a = record { balance = a; offered = [] }; b = record { balance = b; offered = [] }; feerate = 1000 }
+  view a b = record { a = record { balance_msat = a; offered = [] }; b = record { balance_msat = b; offered = [] }; feerate_per_kw = 1000 }
 
   abbrev held : Side → ℕ → ℕ → CommitmentState
   held owner a b = record { view = view a b; owner = owner; number = 3; point = point }
@@ -53,9 +53,9 @@ module _ (funding : OutPoint) (point : Key) where
   abbrev small : BaseKeys → BaseKeys → Terms
   small of_a of_b = record {
     funding = funding;
-    capacity = 1000;
+    capacity_sat = 1000;
     opener = A;
-    feerate = 1000;
+    feerate_per_kw = 1000;
     a = side_with 500000 of_a;
     b = side_with 500000 of_b;
     limited = lit≤ tt;

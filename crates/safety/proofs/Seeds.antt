@@ -6,7 +6,7 @@ use Rattle.std.proofs.lemmas.List.Elements.{All-contains}
 use Rattle.std.proofs.lemmas.Option.{same_Some, slice_get-map}
 use Rattle.sha2.specs.Sha256.{sha256}
 use Rattle.sha2.proofs.Facts256.{length-sha256}
-use Rattle.digest.specs.Hash.{hash160}
+use Rattle.digest.specs.Hash.{hash160, Collide}
 use Rattle.tx.specs.Parts.{Output}
 use Rattle.tx.specs.Fields.{Transaction}
 use Rattle.keys.specs.declared.bases.Base.{Base}
@@ -28,7 +28,6 @@ use Rattle.penalty.specs.Paying.{CanPay}
 use Rattle.penalty.proofs.Standing.{outputs_stand}
 use Rattle.channel.specs.declared.commitments.CommitmentState.{CommitmentState}
 use Rattle.channel.specs.Tokens.{contents_of}
-use Rattle.safety.specs.Signing.{Collide}
 use Rattle.safety.specs.Owning.{AreOfSeed}
 use Rattle.safety.proofs.Lists.{contained}
 use Rattle.safety.specs.Strings.{IsHashedForCommitment, of_to_local, of_htlc_script, of_payment_key, of_revocation_key, of_htlc_key, IsHashedForSeed, of_base, of_secret, CollideBy, by_sha256, by_hash160}
@@ -152,18 +151,18 @@ among c index output (ToHtlc direction htlc) e k = (htlc_at_index c index output
 
 programs_collide : (terms : Terms) (k m : CommitmentState) (seed rival : List ℕ) → AreRivals terms k m seed rival → (index : ℕ) (x y : OutputKind) → IsAmong (contents_of terms k) index x
     → IsAmong (contents_of terms m) index y
-    → program_of (contents_of terms k).delay (contents_of terms k).keys x ≡ program_of (contents_of terms m).delay (contents_of terms m).keys y → SidesCollide terms k m seed rival
+    → program_of (contents_of terms k).delay_blocks (contents_of terms k).keys x ≡ program_of (contents_of terms m).delay_blocks (contents_of terms m).keys y → SidesCollide terms k m seed rival
 programs_collide terms k m seed rival r index ToLocal ToLocal i j e =
     let c = contents_of terms k in
     let d = contents_of terms m in
-    either terms k m seed rival sha256 (to_local_script c.delay c.keys) (to_local_script d.delay d.keys) (λ s t z. by_sha256 z) (of_to_local refl) (of_to_local refl) (same_script_hash _ _ e)
-    (λ s. revocations_collide terms k m seed rival r (same_revocation c.delay d.delay c.keys d.keys s))
+    either terms k m seed rival sha256 (to_local_script c.delay_blocks c.keys) (to_local_script d.delay_blocks d.keys) (λ s t z. by_sha256 z) (of_to_local refl) (of_to_local refl) (same_script_hash _ _ e)
+    (λ s. revocations_collide terms k m seed rival r (same_revocation c.delay_blocks d.delay_blocks c.keys d.keys s))
 programs_collide terms k m seed rival r index ToLocal ToRemote i j e = absurd (script_or_key _ _ e)
 programs_collide terms k m seed rival r index ToLocal (ToHtlc direction htlc) i j e =
     let c = contents_of terms k in
     let d = contents_of terms m in
-    either terms k m seed rival sha256 (to_local_script c.delay c.keys) (htlc_script d.keys direction htlc) (λ s t z. by_sha256 z) (of_to_local refl) (of_htlc_script _ j refl) (same_script_hash _ _ e)
-    (λ s. absurd (to_local_or_htlc c.delay c.keys d.keys direction htlc s))
+    either terms k m seed rival sha256 (to_local_script c.delay_blocks c.keys) (htlc_script d.keys direction htlc) (λ s t z. by_sha256 z) (of_to_local refl) (of_htlc_script _ j refl) (same_script_hash _ _ e)
+    (λ s. absurd (to_local_or_htlc c.delay_blocks c.keys d.keys direction htlc s))
 programs_collide terms k m seed rival r index ToRemote ToLocal i j e = absurd (script_or_key _ _ (sym e))
 programs_collide terms k m seed rival r index ToRemote ToRemote i j e =
     let c = contents_of terms k in
@@ -174,8 +173,8 @@ programs_collide terms k m seed rival r index ToRemote (ToHtlc direction htlc) i
 programs_collide terms k m seed rival r index (ToHtlc direction htlc) ToLocal i j e =
     let c = contents_of terms k in
     let d = contents_of terms m in
-    either terms k m seed rival sha256 (htlc_script c.keys direction htlc) (to_local_script d.delay d.keys) (λ s t z. by_sha256 z) (of_htlc_script _ i refl) (of_to_local refl) (same_script_hash _ _ e)
-    (λ s. absurd (to_local_or_htlc d.delay d.keys c.keys direction htlc (sym s)))
+    either terms k m seed rival sha256 (htlc_script c.keys direction htlc) (to_local_script d.delay_blocks d.keys) (λ s t z. by_sha256 z) (of_htlc_script _ i refl) (of_to_local refl) (same_script_hash _ _ e)
+    (λ s. absurd (to_local_or_htlc d.delay_blocks d.keys c.keys direction htlc (sym s)))
 programs_collide terms k m seed rival r index (ToHtlc direction htlc) ToRemote i j e = absurd (script_or_key _ _ e)
 programs_collide terms k m seed rival r index (ToHtlc direction htlc) (ToHtlc way one) i j e =
     let c = contents_of terms k in
@@ -207,11 +206,11 @@ there_too c d index output e s =
     (sym (slice_get-map tx_output d.outputs index) ∙ ap (λ (os : List Output). slice_get os index) (sym outputs) ∙ slice_get-map tx_output c.outputs index ∙ ap (option_map tx_output) e)
 
 program_at : (terms : Terms) (k : CommitmentState) → CanPay terms k.view → (index : ℕ) (output : CommitmentOutput) → slice_get (contents_of terms k).outputs index ≡ Some output
-    → output.program ≡ program_of (contents_of terms k).delay (contents_of terms k).keys output.kind
+    → output.program ≡ program_of (contents_of terms k).delay_blocks (contents_of terms k).keys output.kind
 program_at terms k p index output e =
     let c = contents_of terms k in
-    let stands : IsOutput c.delay c.keys output =
-    All-contains (λ o. IsOutput c.delay c.keys o) c.outputs output (outputs_stand terms k.view k.owner k.number k.point.bytes p).each (contained c.outputs index output e) in
+    let stands : IsOutput c.delay_blocks c.keys output =
+    All-contains (λ o. IsOutput c.delay_blocks c.keys o) c.outputs output (outputs_stand terms k.view k.owner k.number k.point.bytes p).each (contained c.outputs index output e) in
     stands.program
 
 twice : (side : Side) → other (other side) ≡ side

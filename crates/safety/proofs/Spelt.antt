@@ -17,13 +17,13 @@ record IsShort (op : Op) : Type 0 where
 pushed : (n : ℕ) → n < 2 ^ 32 → IsShort (number_push n)
 pushed n h = by_push IsShort n h (λ b short reads. record { valid = omega (arith, short); short = short }) (λ some few reads. record { valid = (some, few); short = omega arith })
 
-pub to_local_ops : (revocation : List ℕ) (delay : ℕ) (delayed : List ℕ) → delay < 2 ^ 16 → is_key revocation ≡ true → is_key delayed ≡ true → script_ops (spelling (to_local revocation delay delayed)) ≡ Some (to_local revocation delay delayed)
-to_local_ops revocation delay delayed h k l =
+pub to_local_ops : (revocation : List ℕ) (delay_blocks : ℕ) (delayed : List ℕ) → delay_blocks < 2 ^ 16 → is_key revocation ≡ true → is_key delayed ≡ true → script_ops (spelling (to_local revocation delay_blocks delayed)) ≡ Some (to_local revocation delay_blocks delayed)
+to_local_ops revocation delay_blocks delayed h k l =
     let m = key_length revocation k in
     let n = key_length delayed l in
-    let d = pushed delay (omega arith) in
-    parsed_spelling (to_local revocation delay delayed)
-    (All-from_recursion IsOp (to_local revocation delay delayed) (tt, (omega (arith, m), (tt, (d.valid, (tt, (tt, (omega (arith, n), (tt, (tt, tt))))))))))
+    let d = pushed delay_blocks (omega arith) in
+    parsed_spelling (to_local revocation delay_blocks delayed)
+    (All-from_recursion IsOp (to_local revocation delay_blocks delayed) (tt, (omega (arith, m), (tt, (d.valid, (tt, (tt, (omega (arith, n), (tt, (tt, tt))))))))))
     (let s = d.short in simp length-append (omega (arith, m, n, s)))
 
 pub key_hash_ops : (hash : List ℕ) → length hash ≡ 20 → script_ops (spelling (key_hash hash)) ≡ Some (key_hash hash)
@@ -40,15 +40,15 @@ offered_ops hash remote local payment r p k l =
     (tt, (tt, (omega (arith, r), (tt, (tt, (tt, (tt, (omega (arith, m), (tt, (tt, (size.valid, (tt, (tt, (tt, (two, (tt, (omega (arith, n), (two, (tt, (tt, (tt, (omega (arith, p), (tt, (tt, (tt, (tt, tt)))))))))))))))))))))))))))
     (let s = size.short in simp length-append (omega (arith, s, r, m, n, p)))
 
-pub received_ops : (hash remote local payment : List ℕ) (expiry : ℕ) → expiry < 2 ^ 32 → length hash ≡ 20 → length payment ≡ 20 → is_key remote ≡ true → is_key local ≡ true
-    → script_ops (spelling (received hash remote local payment expiry)) ≡ Some (received hash remote local payment expiry)
-received_ops hash remote local payment expiry h r p k l =
+pub received_ops : (hash remote local payment : List ℕ) (expiry_height : ℕ) → expiry_height < 2 ^ 32 → length hash ≡ 20 → length payment ≡ 20 → is_key remote ≡ true → is_key local ≡ true
+    → script_ops (spelling (received hash remote local payment expiry_height)) ≡ Some (received hash remote local payment expiry_height)
+received_ops hash remote local payment expiry_height h r p k l =
     let m = key_length remote k in
     let n = key_length local l in
     let two : (1 ≤ 2) × (2 ≤ 16) = (omega arith, omega arith) in
     let size = pushed 32 (omega arith) in
-    let lock = pushed expiry h in
-    parsed_spelling (received hash remote local payment expiry)
-    (All-from_recursion IsOp (received hash remote local payment expiry)
+    let lock = pushed expiry_height h in
+    parsed_spelling (received hash remote local payment expiry_height)
+    (All-from_recursion IsOp (received hash remote local payment expiry_height)
     (tt, (tt, (omega (arith, r), (tt, (tt, (tt, (tt, (omega (arith, m), (tt, (tt, (size.valid, (tt, (tt, (tt, (omega (arith, p), (tt, (two, (tt, (omega (arith, n), (two, (tt, (tt, (tt, (lock.valid, (tt, (tt, (tt, (tt, (tt, tt))))))))))))))))))))))))))))))
     (let s = size.short in let e = lock.short in simp length-append (omega (arith, s, e, r, m, n, p)))

@@ -34,15 +34,15 @@ use Rattle.safety.proofs.Spelt.{to_local_ops, offered_ops, received_ops}
 use Rattle.safety.proofs.Ran.{Ran, ran_script, ran_key}
 
 -- a relative lock of blocks passes
-pub waits : (t : Transaction) (input : TxIn) (script : List ℕ) (value delay : ℕ) → delay < 2 ^ 16 → age_passes (spend_of t input script value) delay ≡ true → Waits t input delay
+pub waits : (t : Transaction) (input : TxIn) (script : List ℕ) (value delay_blocks : ℕ) → delay_blocks < 2 ^ 16 → age_passes (spend_of t input script value) delay_blocks ≡ true → Waits t input delay_blocks
 unfolding age_passes
-waits t input script value delay l e =
-    let b31 : bit_at 31 delay ≡ false = ne_eqb (delay / 2 ^ 31 % 2) 1 (λ e. omega arith) in
-    let b22 : bit_at 22 delay ≡ false = ne_eqb (delay / 2 ^ 22 % 2) 1 (λ e. omega arith) in
-    by (bit_at 31 delay) (bit_at 22 delay) (nat_le 2 t.version) (bit_at 31 input.sequence) (bit_at 22 input.sequence) (nat_le (delay % 2 ^ 16) (input.sequence % 2 ^ 16)) b31 b22 refl refl refl refl e
+waits t input script value delay_blocks l e =
+    let b31 : bit_at 31 delay_blocks ≡ false = ne_eqb (delay_blocks / 2 ^ 31 % 2) 1 (λ e. omega arith) in
+    let b22 : bit_at 22 delay_blocks ≡ false = ne_eqb (delay_blocks / 2 ^ 22 % 2) 1 (λ e. omega arith) in
+    by (bit_at 31 delay_blocks) (bit_at 22 delay_blocks) (nat_le 2 t.version) (bit_at 31 input.sequence) (bit_at 22 input.sequence) (nat_le (delay_blocks % 2 ^ 16) (input.sequence % 2 ^ 16)) b31 b22 refl refl refl refl e
   where
-    by : (a b v x y n : Bool) → a ≡ false → b ≡ false → nat_le 2 t.version ≡ v → bit_at 31 input.sequence ≡ x → bit_at 22 input.sequence ≡ y → nat_le (delay % 2 ^ 16) (input.sequence % 2 ^ 16) ≡ n
-        → (a || (v && not x && alike y b && n)) ≡ true → Waits t input delay
+    by : (a b v x y n : Bool) → a ≡ false → b ≡ false → nat_le 2 t.version ≡ v → bit_at 31 input.sequence ≡ x → bit_at 22 input.sequence ≡ y → nat_le (delay_blocks % 2 ^ 16) (input.sequence % 2 ^ 16) ≡ n
+        → (a || (v && not x && alike y b && n)) ≡ true → Waits t input delay_blocks
     by true b v x y n f g h i j k m = absurd (false≢true (sym f))
     by false true v x y n f g h i j k m = absurd (false≢true (sym g))
     by false false false x y n f g h i j k m = absurd (false≢true m)
@@ -50,7 +50,7 @@ waits t input script value delay l e =
     by false false true false true n f g h i j k m = absurd (false≢true m)
     by false false true false false false f g h i j k m = absurd (false≢true m)
     by false false true false false true f g h i j k m =
-        let enough = leb-true (delay % 2 ^ 16) (input.sequence % 2 ^ 16) k in
+        let enough = leb-true (delay_blocks % 2 ^ 16) (input.sequence % 2 ^ 16) k in
         record { version = leb-true 2 t.version h; on = i; blocks = j; enough = omega (arith, l, enough) }
 
 -- the keys of the peer
@@ -80,7 +80,7 @@ by_hashed Late c o t input key is items among h = by (bytes_eq h.key key) refl
     by true e = let s = same_bytes h.key key e in by_peer key is (among _ (subst (λ k. HasToken (spend_of t input (spelling o.form.ops) o.place.value) items k) s h.token))
     by false e = by_collision (of_key key is (record { first = h.key; second = key; of_first = among h.key h.given; of_second = refl; collide = (λ d. false≢true (sym e ∙ (bytes_eq-Decides h.key key).1 d), h.hashed) }))
 
-same_to_local : (c : Contents) → script_hash_program (to_local_script c.delay c.keys) ≡ script_hash_program (spelling (to_local c.keys.revocation c.delay c.keys.delayed))
+same_to_local : (c : Contents) → script_hash_program (to_local_script c.delay_blocks c.keys) ≡ script_hash_program (spelling (to_local c.keys.revocation c.delay_blocks c.keys.delayed))
 unfolding to_local_script
 same_to_local c = refl
 
@@ -90,18 +90,18 @@ on_program : (t : Transaction) (input : TxIn) (place : Place) (program : List �
 on_program t input place program counted height e f = subst (λ p. run_of t input (record { value = place.value; script = p }) ≡ Some (Clean counted height)) e f
 
 abbrev local_ops : Contents → List Op
-local_ops c = to_local c.keys.revocation c.delay c.keys.delayed
+local_ops c = to_local c.keys.revocation c.delay_blocks c.keys.delayed
 
-pub spends_to_local : (c : Contents) (place : Place) → c.delay < 2 ^ 16 → is_key c.keys.revocation ≡ true → is_key c.keys.delayed ≡ true → place.program ≡ script_hash_program (to_local_script c.delay c.keys)
-    → (t : Transaction) (input : TxIn) (counted height : ℕ) → run_of t input (output_at place) ≡ Some (Clean counted height) → CanSpend (Waits t input c.delay) c (penalty_on c place) t input
+pub spends_to_local : (c : Contents) (place : Place) → c.delay_blocks < 2 ^ 16 → is_key c.keys.revocation ≡ true → is_key c.keys.delayed ≡ true → place.program ≡ script_hash_program (to_local_script c.delay_blocks c.keys)
+    → (t : Transaction) (input : TxIn) (counted height : ℕ) → run_of t input (output_at place) ≡ Some (Clean counted height) → CanSpend (Waits t input c.delay_blocks) c (penalty_on c place) t input
 spends_to_local c place l k d e t input counted height run =
     ⊎_elim (λ w. by_collision (of_script w))
-    (λ (r : Ran t input (spelling (local_ops c)) place.value (local_ops c) counted height). opened r (to_local_satisfied c.keys.revocation c.delay c.keys.delayed l k d (spend_of t input (spelling (local_ops c)) place.value) r.items counted height r.clean))
-    (ran_script t input (spelling (local_ops c)) place.value (local_ops c) counted height (to_local_ops c.keys.revocation c.delay c.keys.delayed l k d) (on_program t input place _ counted height (e ∙ same_to_local c) run))
+    (λ (r : Ran t input (spelling (local_ops c)) place.value (local_ops c) counted height). opened r (to_local_satisfied c.keys.revocation c.delay_blocks c.keys.delayed l k d (spend_of t input (spelling (local_ops c)) place.value) r.items counted height r.clean))
+    (ran_script t input (spelling (local_ops c)) place.value (local_ops c) counted height (to_local_ops c.keys.revocation c.delay_blocks c.keys.delayed l k d) (on_program t input place _ counted height (e ∙ same_to_local c) run))
   where
-    opened : (r : Ran t input (spelling (local_ops c)) place.value (local_ops c) counted height) → SatisfiesToLocal c.keys.revocation c.delay c.keys.delayed (spend_of t input (spelling (local_ops c)) place.value) r.items → CanSpend (Waits t input c.delay) c (penalty_on c place) t input
+    opened : (r : Ran t input (spelling (local_ops c)) place.value (local_ops c) counted height) → SatisfiesToLocal c.keys.revocation c.delay_blocks c.keys.delayed (spend_of t input (spelling (local_ops c)) place.value) r.items → CanSpend (Waits t input c.delay_blocks) c (penalty_on c place) t input
     opened r (inl a) = by_peer c.keys.revocation (revocation_there c place) (r.among _ a)
-    opened r (inr b) = by_owner (record { form = refl; token = r.among _ b.0; late = waits t input (spelling (local_ops c)) place.value c.delay l b.1 })
+    opened r (inr b) = by_owner (record { form = refl; token = r.among _ b.0; late = waits t input (spelling (local_ops c)) place.value c.delay_blocks l b.1 })
 
 pub spends_to_remote : (Late : Type 0) (c : Contents) (place : Place) → place.program ≡ key_hash_program c.keys.remote
     → (t : Transaction) (input : TxIn) (counted height : ℕ) → run_of t input (output_at place) ≡ Some (Clean counted height) → CanSpend Late c (payment_on c place) t input
@@ -121,7 +121,7 @@ spends_by Late c direction h place t input counted height r (inr b) = by_peer c.
 same_program : (c : Contents) (direction : Direction) (h : Htlc) → script_hash_program (htlc_script c.keys direction h) ≡ script_hash_program (spelling (htlc_form c.keys direction h).ops)
 same_program c direction h = ap script_hash_program (same_htlc c.keys direction h)
 
-pub spends_htlc : (Late : Type 0) (c : Contents) (direction : Direction) (h : Htlc) (place : Place) → h.expiry < 2 ^ 32 → is_key c.keys.remote_htlc ≡ true → is_key c.keys.local_htlc ≡ true
+pub spends_htlc : (Late : Type 0) (c : Contents) (direction : Direction) (h : Htlc) (place : Place) → h.expiry_height < 2 ^ 32 → is_key c.keys.remote_htlc ≡ true → is_key c.keys.local_htlc ≡ true
     → place.program ≡ script_hash_program (htlc_script c.keys direction h)
     → (t : Transaction) (input : TxIn) (counted height : ℕ) → run_of t input (output_at place) ≡ Some (Clean counted height) → CanSpend Late c (htlc_penalty_on c direction h place) t input
 spends_htlc Late c Offered h place x k l e t input counted height run =
@@ -137,6 +137,6 @@ spends_htlc Late c Received h place x k l e t input counted height run =
     let p : length (ripemd160 h.hash) ≡ 20 = length-ripemd160 _ in
     ⊎_elim (λ w. by_collision (of_script w))
     (λ (s : Ran t input (spelling (htlc_form c.keys Received h).ops) place.value (htlc_form c.keys Received h).ops counted height). spends_by Late c Received h place t input counted height s
-    (received_satisfied (hash160 c.keys.revocation) c.keys.remote_htlc c.keys.local_htlc (ripemd160 h.hash) h.expiry x r p k l _ s.items counted height s.clean))
+    (received_satisfied (hash160 c.keys.revocation) c.keys.remote_htlc c.keys.local_htlc (ripemd160 h.hash) h.expiry_height x r p k l _ s.items counted height s.clean))
     (ran_script t input (spelling (htlc_form c.keys Received h).ops) place.value (htlc_form c.keys Received h).ops counted height
-    (received_ops (hash160 c.keys.revocation) c.keys.remote_htlc c.keys.local_htlc (ripemd160 h.hash) h.expiry x r p k l) (on_program t input place _ counted height (e ∙ same_program c Received h) run))
+    (received_ops (hash160 c.keys.revocation) c.keys.remote_htlc c.keys.local_htlc (ripemd160 h.hash) h.expiry_height x r p k l) (on_program t input place _ counted height (e ∙ same_program c Received h) run))

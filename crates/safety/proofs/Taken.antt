@@ -61,16 +61,16 @@ grants_are_out_points g = record { txid = length-sha256 _; index = omega arith }
 
 -- ---- strings
 
-abbrev Collision : ChannelRecords → Type 0
-Collision channels = StringsCollide (IsHashedForChannels channels) (IsHashedForChannels channels)
+abbrev RecordsCollide : ChannelRecords → Type 0
+RecordsCollide channels = StringsCollide (IsHashedForChannels channels) (IsHashedForChannels channels)
 
 among : (channels : ChannelRecords) (P Q : List ℕ → Type 0) → ((bytes : List ℕ) → P bytes → IsHashedForChannels channels bytes) → ((bytes : List ℕ) → Q bytes → IsHashedForChannels channels bytes)
-    → StringsCollide P Q → Collision channels
+    → StringsCollide P Q → RecordsCollide channels
 among channels P Q f g z = record { first = z.first; second = z.second; of_first = f z.first z.of_first; of_second = g z.second z.of_second; collide = z.collide }
 
 -- of two recorded commitments
 of_two : (channels : ChannelRecords) (c d : ℕ) (r q : ChannelRecord) → channels c ≡ Some r → channels d ≡ Some q → (side way : Side) (k m : CommitmentState) → IsIn r side k → IsIn q way m
-    → StringsCollide (IsHashedForCommitment r.terms k) (IsHashedForCommitment q.terms m) → Collision channels
+    → StringsCollide (IsHashedForCommitment r.terms k) (IsHashedForCommitment q.terms m) → RecordsCollide channels
 of_two channels c d r q a b side way k m i j z =
     among channels (IsHashedForCommitment r.terms k) (IsHashedForCommitment q.terms m) (λ bytes h. of_commitment c r a side k i h) (λ bytes h. of_commitment d q b way m j h) z
 
@@ -98,7 +98,7 @@ one_by_number r side channels sound c a k m i j e =
 
 -- an outpoint of commitments of both sides of a channel, or of two channels
 rivals_collide : (channels : ChannelRecords) → AreSound channels → (c : ℕ) (r : ChannelRecord) → channels c ≡ Some r → (side : Side) (k m : CommitmentState) → IsIn r side k → IsIn r (other side) m
-    → (o : OutPoint) → IsOutPointOf (contents_of r.terms k) o → IsOutPointOf (contents_of r.terms m) o → Collision channels
+    → (o : OutPoint) → IsOutPointOf (contents_of r.terms k) o → IsOutPointOf (contents_of r.terms m) o → RecordsCollide channels
 rivals_collide channels sound c r a side k m i j o x y =
     let s = sound.each c r a in
     let first = s.each side i.at k i.there in
@@ -107,7 +107,7 @@ rivals_collide channels sound c r a side k m i j o x y =
     let peers : AreOfSeed (r.seed (other side)) (party (other k.owner) r.terms).bases =
     subst (λ (w : Side). AreOfSeed (r.seed (other side)) (party (other w) r.terms).bases) (sym first.owner) (s.seeds (other side)) in
     let two : AreOfTwoSeeds r.terms k (r.seed side) (r.seed (other side)) = record { owners = owners; peers = peers; apart = s.apart side } in
-    ⊎_elim {C = Collision channels}
+    ⊎_elim {C = RecordsCollide channels}
     (λ (z : StringsCollide (IsHashedForCommitment r.terms k) (IsHashedForCommitment r.terms m)). of_two channels c c r r a a side (other side) k m i j z)
     (λ (z : StringsCollide (IsHashedForSeed (r.seed side)) (IsHashedForSeed (r.seed (other side)))).
     among channels (IsHashedForSeed (r.seed side)) (IsHashedForSeed (r.seed (other side))) (λ bytes h. of_seed c r a side h) (λ bytes h. of_seed c r a (other side) h) z)
@@ -115,7 +115,7 @@ rivals_collide channels sound c r a side k m i j o x y =
 
 channels_collide : (channels : ChannelRecords) → AreSound channels → (c d : ℕ) (r q : ChannelRecord) → channels c ≡ Some r → channels d ≡ Some q → c ≢ d → (side way : Side) (k m : CommitmentState)
     → IsIn r side k → IsIn q way m
-    → (o : OutPoint) → IsOutPointOf (contents_of r.terms k) o → IsOutPointOf (contents_of q.terms m) o → Collision channels
+    → (o : OutPoint) → IsOutPointOf (contents_of r.terms k) o → IsOutPointOf (contents_of q.terms m) o → RecordsCollide channels
 channels_collide channels sound c d r q a b n side way k m i j o x y =
     let first = (sound.each c r a).each side i.at k i.there in
     let second = (sound.each d q b).each way j.at m j.there in
@@ -126,7 +126,7 @@ channels_collide channels sound c d r q a b n side way k m i j o x y =
 -- it is of the same side's, or there is a collision
 data Whose (channels : ChannelRecords) (r : ChannelRecord) (side : Side) (q : ChannelRecord) (way : Side) : Type 0 where
   same : r ≡ q → way ≡ side → Whose channels r side q way
-  collision : Collision channels → Whose channels r side q way
+  collision : RecordsCollide channels → Whose channels r side q way
 
 whose : (channels : ChannelRecords) → AreSound channels → (c d : ℕ) (r q : ChannelRecord) → channels c ≡ Some r → channels d ≡ Some q → (side way : Side) (k m : CommitmentState) → IsIn r side k
     → IsIn q way m
@@ -231,7 +231,7 @@ htlc_by channels sound fillings c r a side k i o w height t input coin within na
 -- a commitment spends a grant
 commitment_by : (channels : ChannelRecords) → AreSound channels → (c : ℕ) (r : ChannelRecord) → channels c ≡ Some r → (side : Side) (k : CommitmentState) → IsIn r side k
     → (o : OutPoint) → IsOutPointOf (contents_of r.terms k) o → (t : Transaction) (input : TxIn) → Contains t.inputs input → input.outpoint ≡ o
-    → (d : ℕ) (q : ChannelRecord) → channels d ≡ Some q → (m : CommitmentState) → unsigned_transaction t ≡ transaction_of (contents_of q.terms m) → Collision channels
+    → (d : ℕ) (q : ChannelRecord) → channels d ≡ Some q → (m : CommitmentState) → unsigned_transaction t ≡ transaction_of (contents_of q.terms m) → RecordsCollide channels
 commitment_by channels sound c r a side k i o x t input within names d q b m s =
     let spent : o ≡ grant_outpoint d = sym names ∙ commitments_spend_fundings q.terms m t input s within ∙ sound.granted d q b in
     among channels (IsHashedForGrant d) (IsHashedForCommitment r.terms k) (λ bytes h. of_grant d q b h) (λ bytes h. of_commitment c r a side k i h)

@@ -67,9 +67,9 @@ module _ (point : Key) where
   abbrev terms : Terms
   terms = record {
     funding = grant_outpoint 0;
-    capacity = 100000;
+    capacity_sat = 100000;
     opener = A;
-    feerate = 1000;
+    feerate_per_kw = 1000;
     a = side_with 100000000 of_a;
     b = side_with 0 of_b;
     limited = lit≤ tt;
@@ -79,7 +79,7 @@ module _ (point : Key) where
   }
 
   abbrev view : View
-  view = record { a = record { balance = 100000000; offered = [] }; b = record { balance = 0; offered = [] }; feerate = 1000 }
+  view = record { a = record { balance_msat = 100000000; offered = [] }; b = record { balance_msat = 0; offered = [] }; feerate_per_kw = 1000 }
 
   abbrev held : CommitmentState
   held = record { view = view; owner = A; number = 0; point = point }

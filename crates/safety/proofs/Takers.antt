@@ -4,7 +4,7 @@ use Rattle.std.specs.Prelude.{◌⊎◌, ◌&&◌, ◌||◌, ◌==◌, nat_lt, n
 use Rattle.std.specs.List.{Contains, list_all}
 use Rattle.std.proofs.lemmas.Bool.{false≢true, ltb-true, lt-leb}
 use Rattle.std.proofs.lemmas.Option.{same_Some}
-use Rattle.digest.specs.Hash.{sha256d}
+use Rattle.digest.specs.Hash.{sha256d, Collide}
 use Rattle.script.specs.declared.limits.TheConstants.{LOCKTIME_THRESHOLD}
 use Rattle.tx.specs.declared.input.OutPoint.{OutPoint}
 use Rattle.tx.specs.declared.input.TxIn.{TxIn}
@@ -32,7 +32,6 @@ use Rattle.penalty.specs.Claimable.{Claimable}
 use Rattle.penalty.specs.Sets.{claimed_by}
 use Rattle.channel.specs.declared.commitments.CommitmentState.{CommitmentState}
 use Rattle.channel.specs.Tokens.{contents_of}
-use Rattle.safety.specs.Signing.{Collide}
 use Rattle.safety.proofs.Slots.{contains_cases}
 use Rattle.safety.proofs.Lists.{contains_none}
 use Rattle.safety.proofs.Indices.{htlc_in}
@@ -46,7 +45,7 @@ use Rattle.safety.specs.Seeds.{SidesCollide}
 use Rattle.safety.specs.Standing.{PassesTest}
 use Rattle.safety.specs.Ways.{by_htlc_transaction, by_owner, by_collision}
 use Rattle.safety.specs.Takers.{IsHtlcTransaction, AreOneByNumber, OwnersWay, OwnersTake, HtlcTransactionsTake, SidesAreApart}
-use Rattle.safety.specs.Takers.{ChannelsAreApart, IsHashedForGrant, GrantsAreApart, CommitmentsSpendFundings, HtlcTransactionsSpendOutputs}
+use Rattle.safety.specs.Takers.{ChannelsAreApart, IsHashedForGrant, OutputsAreNoGrants, CommitmentsSpendFundings, HtlcTransactionsSpendOutputs}
 use Rattle.safety.proofs.Ids.{same_or_collide}
 use Rattle.safety.proofs.Recorded.{limited_htlc, same_number}
 use Rattle.safety.proofs.Waiting.{delayed_waits}
@@ -56,7 +55,7 @@ use Rattle.safety.proofs.Seeds.{sides_differ}
 
 -- ---- the block of an HTLC transaction
 
-low_lock : (direction : Direction) (h : Htlc) → h.expiry < LOCKTIME_THRESHOLD → lock_time_of direction h < LOCKTIME_THRESHOLD
+low_lock : (direction : Direction) (h : Htlc) → h.expiry_height < LOCKTIME_THRESHOLD → lock_time_of direction h < LOCKTIME_THRESHOLD
 low_lock Offered h l = l
 low_lock Received h l = omega arith
 
@@ -84,7 +83,7 @@ lock_reached height lock_time inputs l f e =
     by true false false d false h i e = absurd (false≢true e)
     by false b false d false h i e = absurd (false≢true e)
 
-second_reached : (c : Contents) (h : HtlcOutput) (t : Transaction) (height : ℕ) → h.htlc.expiry < LOCKTIME_THRESHOLD → unsigned_transaction t ≡ htlc_tx_of c h
+second_reached : (c : Contents) (h : HtlcOutput) (t : Transaction) (height : ℕ) → h.htlc.expiry_height < LOCKTIME_THRESHOLD → unsigned_transaction t ≡ htlc_tx_of c h
     → is_final height t.lock_time t.inputs ≡ true
     → lock_time_of h.direction h.htlc < height
 unfolding htlc_tx_of
@@ -168,7 +167,7 @@ channels_are_apart terms others k m p q n o a b =
 -- ---- the form of an output
 
 abbrev delayed_form : Contents → Claimable → Type 0
-delayed_form c o = o.form ≡ to_local_form c.keys.revocation c.delay c.keys.delayed
+delayed_form c o = o.form ≡ to_local_form c.keys.revocation c.delay_blocks c.keys.delayed
 
 abbrev index_in : OutPoint → ℕ
 index_in o = o.index
@@ -219,11 +218,11 @@ at_second terms k p o h (htlc_penalty g y b e) a f = inr (other_id terms k p h a
 
 -- ---- the owner's claims
 
-short_of : (terms : Terms) (side : Side) → (party side terms).delay < 2 ^ 16
+short_of : (terms : Terms) (side : Side) → (party side terms).delay_blocks < 2 ^ 16
 short_of terms A = terms.short_a
 short_of terms B = terms.short_b
 
-short : (terms : Terms) (k : CommitmentState) → (contents_of terms k).delay < 2 ^ 16
+short : (terms : Terms) (k : CommitmentState) → (contents_of terms k).delay_blocks < 2 ^ 16
 unfolding commitment_of
 short terms k = short_of terms k.owner
 
@@ -336,6 +335,6 @@ grant_apart terms k g t i e =
     record { first = grant_bytes g; second = stripped_spelling t; of_first = refl; of_second = of_transaction t i refl; collide = by_sha256d z })
     (same_or_collide sha256d (grant_bytes g) (stripped_spelling t) (sym (grant_is g) ∙ e ∙ id_is t))
 
-pub grants_are_apart : GrantsAreApart
+pub grants_are_apart : OutputsAreNoGrants
 grants_are_apart terms k g (of_output index output at e) = grant_apart terms k g (transaction_of (contents_of terms k)) (of_commitment refl) (ap id_in e)
 grants_are_apart terms k g (of_second_stage h i e) = grant_apart terms k g (htlc_tx_of (contents_of terms k) h) (of_htlc h i refl) (ap id_in e)

@@ -45,17 +45,17 @@ waited height version sequence coin v l e =
     by false false false d f g h i = i
 
 -- the path of the delayed key
-age_is : (c : Contents) (ways : CheckedScript) (index : ℕ) (p : Path) → ways ≡ to_local_form c.keys.revocation c.delay c.keys.delayed → index ≡ 1 → slice_get ways.paths index ≡ Some p
-    → age_of p ≡ c.delay
+age_is : (c : Contents) (ways : CheckedScript) (index : ℕ) (p : Path) → ways ≡ to_local_form c.keys.revocation c.delay_blocks c.keys.delayed → index ≡ 1 → slice_get ways.paths index ≡ Some p
+    → age_of p ≡ c.delay_blocks
 age_is c ways index p w i at =
-    let there = sym at ∙ ap (λ (x : CheckedScript). slice_get x.paths index) w ∙ ap (λ n. slice_get (to_local_form c.keys.revocation c.delay c.keys.delayed).paths n) i in
+    let there = sym at ∙ ap (λ (x : CheckedScript). slice_get x.paths index) w ∙ ap (λ n. slice_get (to_local_form c.keys.revocation c.delay_blocks c.keys.delayed).paths n) i in
     ap age_of (same_Some p _ there)
 
 pub delayed_waits : DelayedWaits
 delayed_waits c l place x e height t input coin f k =
     let at = (judgement_of-ok x.ways x.index x.slots x.place x.shell f.path f.taken).at in
-    let age : age_of f.path ≡ c.delay = age_is c x.ways x.index f.path (ap (λ (o : Claimable). o.form) e) (ap (λ (o : Claimable). o.path) e) at in
-    let sequence : input.sequence ≡ c.delay = f.fits.sequence ∙ age in
+    let age : age_of f.path ≡ c.delay_blocks = age_is c x.ways x.index f.path (ap (λ (o : Claimable). o.form) e) (ap (λ (o : Claimable). o.path) e) at in
+    let sequence : input.sequence ≡ c.delay_blocks = f.fits.sequence ∙ age in
     let round = subst (λ (s : Shell). StandsRound f.path s t) (ap (λ (o : Claimable). o.shell) e) f.fits.stands in
     let low = waited height t.version input.sequence coin.height round.0 (omega (arith, l, sequence)) (passed height t input coin k).old in
     omega (arith, low, sequence)

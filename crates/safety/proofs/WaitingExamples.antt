@@ -30,7 +30,7 @@ module _ (funding : OutPoint) (hidden : Obscured) (revocation delayed : Key) (ot
   k = record { revocation = revocation.bytes; delayed = delayed.bytes; local_htlc = other; remote_htlc = other; remote = other }
 
   abbrev commitment : Contents
-  commitment = record { funding = funding; hidden = hidden; keys = k; delay = 144; feerate = 1000; outputs = to_local_output 144 k 58000 ∷ [] }
+  commitment = record { funding = funding; hidden = hidden; keys = k; delay_blocks = 144; feerate_per_kw = 1000; outputs = to_local_output 144 k 58000 ∷ [] }
 
   abbrev place : Place
   place = place_in (transaction_of commitment) 0 (tx_output (to_local_output 144 k 58000))

@@ -57,25 +57,25 @@ first_byte [] = 0
 first_byte (b ∷ bs) = b
 
 -- to_local's script begins with IF, and an HTLC's with DUP
-other_start : (revocation : List ℕ) (delay : ℕ) (delayed : List ℕ) (c : Contents) (direction : Direction) (h : Htlc) → spelling (to_local revocation delay delayed) ≡ spelling (htlc_form c.keys direction h).ops → ⊥
-other_start revocation delay delayed c Offered h e = let f : 0x63 ≡ 0x76 = ap first_byte e in omega (arith, f)
-other_start revocation delay delayed c Received h e = let f : 0x63 ≡ 0x76 = ap first_byte e in omega (arith, f)
+other_start : (revocation : List ℕ) (delay_blocks : ℕ) (delayed : List ℕ) (c : Contents) (direction : Direction) (h : Htlc) → spelling (to_local revocation delay_blocks delayed) ≡ spelling (htlc_form c.keys direction h).ops → ⊥
+other_start revocation delay_blocks delayed c Offered h e = let f : 0x63 ≡ 0x76 = ap first_byte e in omega (arith, f)
+other_start revocation delay_blocks delayed c Received h e = let f : 0x63 ≡ 0x76 = ap first_byte e in omega (arith, f)
 
 not_on_to_local : (c : Contents) (place : Place) (t : Transaction) (input : TxIn) → IsForHtlc c (penalty_on c place) t input → ⊥
 not_on_to_local c place t input f =
     let s = f.same in
-    other_start c.keys.revocation c.delay c.keys.delayed c f.htlc.direction f.htlc.htlc (s.code ∙ same_htlc c.keys f.htlc.direction f.htlc.htlc)
+    other_start c.keys.revocation c.delay_blocks c.keys.delayed c f.htlc.direction f.htlc.htlc (s.code ∙ same_htlc c.keys f.htlc.direction f.htlc.htlc)
 
 -- an HTLC's script is longer than that of a key's hash
 longer_offered : (key hash remote local payment : List ℕ) → length key ≡ 20 → length hash ≡ 20 → spelling (key_hash key) ≡ spelling (offered hash remote local payment) → ⊥
 longer_offered key hash remote local payment k l e = let f = simp length-append at (ap length e) in omega (arith, k, l, f)
 
-longer_received : (key hash remote local payment : List ℕ) (expiry : ℕ) → length key ≡ 20 → length hash ≡ 20 → spelling (key_hash key) ≡ spelling (received hash remote local payment expiry) → ⊥
-longer_received key hash remote local payment expiry k l e = let f = simp length-append at (ap length e) in omega (arith, k, l, f)
+longer_received : (key hash remote local payment : List ℕ) (expiry_height : ℕ) → length key ≡ 20 → length hash ≡ 20 → spelling (key_hash key) ≡ spelling (received hash remote local payment expiry_height) → ⊥
+longer_received key hash remote local payment expiry_height k l e = let f = simp length-append at (ap length e) in omega (arith, k, l, f)
 
 longer : (c : Contents) (direction : Direction) (h : Htlc) → spelling (key_hash (hash160 c.keys.remote)) ≡ spelling (htlc_form c.keys direction h).ops → ⊥
 longer c Offered h e = longer_offered (hash160 c.keys.remote) (hash160 c.keys.revocation) c.keys.remote_htlc c.keys.local_htlc (ripemd160 h.hash) (length-ripemd160 _) (length-ripemd160 _) e
-longer c Received h e = longer_received (hash160 c.keys.remote) (hash160 c.keys.revocation) c.keys.remote_htlc c.keys.local_htlc (ripemd160 h.hash) h.expiry (length-ripemd160 _) (length-ripemd160 _) e
+longer c Received h e = longer_received (hash160 c.keys.remote) (hash160 c.keys.revocation) c.keys.remote_htlc c.keys.local_htlc (ripemd160 h.hash) h.expiry_height (length-ripemd160 _) (length-ripemd160 _) e
 
 not_on_to_remote : (c : Contents) (place : Place) (t : Transaction) (input : TxIn) → IsForHtlc c (payment_on c place) t input → ⊥
 not_on_to_remote c place t input f = let s = f.same in longer c f.htlc.direction f.htlc.htlc (s.code ∙ same_htlc c.keys f.htlc.direction f.htlc.htlc)

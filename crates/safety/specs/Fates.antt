@@ -28,7 +28,7 @@ htlc_signed c h = record {
   transaction = htlc_tx_of c h;
   input = input_of (record { txid = id_of c; index = h.index }) 0;
   code = htlc_script c.keys h.direction h.htlc;
-  value = satoshis_of h.htlc.amount;
+  value = satoshis_of h.htlc.amount_msat;
 }
 
 -- its digest is the one that the peer's token in `commitment_signed` is over

@@ -2,16 +2,17 @@
 use Rattle.std.specs.Prelude.{◌≡◌, ◌≢◌, ℕ, List, [], ◌∷◌, ◌++◌, codes}
 use Rattle.std.specs.List.{Contains}
 use Rattle.sha2.specs.Sha256.{sha256}
+use Rattle.digest.specs.Hash.{Collide}
 use Rattle.keys.specs.declared.bases.Base.{Base}
 use Rattle.keys.specs.declared.bases.Base.TheVariants.{Payment, Htlc, Revocation}
-use Rattle.keys.specs.Derivation.{point_of, base_key, seed_secret, number_of}
+use Rattle.keys.specs.Derivation.{point_of, base_key}
 use Rattle.keys.specs.Rights.{Rights, MaySign}
 use Rattle.terms.specs.declared.agreement.BaseKeys.{BaseKeys}
 use Rattle.terms.specs.Agreement.{party}
 use Rattle.terms.specs.Sides.{other}
 use Rattle.penalty.specs.declared.states.RevokedState.{RevokedState}
 use Rattle.penalty.specs.Claimable.{commitment_in}
-use Rattle.safety.specs.Signing.{Collide, Collision}
+use Rattle.safety.specs.Signing.{Collision}
 use Rattle.safety.specs.Strings.{IsHashedForSeed}
 use Rattle.safety.specs.Spending.{peer_keys}
 

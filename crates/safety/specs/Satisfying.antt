@@ -33,13 +33,13 @@ OnSatisfied ops Has =
     (spend : Spend) (witness : List (List ℕ)) (counted height : ℕ) → outcome spend ops witness ≡ Clean counted height → Has spend witness
 
 -- the revocation key's token; or the delayed key's, and a sequence that CHECKSEQUENCEVERIFY accepts for the delay (BIP 112)
-abbrev pub SatisfiesToLocal : (revocation : List ℕ) (delay : ℕ) (delayed : List ℕ) → Spend → List (List ℕ) → Type 0
-SatisfiesToLocal revocation delay delayed spend witness = HasToken spend witness revocation ⊎ (HasToken spend witness delayed × (age_passes spend delay ≡ true))
+abbrev pub SatisfiesToLocal : (revocation : List ℕ) (delay_blocks : ℕ) (delayed : List ℕ) → Spend → List (List ℕ) → Type 0
+SatisfiesToLocal revocation delay_blocks delayed spend witness = HasToken spend witness revocation ⊎ (HasToken spend witness delayed × (age_passes spend delay_blocks ≡ true))
 
 abbrev pub ToLocalSatisfied : Type 0
 ToLocalSatisfied =
-    (revocation : List ℕ) (delay : ℕ) (delayed : List ℕ) → delay < 2 ^ 16 → is_key revocation ≡ true → is_key delayed ≡ true
-    → OnSatisfied (to_local revocation delay delayed) (SatisfiesToLocal revocation delay delayed)
+    (revocation : List ℕ) (delay_blocks : ℕ) (delayed : List ℕ) → delay_blocks < 2 ^ 16 → is_key revocation ≡ true → is_key delayed ≡ true
+    → OnSatisfied (to_local revocation delay_blocks delayed) (SatisfiesToLocal revocation delay_blocks delayed)
 
 abbrev pub KeyHashSatisfied : Type 0
 KeyHashSatisfied = (hash : List ℕ) → length hash ≡ 20 → OnSatisfied (key_hash hash) (λ spend witness. HasKeyOf spend witness hash)
@@ -56,13 +56,13 @@ OfferedSatisfied =
 
 -- a key of the revocation hash, with its token; or the remote key's token. With the latter comes either the local key's token and the
 -- preimage, or a lock time that CHECKLOCKTIMEVERIFY accepts for the expiry (BIP 65)
-abbrev pub SatisfiesReceived : (revocation_hash remote local payment_hash : List ℕ) (expiry : ℕ) → Spend → List (List ℕ) → Type 0
-SatisfiesReceived revocation_hash remote local payment_hash expiry spend witness =
+abbrev pub SatisfiesReceived : (revocation_hash remote local payment_hash : List ℕ) (expiry_height : ℕ) → Spend → List (List ℕ) → Type 0
+SatisfiesReceived revocation_hash remote local payment_hash expiry_height spend witness =
     HasKeyOf spend witness revocation_hash
-    ⊎ (HasToken spend witness remote × ((HasToken spend witness local × HasPreimage witness payment_hash) ⊎ (lock_passes spend expiry ≡ true)))
+    ⊎ (HasToken spend witness remote × ((HasToken spend witness local × HasPreimage witness payment_hash) ⊎ (lock_passes spend expiry_height ≡ true)))
 
 abbrev pub ReceivedSatisfied : Type 0
 ReceivedSatisfied =
-    (revocation_hash remote local payment_hash : List ℕ) (expiry : ℕ) → expiry < 2 ^ 32 → length revocation_hash ≡ 20 → length payment_hash ≡ 20
+    (revocation_hash remote local payment_hash : List ℕ) (expiry_height : ℕ) → expiry_height < 2 ^ 32 → length revocation_hash ≡ 20 → length payment_hash ≡ 20
     → is_key remote ≡ true → is_key local ≡ true
-    → OnSatisfied (received revocation_hash remote local payment_hash expiry) (SatisfiesReceived revocation_hash remote local payment_hash expiry)
+    → OnSatisfied (received revocation_hash remote local payment_hash expiry_height) (SatisfiesReceived revocation_hash remote local payment_hash expiry_height)

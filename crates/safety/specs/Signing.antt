@@ -1,15 +1,11 @@
 -- What a token signs (BIP 143), up to collisions of named byte strings.
-use Rattle.std.specs.Prelude.{◌≡◌, ◌≢◌, ◌⊎◌, ℕ, ◌^◌, ◌<◌, List, [], length}
-use Rattle.digest.specs.Hash.{sha256d}
+use Rattle.std.specs.Prelude.{◌≡◌, ◌⊎◌, ℕ, ◌^◌, ◌<◌, List, [], length}
+use Rattle.digest.specs.Hash.{sha256d, Collide}
 use Rattle.script.specs.Token.{token_of}
 use Rattle.tx.specs.declared.input.TxIn.{TxIn}
 use Rattle.tx.specs.Parts.{IsBounded}
 use Rattle.tx.specs.Fields.{Transaction, IsInput, KeepsLimits, signed_input, unsigned_transaction}
 use Rattle.sighash.specs.Signing.{all_outpoints, all_sequences, all_outputs, signed_list}
-
--- two byte strings collide: they differ, and have the same hash
-abbrev pub Collide : (List ℕ → List ℕ) → List ℕ → List ℕ → Type 0
-Collide hash a b = (a ≢ b) × (hash a ≡ hash b)
 
 -- a byte string of one kind collides with one of another kind
 pub record Collision (Collides : List ℕ → List ℕ → Type 0) (IsFirst IsSecond : List ℕ → Type 0) : Type 0 where

@@ -2,7 +2,7 @@
 use Rattle.std.specs.Prelude.{◌≡◌, ◌⊎◌, ℕ, ◌+◌, ◌%◌, ◌^◌, ◌≤◌, false, List, [], ◌∷◌, Some}
 use Rattle.std.specs.List.{Contains}
 use Rattle.sha2.specs.Sha256.{sha256}
-use Rattle.digest.specs.Hash.{hash160}
+use Rattle.digest.specs.Hash.{hash160, Collide}
 use Rattle.script.specs.declared.opcode.Op.TheVariants.{Push}
 use Rattle.script.specs.Spelling.{spelling}
 use Rattle.script.specs.Token.{token_of}
@@ -18,7 +18,7 @@ use Rattle.commit.specs.Commitments.{Contents}
 use Rattle.forms.specs.Forms.{to_local_form}
 use Rattle.penalty.specs.declared.states.RevokedState.{RevokedState}
 use Rattle.penalty.specs.Claimable.{Claimable, commitment_in, claimable_of}
-use Rattle.safety.specs.Signing.{Signed, Collide, Collision, digest_of}
+use Rattle.safety.specs.Signing.{Signed, Collision, digest_of}
 use Rattle.safety.specs.Standing.{PassesTest}
 
 -- what a token for the input is over, where it spends this output
@@ -52,7 +52,7 @@ pub data ShowsCollision (c : Contents) (o : Claimable) (input : TxIn) : Type 0 w
 -- the owner's way, which only to_local's form has: the delayed key's token, and `Late` holds
 pub record IsOwners (Late : Type 0) (c : Contents) (o : Claimable) (t : Transaction)
     (input : TxIn) : Type 0 where
-  pub form : o.form ≡ to_local_form c.keys.revocation c.delay c.keys.delayed
+  pub form : o.form ≡ to_local_form c.keys.revocation c.delay_blocks c.keys.delayed
   pub token : IsSignedBy c.keys.delayed (spend_on o t input)
   pub late : Late
 
@@ -63,18 +63,18 @@ pub data CanSpend (Late : Type 0) (c : Contents) (o : Claimable) (t : Transactio
   by_collision : ShowsCollision c o input → CanSpend Late c o t input
 
 -- the input's sequence is a relative lock of at least this many blocks, and the lock is enforced (BIP 68)
-pub record Waits (t : Transaction) (input : TxIn) (delay : ℕ) : Type 0 where
+pub record Waits (t : Transaction) (input : TxIn) (delay_blocks : ℕ) : Type 0 where
   pub version : 2 ≤ t.version
   pub on : bit_at 31 input.sequence ≡ false
   pub blocks : bit_at 22 input.sequence ≡ false
-  pub enough : delay ≤ input.sequence % 2 ^ 16
+  pub enough : delay_blocks ≤ input.sequence % 2 ^ 16
 
 -- whatever input runs clean on an output that a revoked state lets the peer claim spends it in one of these ways
 abbrev pub WhoCanSpend : Type 0
 WhoCanSpend =
     (state : RevokedState) (o : Claimable) → Contains (claimable_of state) o
     → (t : Transaction) (input : TxIn) (counted height : ℕ) → run_of t input (output_at o.place) ≡ Some (Clean counted height)
-    → CanSpend (Waits t input (commitment_in state).delay) (commitment_in state) o t input
+    → CanSpend (Waits t input (commitment_in state).delay_blocks) (commitment_in state) o t input
 
 -- the coin is an output that a revoked state lets the peer claim, and in a block of this height the input passes the chain's test of it
 pub record Takes (state : RevokedState) (o : Claimable) (height : ℕ) (t : Transaction)
@@ -85,11 +85,11 @@ pub record Takes (state : RevokedState) (o : Claimable) (height : ℕ) (t : Tran
 
 -- a height is at least the commitment's delay above another one. With a delay of 0 nobody waits
 abbrev pub IsLate : Contents → (since height : ℕ) → Type 0
-IsLate c since height = since + c.delay ≤ height
+IsLate c since height = since + c.delay_blocks ≤ height
 
 -- the same where the output has the form of to_local, which the owner can take
 pub record HasWaited (c : Contents) (o : Claimable) (since height : ℕ) : Type 0 where
-  pub form : o.form ≡ to_local_form c.keys.revocation c.delay c.keys.delayed
+  pub form : o.form ≡ to_local_form c.keys.revocation c.delay_blocks c.keys.delayed
   pub late : IsLate c since height
 
 -- whatever input passes the chain's test of such an output spends it in one of these ways

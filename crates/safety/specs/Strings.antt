@@ -2,7 +2,7 @@
 use Rattle.std.specs.Prelude.{◌≡◌, ℕ, List, [], ◌∷◌, ◌++◌, codes}
 use Rattle.std.specs.List.{Contains}
 use Rattle.sha2.specs.Sha256.{sha256}
-use Rattle.digest.specs.Hash.{sha256d, hash160}
+use Rattle.digest.specs.Hash.{sha256d, hash160, Collide}
 use Rattle.tx.specs.Fields.{Transaction}
 use Rattle.tx.specs.Spelling.{stripped_spelling}
 use Rattle.keys.specs.declared.bases.Base.{Base}
@@ -15,14 +15,14 @@ use Rattle.commit.specs.Outputs.{to_local_script, htlc_script}
 use Rattle.commit.specs.Commitments.{htlcs_of}
 use Rattle.channel.specs.declared.commitments.CommitmentState.{CommitmentState}
 use Rattle.channel.specs.Tokens.{contents_of}
-use Rattle.safety.specs.Signing.{Collide, Collision}
+use Rattle.safety.specs.Signing.{Collision}
 use Rattle.safety.specs.Recorded.{IsOfCommitment}
 
 -- what is hashed for a commitment: for the ids of its transactions, for the programs of their outputs, and for the peer's keys in these
 pub data IsHashedForCommitment (terms : Terms) (k : CommitmentState) (bytes : List ℕ) : Type 0 where
   of_transaction : (t : Transaction) → IsOfCommitment (contents_of terms k) t
       → bytes ≡ stripped_spelling t → IsHashedForCommitment terms k bytes
-  of_to_local : bytes ≡ to_local_script (contents_of terms k).delay (contents_of terms k).keys
+  of_to_local : bytes ≡ to_local_script (contents_of terms k).delay_blocks (contents_of terms k).keys
       → IsHashedForCommitment terms k bytes
   of_htlc_script : (h : HtlcOutput) → Contains (htlcs_of (contents_of terms k)) h → bytes
       ≡ htlc_script (contents_of terms k).keys h.direction h.htlc → IsHashedForCommitment terms k bytes

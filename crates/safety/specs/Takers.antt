@@ -79,8 +79,8 @@ abbrev pub IsHashedForGrant : ℕ → List ℕ → Type 0
 IsHashedForGrant g bytes = bytes ≡ (0x67 ∷ 0x72 ∷ 0x61 ∷ 0x6e ∷ 0x74 ∷ []) ++ number 8 (g % 2 ^ 64)
 
 -- an outpoint of a commitment that is a grant's shows a collision. So commitments, which spend grants, take nothing here
-abbrev pub GrantsAreApart : Type 0
-GrantsAreApart =
+abbrev pub OutputsAreNoGrants : Type 0
+OutputsAreNoGrants =
     (terms : Terms) (k : CommitmentState) (g : ℕ) → IsOutPointOf (contents_of terms k) (grant_outpoint g) → StringsCollide (IsHashedForGrant g) (IsHashedForCommitment terms k)
 
 -- an input of a commitment transaction, whatever its witness, spends the funding output

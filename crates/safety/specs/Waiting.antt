@@ -17,7 +17,7 @@ use Rattle.safety.specs.Spending.{IsLate}
 -- of the coin's block. With a delay of 0 nobody waits
 abbrev pub DelayedWaits : Type 0
 DelayedWaits =
-    (c : Contents) → c.delay < 2 ^ 16 → (place : Place) (x : ClaimParts) → claimed_by x ≡ delayed_on c place
+    (c : Contents) → c.delay_blocks < 2 ^ 16 → (place : Place) (x : ClaimParts) → claimed_by x ≡ delayed_on c place
     → (height : ℕ) (t : Transaction) (input : TxIn) (coin : Coin) → FitsClaim x t input → PassesTest height t input coin
     → IsLate c coin.height height
 

@@ -18,7 +18,7 @@ ghost use Rattle.safety.specs.Places.{OwnersPlaces, PeersPlaces, RevokedPlaces, 
 ghost use Rattle.safety.specs.Outputs.{OneOutput};
 ghost use Rattle.safety.specs.Seeds.{SidesDiffer};
 ghost use Rattle.safety.specs.Taken.{NumberedAreOwn, GrantsAreOutPoints, Taken, TakenOnChains};
-ghost use Rattle.safety.specs.Takers.{OwnersTake, HtlcTransactionsTake, SidesAreApart, ChannelsAreApart, GrantsAreApart, CommitmentsSpendFundings, HtlcTransactionsSpendOutputs};
+ghost use Rattle.safety.specs.Takers.{OwnersTake, HtlcTransactionsTake, SidesAreApart, ChannelsAreApart, OutputsAreNoGrants, CommitmentsSpendFundings, HtlcTransactionsSpendOutputs};
 
 /// Whatever runs clean on to_local has a token of the revocation key; or one of the delayed key, and a sequence that CHECKSEQUENCEVERIFY accepts for the
 /// delay.
@@ -161,7 +161,7 @@ pub fn who_takes()
     ensures htlcs { HtlcTransactionsTake }
     ensures peers { SidesAreApart }
     ensures channels { ChannelsAreApart }
-    ensures grants { GrantsAreApart }
+    ensures grants { OutputsAreNoGrants }
 {}
 
 /// The commitments that a channel records by number can be paid, if its funding output has an outpoint of 32 bytes and an index of 32 bits. Each grant has.

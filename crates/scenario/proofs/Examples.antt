@@ -41,11 +41,11 @@ blocks = (refl, refl, refl)
 -- terms of a capacity of one satoshi, whose sides begin with 999 and with this number of millisatoshis
 abbrev terms : ℕ → ProposedTerms
 terms b = record {
-  capacity = 1;
+  capacity_sat = 1;
   opener = A;
-  feerate = 6;
-  a = record { dust = 4; delay = 2; minimum = 7; start = 999 };
-  b = record { dust = 5; delay = 3; minimum = 8; start = b };
+  feerate_per_kw = 6;
+  a = record { dust_sat = 4; delay_blocks = 2; minimum_msat = 7; start_msat = 999 };
+  b = record { dust_sat = 5; delay_blocks = 3; minimum_msat = 8; start_msat = b };
 }
 
 abbrev scenario : List ProposedTerms → List Event → PlainScenario

@@ -1,5 +1,5 @@
 -- Scenarios in JSON.
-use Rattle.std.specs.Prelude.{ℕ, Option, Some, codes}
+use Rattle.std.specs.Prelude.{Option, Some, codes}
 use Rattle.serde_json.specs.Data.{Data}
 use Rattle.scenario.specs.declared.plain.PlainScenario.{PlainScenario}
 use Rattle.claim.specs.Opcodes.{◌>>=◌}

@@ -26,10 +26,7 @@ fn value_in(alloc: Global, bytes: &[u8]) -> Result<Value, ScenarioError>
 pub(crate) fn plain_in(alloc: Global, bytes: &[u8]) -> Result<PlainScenario, ScenarioError>
     ensures { Reads (λ s. s) result (plain_in bytes.now) }
 {
-    let value = match value_in(alloc, bytes) {
-        Ok(value) => value,
-        Err(error) => return Err(error),
-    };
+    let value = value_in(alloc, bytes)?;
     match PlainScenario::read_value(alloc, &value) {
         Ok(plain) => Ok(plain),
         Err(error) => match error {

@@ -4,7 +4,7 @@ use lists::ByteString;
 use std::alloc::{AllocError, Global};
 
 /// One opcode of a version 0 witness script.
-#[derive(Debug, Drop)]
+#[derive(Clone, Debug, Drop)]
 pub enum Op {
     /// Bytes 00 to 4b: pushes an item of at most 75 bytes.
     Push(ByteString),
@@ -94,24 +94,6 @@ impl Op {
     pub fn copy(&self) -> Result<Op, AllocError>
         ensures { IfOk result (λ op. op ≡ self.now) }
     {
-        Ok(match self {
-            Op::Push(item) => Op::Push(item.copy()?),
-            Op::Number(n) => Op::Number(*n),
-            Op::If => Op::If,
-            Op::NotIf => Op::NotIf,
-            Op::Else => Op::Else,
-            Op::EndIf => Op::EndIf,
-            Op::Drop => Op::Drop,
-            Op::Dup => Op::Dup,
-            Op::Swap => Op::Swap,
-            Op::Size => Op::Size,
-            Op::Equal => Op::Equal,
-            Op::EqualVerify => Op::EqualVerify,
-            Op::Hash160 => Op::Hash160,
-            Op::CheckSig => Op::CheckSig,
-            Op::CheckMultiSig => Op::CheckMultiSig,
-            Op::CheckLockTimeVerify => Op::CheckLockTimeVerify,
-            Op::CheckSequenceVerify => Op::CheckSequenceVerify,
-        })
+        self.clone()
     }
 }

@@ -126,13 +126,9 @@ impl Script {
     pub fn copy(&self) -> Result<Self, AllocError>
         ensures { IfOk result (λ s. s ≡ self.now) }
     {
-        let mut ops = Vec::new(*self.ops.allocator());
-        for op in &self.ops {
-            ops.push(op.copy()?)?;
-        }
         Ok(Script {
             bytes: self.bytes.clone()?,
-            ops,
+            ops: self.ops.clone()?,
         })
     }
 }

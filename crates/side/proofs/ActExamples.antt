@@ -4,10 +4,11 @@ use Rattle.updates.specs.declared.changes.Update.{Update}
 use Rattle.filling.specs.Filled.{Filling}
 use Rattle.keys.specs.declared.compressed.Key.{Key}
 use Rattle.channel.specs.declared.messages.Message.{Message}
-use Rattle.channel.specs.declared.messages.Message.TheVariants.{Updated, CommitmentSigned, RevokeAndAck}
-use Rattle.channel.specs.declared.messages.Tokens.{Tokens}
+use Rattle.updates.specs.declared.messages.PeerStep.TheVariants.{Update as Updated, CommitmentSigned}
+use Rattle.channel.specs.declared.messages.Message.TheVariants.{Step as StepMessage, RevokeAndAck}
+use Rattle.updates.specs.declared.messages.Tokens.{Tokens}
 use Rattle.book.specs.declared.calls.Call.TheVariants.{Step, Revoke}
-use Rattle.book.specs.declared.calls.Step.TheVariants.{Updated as UpdatedStep, Signed}
+use Rattle.book.specs.declared.calls.Step.TheVariants.{Peer}
 use Rattle.book.specs.declared.errors.OpenError.{OpenError}
 use Rattle.book.specs.declared.errors.StepError.{StepError}
 use Rattle.book.specs.declared.errors.SignError.{SignError}
@@ -18,7 +19,7 @@ use Rattle.book.specs.Replies.{opened, stepped, signed, revoked, kept, released,
 use Rattle.side.specs.Acts.{call_of, messages_in}
 
 module _ (update : Update) (tokens : Tokens) (secret : List ℕ) (point : Key) where
-  taken : map (call_of 7) (Updated update ∷ CommitmentSigned tokens ∷ RevokeAndAck secret point ∷ []) ≡ Step 7 (UpdatedStep update) ∷ Step 7 (Signed tokens) ∷ Revoke 7 secret point ∷ []
+  taken : map (call_of 7) (StepMessage (Updated update) ∷ StepMessage (CommitmentSigned tokens) ∷ RevokeAndAck (record { secret = secret; next_point = point }) ∷ []) ≡ Step 7 (Peer (Updated update)) ∷ Step 7 (Peer (CommitmentSigned tokens)) ∷ Revoke 7 (record { secret = secret; next_point = point }) ∷ []
   taken = refl
 
 module _ (m : Message) (filling : Filling) where

@@ -1,5 +1,5 @@
 -- The claims that a block makes due, by what is known of a channel.
-use Rattle.std.specs.Prelude.{◌≡◌, ℕ, Bool, true, false, List, [], ◌++◌, map, Option, Some, None}
+use Rattle.std.specs.Prelude.{◌≡◌, ℕ, List, [], ◌++◌, map, Option, Some, None}
 use Rattle.std.specs.List.{filter_map}
 use Rattle.tx.specs.Fields.{Transaction}
 use Rattle.claim.specs.declared.parts.Slot.{Slot}

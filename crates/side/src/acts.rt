@@ -7,31 +7,21 @@ ghost use Rattle.book.specs.Dispatch.{reply_form};
 ghost use Rattle.side.specs.Acts.{call_of, messages_in};
 
 use book::{Call, Reply, Step};
-use channel::{Message, Tokens};
-use lists::List;
-use std::alloc::{AllocError, Global};
+use channel::Message;
+use std::alloc::AllocError;
 
 /// The call by which a book takes a message in a channel; it copies the message. The only error is that memory ran out.
-pub fn call_of(alloc: Global, channel: u64, message: &Message) -> Result<Call, AllocError>
+pub fn call_of(channel: u64, message: &Message) -> Result<Call, AllocError>
     ensures { IfOk result (λ c. c ≡ call_of channel message.now) }
 {
     match message {
-        Message::Updated(update) => Ok(Call::Step {
-            channel,
-            step: Step::Updated(*update),
-        }),
-        Message::CommitmentSigned(tokens) => {
-            let htlcs = Vec::from_slice(alloc, tokens.htlcs.values())?;
-            let step = Step::Signed(Tokens {
-                commitment: tokens.commitment,
-                htlcs: List::from_vec(htlcs),
-            });
+        Message::Step(step) => {
+            let step = Step::Peer(step.copy()?);
             Ok(Call::Step { channel, step })
         }
-        Message::RevokeAndAck { secret, next_point } => Ok(Call::Revoke {
+        Message::RevokeAndAck(revocation) => Ok(Call::Revoke {
             channel,
-            secret: *secret,
-            next_point: *next_point,
+            revocation: *revocation,
         }),
     }
 }

@@ -113,7 +113,7 @@ impl<'a> SighashCache<'a> {
     }
 }
 
-/// The digest for one input of a transaction, as [`SighashCache::digest_of`] gives it. Each call hashes all inputs and all outputs of the
+/// The digest for one input of a transaction that spends an output of `value` satoshis, as [`SighashCache::digest_of`] gives it. Each call hashes all inputs and all outputs of the
 /// transaction: for more than one input, make one [`SighashCache`] and use that.
 pub fn digest_of(tx: &Tx, index: usize, code: &[u8], value: u64) -> Result<[u8; 32], DigestError>
     ensures { result ≡ ok_or (sighash tx.now index code.now value) DigestError.NoSuchInput }

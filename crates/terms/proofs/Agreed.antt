@@ -17,47 +17,47 @@ use Rattle.terms.specs.Agreement.{CanAgree, HasFields}
 use Rattle.terms.specs.Proposals.{can_agree, party_of, terms_with, terms_if, agreed_terms}
 
 -- what the type of terms keeps has one proof
-pub same_terms : (t u : Terms) → HasFields t u.funding u.capacity u.opener u.feerate u.a u.b → t ≡ u
+pub same_terms : (t u : Terms) → HasFields t u.funding u.capacity_sat u.opener u.feerate_per_kw u.a u.b → t ≡ u
 same_terms t u h =
     λ i. record {
       funding = h.funding_is i;
-      capacity = h.capacity_is i;
+      capacity_sat = h.capacity_is i;
       opener = h.opener_is i;
-      feerate = h.feerate_is i;
+      feerate_per_kw = h.feerate_is i;
       a = h.a_is i;
       b = h.b_is i;
       limited = is_prop→PathP (λ j. h.capacity_is j ≤ MAX_VALUE) (λ j. le_prop) t.limited u.limited i;
-      whole = is_prop→PathP (λ j. (h.a_is j).start + (h.b_is j).start ≡ MSAT_PER_SAT * h.capacity_is j) (λ j. ℕ_set _ _) t.whole u.whole i;
-      short_a = is_prop→PathP (λ j. (h.a_is j).delay < 2 ^ 16) (λ j. le_prop) t.short_a u.short_a i;
-      short_b = is_prop→PathP (λ j. (h.b_is j).delay < 2 ^ 16) (λ j. le_prop) t.short_b u.short_b i;
+      whole = is_prop→PathP (λ j. (h.a_is j).start_msat + (h.b_is j).start_msat ≡ MSAT_PER_SAT * h.capacity_is j) (λ j. ℕ_set _ _) t.whole u.whole i;
+      short_a = is_prop→PathP (λ j. (h.a_is j).delay_blocks < 2 ^ 16) (λ j. le_prop) t.short_a u.short_a i;
+      short_b = is_prop→PathP (λ j. (h.b_is j).delay_blocks < 2 ^ 16) (λ j. le_prop) t.short_b u.short_b i;
     }
 
-agrees : (t : ProposedTerms) → CanAgree t.capacity t.a.start t.b.start → t.a.delay < 2 ^ 16 → t.b.delay < 2 ^ 16 → can_agree t ≡ true
+agrees : (t : ProposedTerms) → CanAgree t.capacity_sat t.a.start_msat t.b.start_msat → t.a.delay_blocks < 2 ^ 16 → t.b.delay_blocks < 2 ^ 16 → can_agree t ≡ true
 agrees t h a b =
     and_from _ _
     (and_from _ _
-    (and_from (nat_le t.capacity MAX_VALUE) _ (le-leb t.capacity MAX_VALUE h.limited) (eq-eqb (t.a.start + t.b.start) (MSAT_PER_SAT * t.capacity) h.whole))
-    (lt-ltb t.a.delay (2 ^ 16) a))
-    (lt-ltb t.b.delay (2 ^ 16) b)
+    (and_from (nat_le t.capacity_sat MAX_VALUE) _ (le-leb t.capacity_sat MAX_VALUE h.limited) (eq-eqb (t.a.start_msat + t.b.start_msat) (MSAT_PER_SAT * t.capacity_sat) h.whole))
+    (lt-ltb t.a.delay_blocks (2 ^ 16) a))
+    (lt-ltb t.b.delay_blocks (2 ^ 16) b)
 
-can : (t : ProposedTerms) → can_agree t ≡ true → CanAgree t.capacity t.a.start t.b.start
+can : (t : ProposedTerms) → can_agree t ≡ true → CanAgree t.capacity_sat t.a.start_msat t.b.start_msat
 can t h =
-    let last = and_parts (nat_le t.capacity MAX_VALUE && t.a.start + t.b.start == MSAT_PER_SAT * t.capacity && nat_lt t.a.delay (2 ^ 16)) (nat_lt t.b.delay (2 ^ 16)) h in
-    let front = and_parts (nat_le t.capacity MAX_VALUE && t.a.start + t.b.start == MSAT_PER_SAT * t.capacity) (nat_lt t.a.delay (2 ^ 16)) last.0 in
-    let parts = and_parts (nat_le t.capacity MAX_VALUE) (t.a.start + t.b.start == MSAT_PER_SAT * t.capacity) front.0 in
-    record { limited = leb-true t.capacity MAX_VALUE parts.0; whole = eqb-true (t.a.start + t.b.start) (MSAT_PER_SAT * t.capacity) parts.1 }
+    let last = and_parts (nat_le t.capacity_sat MAX_VALUE && t.a.start_msat + t.b.start_msat == MSAT_PER_SAT * t.capacity_sat && nat_lt t.a.delay_blocks (2 ^ 16)) (nat_lt t.b.delay_blocks (2 ^ 16)) h in
+    let front = and_parts (nat_le t.capacity_sat MAX_VALUE && t.a.start_msat + t.b.start_msat == MSAT_PER_SAT * t.capacity_sat) (nat_lt t.a.delay_blocks (2 ^ 16)) last.0 in
+    let parts = and_parts (nat_le t.capacity_sat MAX_VALUE) (t.a.start_msat + t.b.start_msat == MSAT_PER_SAT * t.capacity_sat) front.0 in
+    record { limited = leb-true t.capacity_sat MAX_VALUE parts.0; whole = eqb-true (t.a.start_msat + t.b.start_msat) (MSAT_PER_SAT * t.capacity_sat) parts.1 }
 
-pub terms_are : (funding : OutPoint) (a b : BaseKeys) (p : ProposedTerms) (t : Terms) → CanAgree p.capacity p.a.start p.b.start
-    → HasFields t funding p.capacity p.opener p.feerate (party_of p.a a) (party_of p.b b) → Some t ≡ agreed_terms funding a b p
+pub terms_are : (funding : OutPoint) (a b : BaseKeys) (p : ProposedTerms) (t : Terms) → CanAgree p.capacity_sat p.a.start_msat p.b.start_msat
+    → HasFields t funding p.capacity_sat p.opener p.feerate_per_kw (party_of p.a a) (party_of p.b b) → Some t ≡ agreed_terms funding a b p
 unfolding agreed_terms
 terms_are funding a b p t agreed fields = go (can_agree p) refl
   where
     go : (r : Bool) (h : can_agree p ≡ r) → Some t ≡ terms_if funding a b p r h
     go true h = ap Some (same_terms t (terms_with funding a b p h) fields)
     go false h =
-        absurd (true≢false (sym (agrees p agreed (subst (λ (x : Party). x.delay < 2 ^ 16) fields.a_is t.short_a) (subst (λ (x : Party). x.delay < 2 ^ 16) fields.b_is t.short_b)) ∙ h))
+        absurd (true≢false (sym (agrees p agreed (subst (λ (x : Party). x.delay_blocks < 2 ^ 16) fields.a_is t.short_a) (subst (λ (x : Party). x.delay_blocks < 2 ^ 16) fields.b_is t.short_b)) ∙ h))
 
-no_terms : (funding : OutPoint) (a b : BaseKeys) (p : ProposedTerms) → (CanAgree p.capacity p.a.start p.b.start → ⊥) → None ≡ agreed_terms funding a b p
+no_terms : (funding : OutPoint) (a b : BaseKeys) (p : ProposedTerms) → (CanAgree p.capacity_sat p.a.start_msat p.b.start_msat → ⊥) → None ≡ agreed_terms funding a b p
 unfolding agreed_terms
 no_terms funding a b p cannot = go (can_agree p) refl
   where
@@ -76,13 +76,13 @@ some_terms funding a b p r e = ap is_some e ∙ go (can_agree p) refl
 
 -- of two parties that are these
 module _ (funding : OutPoint) (a b : BaseKeys) (p : ProposedTerms) (of_a of_b : Party) (ea : of_a ≡ party_of p.a a) (eb : of_b ≡ party_of p.b b) where
-  pub made_of : (t : Terms) → CanAgree p.capacity of_a.start of_b.start → HasFields t funding p.capacity p.opener p.feerate of_a of_b → Some t ≡ agreed_terms funding a b p
+  pub made_of : (t : Terms) → CanAgree p.capacity_sat of_a.start_msat of_b.start_msat → HasFields t funding p.capacity_sat p.opener p.feerate_per_kw of_a of_b → Some t ≡ agreed_terms funding a b p
   made_of t agreed fields =
       terms_are funding a b p t
-      (subst (λ (x : Party). CanAgree p.capacity x.start p.b.start) ea (subst (λ (x : Party). CanAgree p.capacity of_a.start x.start) eb agreed))
-      (subst (λ (x : Party). HasFields t funding p.capacity p.opener p.feerate x (party_of p.b b)) ea (subst (λ (x : Party). HasFields t funding p.capacity p.opener p.feerate of_a x) eb fields))
+      (subst (λ (x : Party). CanAgree p.capacity_sat x.start_msat p.b.start_msat) ea (subst (λ (x : Party). CanAgree p.capacity_sat of_a.start_msat x.start_msat) eb agreed))
+      (subst (λ (x : Party). HasFields t funding p.capacity_sat p.opener p.feerate_per_kw x (party_of p.b b)) ea (subst (λ (x : Party). HasFields t funding p.capacity_sat p.opener p.feerate_per_kw of_a x) eb fields))
 
-  pub none_of : (CanAgree p.capacity of_a.start of_b.start → ⊥) → None ≡ agreed_terms funding a b p
+  pub none_of : (CanAgree p.capacity_sat of_a.start_msat of_b.start_msat → ⊥) → None ≡ agreed_terms funding a b p
   none_of cannot =
       no_terms funding a b p
-      (λ h. cannot (subst (λ (x : Party). CanAgree p.capacity x.start of_b.start) (sym ea) (subst (λ (x : Party). CanAgree p.capacity p.a.start x.start) (sym eb) h)))
+      (λ h. cannot (subst (λ (x : Party). CanAgree p.capacity_sat x.start_msat of_b.start_msat) (sym ea) (subst (λ (x : Party). CanAgree p.capacity_sat p.a.start_msat x.start_msat) (sym eb) h)))

@@ -1,5 +1,5 @@
 -- The numbers of commitments in their fields (BOLT 3, "Commitment Transaction" and appendix C).
-use Rattle.std.proofs.Common.{◌≡◌, ℕ, ◌+◌, ◌^◌, map, List, [], ◌∷◌, Option, Some, None, refl}
+use Rattle.std.proofs.Common.{◌≡◌, ℕ, [], ◌∷◌, Some, None, refl}
 use Rattle.terms.specs.declared.numbers.Obscured.{Obscured}
 use Rattle.terms.specs.Numbers.{low_48_bits, obscured, revealed}
 

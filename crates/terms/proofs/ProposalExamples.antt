@@ -1,7 +1,7 @@
 -- Terms that two sides can agree on, and terms that differ from them by one.
-use Rattle.std.proofs.Common.{◌≡◌, ℕ, ◌+◌, true, false, Some, None, refl, sym, lit≤, lit<}
+use Rattle.std.proofs.Common.{◌≡◌, ℕ, true, false, Some, None, refl, sym, lit≤, lit<}
 use Rattle.tx.specs.declared.input.OutPoint.{OutPoint}
-use Rattle.terms.specs.declared.sides.Side.TheVariants.{A, B}
+use Rattle.terms.specs.declared.sides.Side.TheVariants.{B}
 use Rattle.terms.specs.declared.agreement.BaseKeys.{BaseKeys}
 use Rattle.terms.specs.declared.agreement.Terms.{Terms}
 use Rattle.terms.specs.declared.proposals.ProposedTerms.{ProposedTerms}
@@ -10,12 +10,12 @@ use Rattle.terms.specs.Proposals.{can_agree, party_of, agreed_terms}
 use Rattle.terms.proofs.Agreed.{terms_are}
 
 abbrev proposed : ℕ → ℕ → ℕ → ProposedTerms
-proposed capacity a b = record {
-  capacity = capacity;
+proposed capacity_sat a b = record {
+  capacity_sat = capacity_sat;
   opener = B;
-  feerate = 6;
-  a = record { dust = 4; delay = 2; minimum = 7; start = a };
-  b = record { dust = 5; delay = 3; minimum = 8; start = b };
+  feerate_per_kw = 6;
+  a = record { dust_sat = 4; delay_blocks = 2; minimum_msat = 7; start_msat = a };
+  b = record { dust_sat = 5; delay_blocks = 3; minimum_msat = 8; start_msat = b };
 }
 
 -- the capacity is what the sides begin with, and at most 21,000,000 bitcoins
@@ -29,11 +29,11 @@ agreements = (refl, refl, refl, refl, refl)
 -- each side's delay is of 16 bits
 abbrev delayed : ℕ → ℕ → ProposedTerms
 delayed a b = record {
-  capacity = 1;
+  capacity_sat = 1;
   opener = B;
-  feerate = 6;
-  a = record { dust = 4; delay = a; minimum = 7; start = 999 };
-  b = record { dust = 5; delay = b; minimum = 8; start = 1 };
+  feerate_per_kw = 6;
+  a = record { dust_sat = 4; delay_blocks = a; minimum_msat = 7; start_msat = 999 };
+  b = record { dust_sat = 5; delay_blocks = b; minimum_msat = 8; start_msat = 1 };
 }
 
 delays : (can_agree (delayed 65535 65535) ≡ true) × (can_agree (delayed 65536 65535) ≡ false) × (can_agree (delayed 65535 65536) ≡ false)
@@ -44,11 +44,11 @@ module _ (funding : OutPoint) (keys_of_a keys_of_b : BaseKeys) where
   abbrev terms : Terms
   terms = record {
     funding = funding;
-    capacity = 1;
+    capacity_sat = 1;
     opener = B;
-    feerate = 6;
-    a = record { dust = 4; delay = 2; minimum = 7; start = 999; bases = keys_of_a };
-    b = record { dust = 5; delay = 3; minimum = 8; start = 1; bases = keys_of_b };
+    feerate_per_kw = 6;
+    a = record { dust_sat = 4; delay_blocks = 2; minimum_msat = 7; start_msat = 999; bases = keys_of_a };
+    b = record { dust_sat = 5; delay_blocks = 3; minimum_msat = 8; start_msat = 1; bases = keys_of_b };
     limited = lit≤ tt;
     whole = refl;
     short_a = lit< tt;

@@ -9,16 +9,16 @@ use Rattle.terms.specs.declared.agreement.Party.{Party}
 use Rattle.terms.specs.declared.agreement.Terms.{Terms}
 
 -- two sides can agree on this capacity in satoshis, with these starting balances in millisatoshis
-pub record CanAgree (capacity a b : ℕ) : Type 0 where
-  pub limited : capacity ≤ MAX_VALUE
-  pub whole : a + b ≡ MSAT_PER_SAT * capacity
+pub record CanAgree (capacity_sat a b : ℕ) : Type 0 where
+  pub limited : capacity_sat ≤ MAX_VALUE
+  pub whole : a + b ≡ MSAT_PER_SAT * capacity_sat
 
 -- the terms have these values
-pub record HasFields (t : Terms) (funding : OutPoint) (capacity : ℕ) (opener : Side) (feerate : ℕ) (a b : Party) : Type 0 where
+pub record HasFields (t : Terms) (funding : OutPoint) (capacity_sat : ℕ) (opener : Side) (feerate_per_kw : ℕ) (a b : Party) : Type 0 where
   pub funding_is : t.funding ≡ funding
-  pub capacity_is : t.capacity ≡ capacity
+  pub capacity_is : t.capacity_sat ≡ capacity_sat
   pub opener_is : t.opener ≡ opener
-  pub feerate_is : t.feerate ≡ feerate
+  pub feerate_is : t.feerate_per_kw ≡ feerate_per_kw
   pub a_is : t.a ≡ a
   pub b_is : t.b ≡ b
 

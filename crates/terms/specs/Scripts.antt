@@ -24,10 +24,10 @@ abbrev pub funding : List ℕ → List ℕ → List Op
 funding key other = if is_lesser other key then two_of_two other key else two_of_two key other
 
 -- to_local: the revocation key, or the delayed key after the delay
-abbrev pub to_local : (revocation : List ℕ) (delay : ℕ) (delayed : List ℕ) → List Op
-to_local revocation delay delayed =
+abbrev pub to_local : (revocation : List ℕ) (delay_blocks : ℕ) (delayed : List ℕ) → List Op
+to_local revocation delay_blocks delayed =
     If ∷ Push revocation
-    ∷ Else ∷ number_push delay ∷ CheckSequenceVerify ∷ Drop ∷ Push delayed
+    ∷ Else ∷ number_push delay_blocks ∷ CheckSequenceVerify ∷ Drop ∷ Push delayed
     ∷ EndIf ∷ CheckSig ∷ []
 
 -- to_remote: the key of this hash
@@ -45,12 +45,12 @@ offered revocation_hash remote local payment_hash =
     ∷ EndIf ∷ EndIf ∷ []
 
 -- a received HTLC: the revocation key; both HTLC keys with the preimage; or the remote key from a height on
-abbrev pub received : (revocation_hash remote local payment_hash : List ℕ) (expiry : ℕ) → List Op
-received revocation_hash remote local payment_hash expiry =
+abbrev pub received : (revocation_hash remote local payment_hash : List ℕ) (expiry_height : ℕ) → List Op
+received revocation_hash remote local payment_hash expiry_height =
     Dup ∷ Hash160 ∷ Push revocation_hash ∷ Equal
     ∷ If ∷ CheckSig
     ∷ Else ∷ Push remote ∷ Swap ∷ Size ∷ number_push 32 ∷ Equal
     ∷ If ∷ Hash160 ∷ Push payment_hash ∷ EqualVerify
     ∷ Number 2 ∷ Swap ∷ Push local ∷ Number 2 ∷ CheckMultiSig
-    ∷ Else ∷ Drop ∷ number_push expiry ∷ CheckLockTimeVerify ∷ Drop ∷ CheckSig
+    ∷ Else ∷ Drop ∷ number_push expiry_height ∷ CheckLockTimeVerify ∷ Drop ∷ CheckSig
     ∷ EndIf ∷ EndIf ∷ []

@@ -46,13 +46,13 @@ impl BaseKeys {
 #[derive(Clone, Copy, Debug, PartialEq, Eq, Drop)]
 pub struct Party {
     /// The dust limit of its own commitments in satoshis: they have no output below it (`dust_limit_satoshis`).
-    pub dust: u64,
+    pub dust_sat: u64,
     /// The delay of its own delayed outputs in blocks (the peer's `to_self_delay`).
-    pub delay: u16,
+    pub delay_blocks: u16,
     /// The least amount of an HTLC offered to it, in millisatoshis (`htlc_minimum_msat`).
-    pub minimum: u64,
+    pub minimum_msat: u64,
     /// Its starting balance in millisatoshis.
-    pub start: u64,
+    pub start_msat: u64,
     pub bases: BaseKeys,
 }
 
@@ -62,22 +62,22 @@ pub struct Terms {
     /// The funding output, which the commitments spend.
     pub funding: OutPoint,
     /// The value of the funding output in satoshis.
-    pub capacity: u64,
+    pub capacity_sat: u64,
     /// The side that opened the channel. It pays the fee of the commitments, and it alone may change the feerate.
     pub opener: Side,
     /// The feerate until the first change, in satoshis per 1,000 units of weight (`feerate_per_kw`).
-    pub feerate: u32,
+    pub feerate_per_kw: u32,
     pub a: Party,
     pub b: Party,
-    pub ghost limited: { capacity ≤ max_value },
-    pub ghost whole: { a.start + b.start ≡ MSAT_PER_SAT * capacity },
-    pub ghost short_a: { a.delay < 2 ^ 16 },
-    pub ghost short_b: { b.delay < 2 ^ 16 },
+    pub ghost limited: { capacity_sat ≤ max_value },
+    pub ghost whole: { a.start_msat + b.start_msat ≡ MSAT_PER_SAT * capacity_sat },
+    pub ghost short_a: { a.delay_blocks < 2 ^ 16 },
+    pub ghost short_b: { b.delay_blocks < 2 ^ 16 },
 }
 
 // A delay of 16 bits is below 2^16.
-fn fits(delay: u16)
-    ensures { delay < 2 ^ 16 }
+fn fits(delay_blocks: u16)
+    ensures { delay_blocks < 2 ^ 16 }
 {}
 
 impl Terms {
@@ -88,31 +88,31 @@ impl Terms {
     /// do not sum to it.
     pub fn new(
         funding: OutPoint,
-        capacity: u64,
+        capacity_sat: u64,
         opener: Side,
-        feerate: u32,
+        feerate_per_kw: u32,
         a: Party,
         b: Party,
     ) -> Result<Terms, TermsError>
-        ensures ok { IsOk result ↔ CanAgree capacity a.start b.start }
-        ensures fields { IfOk result (λ t. HasFields t funding capacity opener feerate a b) }
+        ensures ok { IsOk result ↔ CanAgree capacity_sat a.start_msat b.start_msat }
+        ensures fields { IfOk result (λ t. HasFields t funding capacity_sat opener feerate_per_kw a b) }
     {
-        if capacity > MAX_VALUE {
+        if capacity_sat > MAX_VALUE {
             return Err(TermsError::BadTerms);
         }
-        if u128::from(a.start) + u128::from(b.start)
-            != u128::from(MSAT_PER_SAT) * u128::from(capacity)
+        if u128::from(a.start_msat) + u128::from(b.start_msat)
+            != u128::from(MSAT_PER_SAT) * u128::from(capacity_sat)
         {
             return Err(TermsError::BadTerms);
         }
         // By these calls the proof knows that both delays are short.
-        fits(a.delay);
-        fits(b.delay);
+        fits(a.delay_blocks);
+        fits(b.delay_blocks);
         Ok(Terms {
             funding,
-            capacity,
+            capacity_sat,
             opener,
-            feerate,
+            feerate_per_kw,
             a,
             b,
         })

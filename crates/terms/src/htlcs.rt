@@ -6,9 +6,9 @@ pub struct Htlc {
     /// The number of HTLCs that the same side offered before it.
     pub id: u64,
     /// The amount in millisatoshis.
-    pub amount: u64,
+    pub amount_msat: u64,
     /// SHA-256 of the payment preimage.
     pub hash: [u8; 32],
     /// The block height from which it can be timed out (`cltv_expiry`).
-    pub expiry: u32,
+    pub expiry_height: u32,
 }

@@ -8,21 +8,21 @@ use lists::List;
 use std::alloc::AllocError;
 
 /// What a commitment gives to one side.
-#[derive(Debug, Drop)]
+#[derive(Clone, Debug, Drop)]
 pub struct Share {
     /// The balance in millisatoshis.
-    pub balance: u64,
+    pub balance_msat: u64,
     /// The HTLCs that the side offered and that are still live, in the order of their ids.
     pub offered: List<Htlc>,
 }
 
 /// What a commitment pays: to each side, and for the fee.
-#[derive(Debug, Drop)]
+#[derive(Clone, Debug, Drop)]
 pub struct View {
     pub a: Share,
     pub b: Share,
     /// The feerate in satoshis per 1,000 units of weight.
-    pub feerate: u32,
+    pub feerate_per_kw: u32,
 }
 
 impl Share {
@@ -32,13 +32,7 @@ impl Share {
     pub fn copy(&self) -> Result<Share, AllocError>
         ensures { IfOk result (λ s. s ≡ self.now) }
     {
-        let htlcs = self.offered.values();
-        let mut offered = Vec::new(self.offered.allocator());
-        offered.extend_from_slice(htlcs)?;
-        Ok(Share {
-            balance: self.balance,
-            offered: List::from_vec(offered),
-        })
+        self.clone()
     }
 }
 
@@ -60,10 +54,6 @@ impl View {
     pub fn copy(&self) -> Result<View, AllocError>
         ensures { IfOk result (λ v. v ≡ self.now) }
     {
-        Ok(View {
-            a: self.a.copy()?,
-            b: self.b.copy()?,
-            feerate: self.feerate,
-        })
+        self.clone()
     }
 }

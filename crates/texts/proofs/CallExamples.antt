@@ -1,20 +1,20 @@
 -- Calls, entries and dumps with distinct values in all their parts, and values that just miss the shape.
-use Rattle.std.proofs.Common.{◌≡◌, ℕ, ◌+◌, ◌*◌, ◌^◌, true, false, List, [], ◌∷◌, ◌++◌, Option, Some, None, codes, refl}
+use Rattle.std.proofs.Common.{◌≡◌, ℕ, ◌^◌, true, false, List, [], ◌∷◌, ◌++◌, Some, None, codes, refl}
 use Rattle.std.specs.Prelude.{replicate, is_some}
 use Rattle.hex.proofs.OnLiterals.{hex_on_literals}
-use Rattle.serde_json.specs.Data.{Data, Items, Members, no_items, item, no_members, member, null, number, string, array, object, unsigned}
+use Rattle.serde_json.specs.Data.{Data, no_items, item, no_members, member, null, number, string, array, object, unsigned}
 use Rattle.serde_json.specs.Read.{read}
 use Rattle.serde_json.proofs.OnLiterals.{serde_json_on_literals}
 use Rattle.script.specs.Token.{is_key, is_token}
 use Rattle.tx.specs.Parts.{Output}
 use Rattle.keys.specs.declared.compressed.Key.{Key}
 use Rattle.terms.specs.declared.sides.Side.TheVariants.{A, B}
-use Rattle.updates.specs.declared.changes.Update.TheVariants.{Fail as Failing, Fee}
+use Rattle.updates.specs.declared.changes.Update.TheVariants.{Fail as Failing}
 use Rattle.terms.specs.declared.proposals.ProposedTerms.{ProposedTerms}
 use Rattle.updates.specs.declared.changes.OwnUpdate.TheVariants.{Offer, Fulfil, Fail, SetFee}
-use Rattle.texts.specs.declared.steps.PlainReceived.TheVariants.{Updated, Signed}
+use Rattle.updates.specs.declared.messages.PeerStep.TheVariants.{Update as Updated, CommitmentSigned}
 use Rattle.texts.specs.declared.steps.PlainStep.TheVariants.{Own, Receive}
-use Rattle.texts.specs.declared.calls.PlainCall.TheVariants.{Open, Step, Sign, Revoke, Keep, Release, Close}
+use Rattle.texts.specs.declared.calls.PlainCall.TheVariants.{Open, Step, Sign, Revoke, Keep, Close}
 use Rattle.claim.specs.Opcodes.{◌>>=◌}
 use Rattle.texts.specs.Writing.{bytes_data, output_data}
 use Rattle.texts.specs.CallWriting.{release_data, close_data, entry_data, dump_data}
@@ -90,7 +90,7 @@ received message = four (text (codes "step")) (n 3) (text (codes "receive")) mes
 
 -- steps that receive a message other than a revocation
 received_steps : (call_of (received (two (text (codes "fail")) (n 4))) ≡ Some (Step 3 (Receive (Updated (Failing 4)))))
-    × (call_of (received (three (text (codes "signed")) token_text (one token_text))) ≡ Some (Step 3 (Receive (Signed (record { commitment = token; htlcs = token ∷ [] })))))
+    × (call_of (received (three (text (codes "signed")) token_text (one token_text))) ≡ Some (Step 3 (Receive (CommitmentSigned (record { commitment = token; htlcs = token ∷ [] })))))
     × (call_of (received (three (text (codes "signed")) key_text (one token_text))) ≡ None)
     × (call_of (received (two (text (codes "signed")) token_text)) ≡ None)
     × (call_of (received (three (text (codes "revoke")) hash_text key_text)) ≡ None)
@@ -138,11 +138,11 @@ closes_in_text = (refl, refl, refl)
 
 abbrev proposed : ProposedTerms
 proposed = record {
-  capacity = 1;
+  capacity_sat = 1;
   opener = A;
-  feerate = 6;
-  a = record { dust = 4; delay = 2; minimum = 7; start = 999 };
-  b = record { dust = 5; delay = 3; minimum = 8; start = 1 };
+  feerate_per_kw = 6;
+  a = record { dust_sat = 4; delay_blocks = 2; minimum_msat = 7; start_msat = 999 };
+  b = record { dust_sat = 5; delay_blocks = 3; minimum_msat = 8; start_msat = 1 };
 }
 
 abbrev terms_text : ℕ → Data

@@ -1,12 +1,11 @@
 -- A reader reads back the call that its writer wrote.
-use Rattle.std.proofs.Common.{◌≡◌, ℕ, ◌<◌, ◌^◌, ◌==◌, ◌&&◌, Bool, true, false, length, slice_index, List, [], ◌∷◌, map, Option, Some, None, refl, ap, subst, ◌∙◌, codes}
+use Rattle.std.proofs.Common.{◌≡◌, ℕ, ◌==◌, ◌&&◌, true, false, length, slice_index, List, [], ◌∷◌, map, Some, refl, subst}
 use Rattle.std.specs.Prelude.{IsTrue}
 use Rattle.std.specs.List.{AllByRecursion}
-use Rattle.std.proofs.lemmas.Bool.{and_parts, eqb-true, lt-ltb}
+use Rattle.std.proofs.lemmas.Bool.{and_parts, eqb-true}
 use Rattle.std.proofs.lemmas.List.{length-map}
 use Rattle.hex.specs.Hex.{IsBytes}
 use Rattle.serde_json.specs.Data.{Data}
-use Rattle.serde_json.specs.View.{items_of}
 use Rattle.script.specs.Token.{is_key_start, is_token}
 use Rattle.tx.specs.Parts.{Output, IsOutput}
 use Rattle.claim.specs.Claims.{ClaimParts}
@@ -14,27 +13,26 @@ use Rattle.terms.specs.declared.agreement.BaseKeys.{BaseKeys}
 use Rattle.updates.specs.declared.changes.Update.{Update}
 use Rattle.updates.specs.declared.changes.Update.TheVariants.{Add, Fulfil as Fulfilling, Fail as Failing, Fee}
 use Rattle.updates.specs.declared.changes.OwnUpdate.TheVariants.{Offer, Fulfil, Fail, SetFee}
-use Rattle.texts.specs.declared.steps.PlainReceived.{PlainReceived}
-use Rattle.texts.specs.declared.steps.PlainReceived.TheVariants.{Updated, Signed}
-use Rattle.texts.specs.declared.steps.PlainSignature.{PlainSignature}
-use Rattle.texts.specs.declared.steps.PlainRevocation.{PlainRevocation}
+use Rattle.updates.specs.declared.messages.PeerStep.{PeerStep}
+use Rattle.updates.specs.declared.messages.Tokens.{Tokens}
+use Rattle.updates.specs.declared.messages.Revocation.{Revocation}
+use Rattle.updates.specs.declared.messages.PeerStep.TheVariants.{Update as Updated, CommitmentSigned}
 use Rattle.texts.specs.declared.steps.PlainStep.TheVariants.{Own, Receive}
 use Rattle.texts.specs.declared.calls.PlainOpening.{PlainOpening}
 use Rattle.texts.specs.declared.calls.PlainCall.{PlainCall}
 use Rattle.texts.specs.declared.calls.PlainCall.TheVariants.{Open, Step, Sign, Revoke, Keep, Release, Close}
-use Rattle.claim.specs.Opcodes.{◌>>=◌}
-use Rattle.texts.specs.Values.{each_of, u32_of, side_of, bytes_of_len, tag_of}
+use Rattle.texts.specs.Values.{u32_of, side_of, bytes_of_len}
 use Rattle.texts.specs.Keys.{key_of, base_keys_of, token_bytes_of}
 use Rattle.texts.specs.Outpoints.{outpoint_of}
 use Rattle.texts.specs.Terms.{terms_of}
-use Rattle.texts.specs.Messages.{update_of, update_named}
+use Rattle.texts.specs.Messages.{update_of}
 use Rattle.texts.specs.Outputs.{output_of}
 use Rattle.texts.specs.Claims.{claim_of}
 use Rattle.texts.specs.Steps.{signature_in, revocation_in, revocation_of, received_named, received_of, own_offer_of, own_fulfil_of, own_fail_of, own_fee_of, own_named, receive_of, step_named, step_of}
-use Rattle.texts.specs.Calls.{opening_of, open_of, step_call_of, sign_of, revoke_of, keep_of, release_of, close_of, call_named, call_of, entry_of, is_version, dump_of, are_within}
+use Rattle.texts.specs.Calls.{opening_of, open_of, step_call_of, sign_of, revoke_of, keep_of, release_of, close_of, call_named, call_of, entry_of, dump_of, are_within}
 use Rattle.texts.specs.Writing.{number_data, bytes_data, side_data, terms_data, output_data, add_data, update_data, Is32Bytes}
 use Rattle.texts.specs.ClaimWriting.{outpoint_data, claim_data, plain_claim, IsClaim}
-use Rattle.texts.specs.CallWriting.{key_data, AreTokens, CanOpen, base_keys_data, signature_data, revocation_data, received_data, open_data, own_data, receive_data, sign_data, revoke_data, keep_data, release_data, close_data, entry_data, dump_data, AreBases, IsTokenText, AreOutputTexts, IsReceived, OpeningsComeBack, OwnStepsComeBack, ReceivedStepsComeBack, SignsComeBack, RevokesComeBack, KeepsComeBack, ReleasesComeBack, ClosesComeBack, EntriesComeBack, DumpsComeBack}
+use Rattle.texts.specs.CallWriting.{key_data, AreTokens, CanOpen, base_keys_data, signature_data, revocation_data, received_data, open_data, own_data, receive_data, sign_data, revoke_data, keep_data, release_data, close_data, entry_data, dump_data, AreBases, IsTokenText, IsReceived, OpeningsComeBack, OwnStepsComeBack, ReceivedStepsComeBack, SignsComeBack, RevokesComeBack, KeepsComeBack, ReleasesComeBack, ClosesComeBack, EntriesComeBack, DumpsComeBack}
 use Rattle.texts.proofs.Returning.{below_back, sized_back, hash_back, side_back, terms_come_back, outputs_come_back, updates_come_back}
 use Rattle.texts.proofs.ClaimReturning.{key_back, outpoints_come_back, claims_come_back, each_again, same_again, all_by}
 
@@ -66,16 +64,16 @@ unfolding received_of received_named update_data add_data
 updated_again (Add htlc) back = rw back refl
 updated_again (Fulfilling id preimage) back = rw back refl
 updated_again (Failing id) back = rw back refl
-updated_again (Fee rate) back = rw back refl
+updated_again (Fee feerate_per_kw) back = rw back refl
 
-pub signature_again : (s : PlainSignature) → token_bytes_of (bytes_data s.commitment) ≡ Some s.commitment → AllByRecursion (λ t. token_bytes_of (bytes_data t) ≡ Some t) s.htlcs
-    → received_of (signature_data s) ≡ Some (Signed s)
+pub signature_again : (s : Tokens) → token_bytes_of (bytes_data s.commitment) ≡ Some s.commitment → AllByRecursion (λ t. token_bytes_of (bytes_data t) ≡ Some t) s.htlcs
+    → received_of (signature_data s) ≡ Some (CommitmentSigned s)
 unfolding received_of received_named signature_in signature_data
 signature_again s commitment htlcs = rw (commitment, same_again bytes_data token_bytes_of s.htlcs htlcs) refl
 
 -- if the tokens have their form
-pub signed_again : (s : PlainSignature) → (IsTrue (is_token s.commitment) → token_bytes_of (bytes_data s.commitment) ≡ Some s.commitment)
-    → AllByRecursion (λ t. IsTrue (is_token t) → token_bytes_of (bytes_data t) ≡ Some t) s.htlcs → AreTokens s → received_of (signature_data s) ≡ Some (Signed s)
+pub signed_again : (s : Tokens) → (IsTrue (is_token s.commitment) → token_bytes_of (bytes_data s.commitment) ≡ Some s.commitment)
+    → AllByRecursion (λ t. IsTrue (is_token t) → token_bytes_of (bytes_data t) ≡ Some t) s.htlcs → AreTokens s → received_of (signature_data s) ≡ Some (CommitmentSigned s)
 signed_again s commitment htlcs (form, forms) = signature_again s (commitment form) (each s.htlcs htlcs forms)
   where
     each : (ts : List (List ℕ)) → AllByRecursion (λ t. IsTrue (is_token t) → token_bytes_of (bytes_data t) ≡ Some t) ts → AllByRecursion (λ t. IsTrue (is_token t)) ts
@@ -83,15 +81,15 @@ signed_again s commitment htlcs (form, forms) = signature_again s (commitment fo
     each [] h f = h
     each (t ∷ ts) h f = (h.0 f.0, each ts h.1 f.1)
 
-pub revocation_again : (r : PlainRevocation) → bytes_of_len 32 (bytes_data r.secret) ≡ Some r.secret → key_of (key_data r.next_point) ≡ Some r.next_point
+pub revocation_again : (r : Revocation) → bytes_of_len 32 (bytes_data r.secret) ≡ Some r.secret → key_of (key_data r.next_point) ≡ Some r.next_point
     → revocation_of (revocation_data r) ≡ Some r
 unfolding revocation_of revocation_in revocation_data
 revocation_again r secret point = rw (secret, point) refl
 
-received_back : (m : PlainReceived) → IsReceived m → received_of (received_data m) ≡ Some m
+received_back : (m : PeerStep) → IsReceived m → received_of (received_data m) ≡ Some m
 unfolding received_data
 received_back (Updated u) h = updated_again u (updates_come_back u h)
-received_back (Signed s) (commitment, htlcs) =
+received_back (CommitmentSigned s) (commitment, htlcs) =
     signature_again s (token_back s.commitment commitment) (all_by IsTokenText (λ t. token_bytes_of (bytes_data t) ≡ Some t) token_back s.htlcs htlcs)
 
 -- ---- calls
@@ -103,10 +101,10 @@ pub opening_again : (o : PlainOpening) → terms_of (terms_data o.terms) ≡ Som
 unfolding call_of call_named open_of opening_of open_data
 opening_again o terms funding side seed bases points token (agreed, form) = rw (terms, funding, side, seed, bases, points.0, points.1, token form, agreed) refl
 
-pub offer_again : (channel amount : ℕ) (hash : List ℕ) (expiry : ℕ) → bytes_of_len 32 (bytes_data hash) ≡ Some hash → u32_of (number_data expiry) ≡ Some expiry
-    → call_of (own_data channel (Offer amount hash expiry)) ≡ Some (Step channel (Own (Offer amount hash expiry)))
+pub offer_again : (channel amount_msat : ℕ) (hash : List ℕ) (expiry_height : ℕ) → bytes_of_len 32 (bytes_data hash) ≡ Some hash → u32_of (number_data expiry_height) ≡ Some expiry_height
+    → call_of (own_data channel (Offer amount_msat hash expiry_height)) ≡ Some (Step channel (Own (Offer amount_msat hash expiry_height)))
 unfolding call_of call_named step_call_of step_of step_named own_named own_offer_of own_data
-offer_again channel amount hash expiry back small = rw (back, small) refl
+offer_again channel amount_msat hash expiry_height back small = rw (back, small) refl
 
 pub own_fulfil_again : (channel id : ℕ) (preimage : List ℕ) → bytes_of_len 32 (bytes_data preimage) ≡ Some preimage
     → call_of (own_data channel (Fulfil id preimage)) ≡ Some (Step channel (Own (Fulfil id preimage)))
@@ -117,11 +115,11 @@ pub own_fail_again : (channel id : ℕ) → call_of (own_data channel (Fail id))
 unfolding call_of call_named step_call_of step_of step_named own_named own_fail_of own_data
 own_fail_again channel id = refl
 
-pub own_fee_again : (channel rate : ℕ) → u32_of (number_data rate) ≡ Some rate → call_of (own_data channel (SetFee rate)) ≡ Some (Step channel (Own (SetFee rate)))
+pub own_fee_again : (channel feerate_per_kw : ℕ) → u32_of (number_data feerate_per_kw) ≡ Some feerate_per_kw → call_of (own_data channel (SetFee feerate_per_kw)) ≡ Some (Step channel (Own (SetFee feerate_per_kw)))
 unfolding call_of call_named step_call_of step_of step_named own_named own_fee_of own_data
-own_fee_again channel rate small = rw small refl
+own_fee_again channel feerate_per_kw small = rw small refl
 
-pub receive_again : (channel : ℕ) (d : Data) (m : PlainReceived) → received_of d ≡ Some m → call_of (receive_data channel d) ≡ Some (Step channel (Receive m))
+pub receive_again : (channel : ℕ) (d : Data) (m : PeerStep) → received_of d ≡ Some m → call_of (receive_data channel d) ≡ Some (Step channel (Receive m))
 unfolding call_of call_named step_call_of step_of step_named receive_of receive_data
 receive_again channel d m back = rw back refl
 
@@ -129,7 +127,7 @@ pub sign_again : (channel : ℕ) → call_of (sign_data channel) ≡ Some (Sign 
 unfolding call_of call_named sign_of sign_data
 sign_again channel = refl
 
-pub revoke_again : (channel : ℕ) (r : PlainRevocation) → revocation_of (revocation_data r) ≡ Some r → call_of (revoke_data channel r) ≡ Some (Revoke channel r)
+pub revoke_again : (channel : ℕ) (r : Revocation) → revocation_of (revocation_data r) ≡ Some r → call_of (revoke_data channel r) ≡ Some (Revoke channel r)
 unfolding call_of call_named revoke_of revoke_data
 revoke_again channel r back = rw back refl
 
@@ -165,10 +163,10 @@ openings_come_back o h =
     (key_back o.first_point h.first_point, key_back o.next_point h.next_point) (λ form. token_back o.token h.token) (h.agreed, h.token.0)
 
 pub own_steps_come_back : OwnStepsComeBack
-own_steps_come_back channel (Offer amount hash expiry) (is, lt) = offer_again channel amount hash expiry (hash_back hash is) (below_back _ _ lt)
+own_steps_come_back channel (Offer amount_msat hash expiry_height) (is, lt) = offer_again channel amount_msat hash expiry_height (hash_back hash is) (below_back _ _ lt)
 own_steps_come_back channel (Fulfil id preimage) is = own_fulfil_again channel id preimage (hash_back preimage is)
 own_steps_come_back channel (Fail id) h = own_fail_again channel id
-own_steps_come_back channel (SetFee rate) lt = own_fee_again channel rate (below_back _ _ lt)
+own_steps_come_back channel (SetFee feerate_per_kw) lt = own_fee_again channel feerate_per_kw (below_back _ _ lt)
 
 pub received_steps_come_back : ReceivedStepsComeBack
 received_steps_come_back channel m h = receive_again channel (received_data m) m (received_back m h)

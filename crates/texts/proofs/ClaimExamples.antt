@@ -1,13 +1,13 @@
 -- Claims with distinct values in all their parts, and values that just miss the shape.
-use Rattle.std.proofs.Common.{◌≡◌, ℕ, true, false, List, [], ◌∷◌, Option, Some, None, codes, refl}
+use Rattle.std.proofs.Common.{◌≡◌, ℕ, true, false, List, [], ◌∷◌, Some, None, codes, refl}
 use Rattle.std.specs.Prelude.{replicate, is_some}
 use Rattle.hex.proofs.OnLiterals.{hex_on_literals}
-use Rattle.serde_json.specs.Data.{Data, Items, Members, no_items, item, no_members, member, null, number, string, array, object, unsigned}
-use Rattle.script.specs.Token.{is_key, is_token}
+use Rattle.serde_json.specs.Data.{Data, Members, no_items, item, no_members, member, null, number, string, array, object, unsigned}
+use Rattle.script.specs.Token.{is_key}
 use Rattle.keys.specs.declared.compressed.Key.{Key}
-use Rattle.claim.specs.declared.parts.Slot.TheVariants.{Sig, Preimage, Exact}
-use Rattle.claim.specs.declared.parts.Shell.TheVariants.{Open, Fixed}
-use Rattle.texts.specs.Keys.{key_of, base_keys_of, token_bytes_of}
+use Rattle.claim.specs.declared.parts.Slot.TheVariants.{Sig, Preimage}
+use Rattle.claim.specs.declared.parts.Shell.TheVariants.{Open}
+use Rattle.texts.specs.Keys.{key_of}
 use Rattle.texts.specs.Outpoints.{digits_from, outpoint_in}
 use Rattle.texts.specs.Claims.{sig_of, preimage_of, exact_of, slot_named, slot_of, witness_item_of, shell_of, claim_of}
 

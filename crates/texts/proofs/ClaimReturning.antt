@@ -1,5 +1,5 @@
 -- A reader reads back the claim that its writer wrote.
-use Rattle.std.proofs.Common.{◌≡◌, ℕ, zero, suc, ◌+◌, ◌*◌, ◌-◌, ◌/◌, ◌%◌, ◌^◌, ◌<◌, ◌≤◌, ◌==◌, if◌then◌else◌, Bool, true, false, List, [], ◌∷◌, ◌++◌, length, take, drop, get_or, map, Option, Some, None, decimal, refl, sym, ap, subst, ◌∙◌, arith, length-append, append_assoc}
+use Rattle.std.proofs.Common.{◌≡◌, ℕ, zero, suc, ◌+◌, ◌*◌, ◌-◌, ◌/◌, ◌%◌, ◌^◌, ◌<◌, ◌≤◌, ◌==◌, if◌then◌else◌, Bool, true, false, List, [], ◌∷◌, ◌++◌, length, take, drop, get_or, map, Option, Some, None, decimal, refl, ap, subst, ◌∙◌, arith, length-append, append_assoc}
 use Rattle.std.specs.Prelude.{slice_index}
 use Rattle.std.specs.Char.{is_ascii_digit}
 use Rattle.std.specs.Result.{result_ok}
@@ -21,7 +21,6 @@ use Rattle.serde_json.specs.View.{items_of}
 use Rattle.keys.specs.declared.compressed.Key.{Key}
 use Rattle.claim.specs.Claims.{ClaimParts, IsBare}
 use Rattle.claim.specs.declared.parts.WitnessItem.{WitnessItem}
-use Rattle.claim.specs.declared.parts.Slot.{Slot}
 use Rattle.claim.specs.declared.parts.Slot.TheVariants.{Sig, Preimage, Exact}
 use Rattle.claim.specs.declared.parts.Shell.{Shell}
 use Rattle.claim.specs.declared.parts.Shell.TheVariants.{Open, Fixed}
@@ -30,7 +29,7 @@ use Rattle.texts.specs.Values.{below, bytes_of, bytes_of_len, each_of}
 use Rattle.texts.specs.Keys.{key_of}
 use Rattle.texts.specs.Outpoints.{digits_from, index_in, outpoint_in, outpoint_of}
 use Rattle.texts.specs.Claims.{sig_of, preimage_of, exact_of, slot_named, slot_of, witness_item_of, shell_of, claim_of}
-use Rattle.texts.specs.Writing.{bytes_data, Is32Bytes}
+use Rattle.texts.specs.Writing.{bytes_data}
 use Rattle.texts.specs.ClaimWriting.{plain_claim, outpoint_data, slot_data, shell_data, claim_data, IsSlot, OutpointsComeBack, SlotsComeBack, ShellsComeBack, ClaimsComeBack}
 use Rattle.texts.proofs.Returning.{hash_back, bytes_back, sized_back}
 use Rattle.texts.proofs.SameKeys.{key_found}

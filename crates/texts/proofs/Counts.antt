@@ -1,5 +1,5 @@
 -- An array of a `Value` has as many items as its list, and an object as many members as its list.
-use Rattle.std.proofs.Common.{◌≡◌, ℕ, suc, List, [], ◌∷◌, length, String, Global, ap, refl}
+use Rattle.std.proofs.Common.{◌≡◌, suc, List, [], ◌∷◌, length, String, Global, ap, refl}
 use Rattle.json_value.specs.View.{items_view, members_view}
 use Rattle.json_value.specs.declared.value.Value.{Value}
 use Rattle.texts.specs.Values.{item_count, member_count}

@@ -1,5 +1,5 @@
 -- The shapes with distinct values in all their parts, and values that just miss a shape.
-use Rattle.std.proofs.Common.{◌≡◌, ℕ, List, [], ◌∷◌, Option, Some, None, codes, refl}
+use Rattle.std.proofs.Common.{◌≡◌, ℕ, List, [], ◌∷◌, Some, None, codes, refl}
 use Rattle.std.specs.Prelude.{replicate}
 use Rattle.hex.proofs.OnLiterals.{hex_on_literals}
 use Rattle.serde_json.specs.Data.{Data, Items, Members, no_items, item, no_members, member, null, number, string, array, object, unsigned}
@@ -23,11 +23,11 @@ others =
     (member (codes "opener") (string (codes "B")) (member (codes "start") (pair 9 10) no_members)))))
 
 terms : (terms_of (object (member (codes "capacity") (n 1) others)) ≡ Some (record {
-  capacity = 1;
+  capacity_sat = 1;
   opener = B;
-  feerate = 6;
-  a = record { dust = 4; delay = 2; minimum = 7; start = 9 };
-  b = record { dust = 5; delay = 3; minimum = 8; start = 10 };
+  feerate_per_kw = 6;
+  a = record { dust_sat = 4; delay_blocks = 2; minimum_msat = 7; start_msat = 9 };
+  b = record { dust_sat = 5; delay_blocks = 3; minimum_msat = 8; start_msat = 10 };
 }))
     × (terms_of (object others) ≡ None)
     × (terms_of (object (member (codes "capacities") (n 1) others)) ≡ None)
@@ -52,7 +52,7 @@ hash = string (codes "0909090909090909090909090909090909090909090909090909090909
 abbrev nines : List ℕ
 nines = replicate 32 9
 
-updates : (update_of (tagged (codes "add") (n 1 ∷ n 2 ∷ hash ∷ n 3 ∷ [])) ≡ Some (update.Add (record { id = 1; amount = 2; hash = nines; expiry = 3 })))
+updates : (update_of (tagged (codes "add") (n 1 ∷ n 2 ∷ hash ∷ n 3 ∷ [])) ≡ Some (update.Add (record { id = 1; amount_msat = 2; hash = nines; expiry_height = 3 })))
     × (update_of (tagged (codes "fulfil") (n 1 ∷ hash ∷ [])) ≡ Some (update.Fulfil 1 nines))
     × (update_of (tagged (codes "fail") (n 1 ∷ [])) ≡ Some (update.Fail 1))
     × (update_of (tagged (codes "fee") (n 1 ∷ [])) ≡ Some (update.Fee 1))

@@ -1,8 +1,8 @@
 -- The parts of shapes on both sides of their limits.
-use Rattle.std.proofs.Common.{◌≡◌, ℕ, List, [], ◌∷◌, Option, Some, None, codes, refl}
+use Rattle.std.proofs.Common.{◌≡◌, ℕ, List, [], ◌∷◌, Some, None, codes, refl}
 use Rattle.std.specs.Prelude.{negsuc, true}
 use Rattle.hex.proofs.OnLiterals.{hex_on_literals}
-use Rattle.serde_json.specs.Data.{Data, Items, Members, no_items, item, no_members, member, null, boolean, number, string, array, object, unsigned, negative}
+use Rattle.serde_json.specs.Data.{Data, no_items, item, no_members, member, null, boolean, number, string, array, object, unsigned, negative}
 use Rattle.terms.specs.declared.sides.Side.TheVariants.{A, B}
 use Rattle.texts.specs.Values.{u64_of, u32_of, u16_of, bytes_of, bytes_of_len, side_of, array_of, object_of, item_of, member_of, pair_of, list_of}
 use Rattle.texts.specs.Outpoints.{digits_from, index_in, outpoint_in, outpoint_of}

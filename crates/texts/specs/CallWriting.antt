@@ -10,13 +10,12 @@ use Rattle.keys.specs.declared.compressed.Key.{Key}
 use Rattle.terms.specs.declared.agreement.BaseKeys.{BaseKeys}
 use Rattle.updates.specs.declared.changes.Update.{Update}
 use Rattle.claim.specs.Claims.{ClaimParts}
-use Rattle.texts.specs.declared.steps.PlainSignature.{PlainSignature}
-use Rattle.texts.specs.declared.steps.PlainRevocation.{PlainRevocation}
+use Rattle.updates.specs.declared.messages.Tokens.{Tokens}
+use Rattle.updates.specs.declared.messages.Revocation.{Revocation}
 use Rattle.updates.specs.declared.changes.OwnUpdate.{OwnUpdate}
 use Rattle.updates.specs.declared.changes.OwnUpdate.TheVariants.{Offer, Fulfil, Fail, SetFee}
-use Rattle.texts.specs.declared.steps.PlainReceived.{PlainReceived}
-use Rattle.texts.specs.declared.steps.PlainReceived.TheVariants.{Updated, Signed}
-use Rattle.texts.specs.declared.steps.PlainStep.{PlainStep}
+use Rattle.updates.specs.declared.messages.PeerStep.{PeerStep}
+use Rattle.updates.specs.declared.messages.PeerStep.TheVariants.{Update as Updated, CommitmentSigned}
 use Rattle.texts.specs.declared.steps.PlainStep.TheVariants.{Own, Receive}
 use Rattle.texts.specs.declared.calls.PlainOpening.{PlainOpening}
 use Rattle.texts.specs.declared.calls.PlainCall.{PlainCall}
@@ -44,15 +43,15 @@ each_data form xs = array (items_of (map form xs))
 abbrev pub call_front : List ℕ → ℕ → List Data
 call_front name channel = string name ∷ number_data channel ∷ []
 
-unfoldable pub signature_data : PlainSignature → Data
+unfoldable pub signature_data : Tokens → Data
 signature_data s = array (item (string (codes "signed")) (item (bytes_data s.commitment) (item (each_data bytes_data s.htlcs) no_items)))
 
-unfoldable pub revocation_data : PlainRevocation → Data
+unfoldable pub revocation_data : Revocation → Data
 revocation_data r = array (item (string (codes "revoke")) (item (bytes_data r.secret) (item (key_data r.next_point) no_items)))
 
-unfoldable pub received_data : PlainReceived → Data
+unfoldable pub received_data : PeerStep → Data
 received_data (Updated u) = update_data u
-received_data (Signed s) = signature_data s
+received_data (CommitmentSigned s) = signature_data s
 
 unfoldable pub open_data : PlainOpening → Data
 open_data o =
@@ -60,12 +59,12 @@ open_data o =
     (item (base_keys_data o.bases) (item (pair_data key_data (o.first_point, o.next_point)) (item (bytes_data o.token) no_items))))))))
 
 unfoldable pub own_data : ℕ → OwnUpdate → Data
-own_data channel (Offer amount hash expiry) =
-    array (item (string (codes "step")) (item (number_data channel) (item (string (codes "offer")) (item (number_data amount) (item (bytes_data hash) (item (number_data expiry) no_items))))))
+own_data channel (Offer amount_msat hash expiry_height) =
+    array (item (string (codes "step")) (item (number_data channel) (item (string (codes "offer")) (item (number_data amount_msat) (item (bytes_data hash) (item (number_data expiry_height) no_items))))))
 own_data channel (Fulfil id preimage) =
     array (item (string (codes "step")) (item (number_data channel) (item (string (codes "fulfil")) (item (number_data id) (item (bytes_data preimage) no_items)))))
 own_data channel (Fail id) = array (item (string (codes "step")) (item (number_data channel) (item (string (codes "fail")) (item (number_data id) no_items))))
-own_data channel (SetFee rate) = array (item (string (codes "step")) (item (number_data channel) (item (string (codes "fee")) (item (number_data rate) no_items))))
+own_data channel (SetFee feerate_per_kw) = array (item (string (codes "step")) (item (number_data channel) (item (string (codes "fee")) (item (number_data feerate_per_kw) no_items))))
 
 -- the step that receives a message, given the message as it is written
 unfoldable pub receive_data : ℕ → Data → Data
@@ -74,7 +73,7 @@ receive_data channel message = array (item (string (codes "step")) (item (number
 unfoldable pub sign_data : ℕ → Data
 sign_data channel = array (item (string (codes "sign")) (item (number_data channel) no_items))
 
-unfoldable pub revoke_data : ℕ → PlainRevocation → Data
+unfoldable pub revoke_data : ℕ → Revocation → Data
 revoke_data channel r = array (item (string (codes "revoke")) (item (number_data channel) (item (revocation_data r) no_items)))
 
 unfoldable pub keep_data : ℕ → ℕ → List ClaimParts → Data
@@ -126,23 +125,23 @@ pub record IsOpening (o : PlainOpening) : Type 0 where
   pub token : IsTokenText o.token
 
 abbrev pub IsOwnUpdate : OwnUpdate → Type 0
-IsOwnUpdate (Offer amount hash expiry) = Is32Bytes hash × (expiry < 2 ^ 32)
+IsOwnUpdate (Offer amount_msat hash expiry_height) = Is32Bytes hash × (expiry_height < 2 ^ 32)
 IsOwnUpdate (Fulfil id preimage) = Is32Bytes preimage
 IsOwnUpdate (Fail id) = ⊤
-IsOwnUpdate (SetFee rate) = rate < 2 ^ 32
+IsOwnUpdate (SetFee feerate_per_kw) = feerate_per_kw < 2 ^ 32
 
-abbrev pub IsReceived : PlainReceived → Type 0
+abbrev pub IsReceived : PeerStep → Type 0
 IsReceived (Updated u) = IsUpdate u
-IsReceived (Signed s) = IsTokenText s.commitment × AllByRecursion IsTokenText s.htlcs
+IsReceived (CommitmentSigned s) = IsTokenText s.commitment × AllByRecursion IsTokenText s.htlcs
 
-abbrev pub IsRevocation : PlainRevocation → Type 0
+abbrev pub IsRevocation : Revocation → Type 0
 IsRevocation r = Is32Bytes r.secret × IsKey r.next_point
 
 abbrev pub AreOutputTexts : List Output → Type 0
 AreOutputTexts outputs = AllByRecursion (λ o. IsOutput o × IsBytes o.script) outputs
 
 -- all of a signature's tokens have a token's form
-abbrev pub AreTokens : PlainSignature → Type 0
+abbrev pub AreTokens : Tokens → Type 0
 AreTokens s = IsTrue (is_token s.commitment) × AllByRecursion (λ t. IsTrue (is_token t)) s.htlcs
 
 -- what a reader asks of an opening beside its shape
@@ -160,13 +159,13 @@ abbrev pub UpdatesAreReceived : Type 0
 UpdatesAreReceived = (u : Update) → update_of (update_data u) ≡ Some u → received_of (update_data u) ≡ Some (Updated u)
 
 abbrev pub ReceivedStepsComeBack : Type 0
-ReceivedStepsComeBack = (channel : ℕ) (m : PlainReceived) → IsReceived m → call_of (receive_data channel (received_data m)) ≡ Some (Step channel (Receive m))
+ReceivedStepsComeBack = (channel : ℕ) (m : PeerStep) → IsReceived m → call_of (receive_data channel (received_data m)) ≡ Some (Step channel (Receive m))
 
 abbrev pub SignsComeBack : Type 0
 SignsComeBack = (channel : ℕ) → call_of (sign_data channel) ≡ Some (Sign channel)
 
 abbrev pub RevokesComeBack : Type 0
-RevokesComeBack = (channel : ℕ) (r : PlainRevocation) → IsRevocation r → call_of (revoke_data channel r) ≡ Some (Revoke channel r)
+RevokesComeBack = (channel : ℕ) (r : Revocation) → IsRevocation r → call_of (revoke_data channel r) ≡ Some (Revoke channel r)
 
 abbrev pub KeepsComeBack : Type 0
 KeepsComeBack = (channel number : ℕ) (claims : List ClaimParts) → AllByRecursion IsClaim claims → call_of (keep_data channel number claims) ≡ Some (Keep channel number (map plain_claim claims))

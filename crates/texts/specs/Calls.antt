@@ -7,10 +7,8 @@ use Rattle.tx.specs.declared.limits.TheConstants.{MAX_INPUTS, MAX_OUTPUTS}
 use Rattle.updates.specs.declared.changes.Update.{Update}
 use Rattle.updates.specs.declared.changes.Update.TheVariants.{Add, Fulfil as Fulfilling, Fail as Failing, Fee}
 use Rattle.terms.specs.Proposals.{can_agree}
-use Rattle.updates.specs.declared.changes.OwnUpdate.{OwnUpdate}
 use Rattle.updates.specs.declared.changes.OwnUpdate.TheVariants.{Offer, Fulfil, Fail, SetFee}
-use Rattle.texts.specs.declared.steps.PlainReceived.{PlainReceived}
-use Rattle.texts.specs.declared.steps.PlainReceived.TheVariants.{Updated, Signed}
+use Rattle.updates.specs.declared.messages.PeerStep.TheVariants.{Update as Updated, CommitmentSigned}
 use Rattle.texts.specs.declared.steps.PlainStep.{PlainStep}
 use Rattle.texts.specs.declared.steps.PlainStep.TheVariants.{Own, Receive}
 use Rattle.texts.specs.declared.calls.PlainOpening.{PlainOpening}
@@ -116,15 +114,15 @@ abbrev pub is_fee : Update → Bool
 is_fee (Add htlc) = false
 is_fee (Fulfilling id preimage) = false
 is_fee (Failing id) = false
-is_fee (Fee rate) = true
+is_fee (Fee feerate_per_kw) = true
 
 abbrev pub changes_fee : PlainStep → Bool
-changes_fee (Own (Offer amount hash expiry)) = false
+changes_fee (Own (Offer amount_msat hash expiry_height)) = false
 changes_fee (Own (Fulfil id preimage)) = false
 changes_fee (Own (Fail id)) = false
-changes_fee (Own (SetFee rate)) = true
+changes_fee (Own (SetFee feerate_per_kw)) = true
 changes_fee (Receive (Updated u)) = is_fee u
-changes_fee (Receive (Signed s)) = false
+changes_fee (Receive (CommitmentSigned s)) = false
 
 -- whether a call changes the feerate
 abbrev pub has_fee : PlainCall → Bool

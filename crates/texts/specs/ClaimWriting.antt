@@ -1,5 +1,5 @@
 -- Claims as they are written.
-use Rattle.std.specs.Prelude.{◌≡◌, ℕ, ◌<◌, ◌^◌, List, [], ◌∷◌, ◌++◌, map, Some, decimal, codes, ⊤}
+use Rattle.std.specs.Prelude.{◌≡◌, ℕ, ◌<◌, ◌^◌, List, ◌++◌, map, Some, decimal, codes, ⊤}
 use Rattle.std.specs.List.{AllByRecursion}
 use Rattle.hex.specs.Hex.{encode_lower, IsBytes}
 use Rattle.serde_json.specs.Data.{Data, no_members, member, no_items, item, null, string, array, object}

@@ -11,10 +11,10 @@ unfoldable pub add_of : Data → Option Update
 add_of d = do
   form ← array_of 5 d
   id ← item_of 1 u64_of form
-  amount ← item_of 2 u64_of form
+  amount_msat ← item_of 2 u64_of form
   hash ← item_of 3 (bytes_of_len 32) form
-  expiry ← item_of 4 u32_of form
-  Some (Add (record { id = id; amount = amount; hash = hash; expiry = expiry }))
+  expiry_height ← item_of 4 u32_of form
+  Some (Add (record { id = id; amount_msat = amount_msat; hash = hash; expiry_height = expiry_height }))
 
 unfoldable pub fulfil_of : Data → Option Update
 fulfil_of d = do
@@ -32,8 +32,8 @@ fail_of d = do
 unfoldable pub fee_of : Data → Option Update
 fee_of d = do
   form ← array_of 2 d
-  rate ← item_of 1 u32_of form
-  Some (Fee rate)
+  feerate_per_kw ← item_of 1 u32_of form
+  Some (Fee feerate_per_kw)
 
 -- reads an update by its name
 unfoldable pub update_named : List ℕ → Data → Option Update

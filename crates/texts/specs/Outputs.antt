@@ -1,5 +1,5 @@
 -- Outputs of transactions in JSON.
-use Rattle.std.specs.Prelude.{ℕ, length, ◌||◌, nat_lt, if◌then◌else◌, Option, Some, None}
+use Rattle.std.specs.Prelude.{length, nat_lt, if◌then◌else◌, Option, Some, None}
 use Rattle.serde_json.specs.Data.{Data}
 use Rattle.tx.specs.declared.limits.TheConstants.{MAX_VALUE, MAX_BYTES}
 use Rattle.tx.specs.Parts.{Output}

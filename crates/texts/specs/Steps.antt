@@ -3,12 +3,12 @@ use Rattle.std.specs.Prelude.{ℕ, if◌then◌else◌, List, Option, Some, None
 use Rattle.std.specs.Str.{bytes_eq}
 use Rattle.serde_json.specs.Data.{Data}
 use Rattle.serde_json.specs.Find.{as_str}
-use Rattle.texts.specs.declared.steps.PlainSignature.{PlainSignature}
-use Rattle.texts.specs.declared.steps.PlainRevocation.{PlainRevocation}
+use Rattle.updates.specs.declared.messages.Tokens.{Tokens}
+use Rattle.updates.specs.declared.messages.Revocation.{Revocation}
 use Rattle.updates.specs.declared.changes.OwnUpdate.{OwnUpdate}
 use Rattle.updates.specs.declared.changes.OwnUpdate.TheVariants.{Offer, Fulfil, Fail, SetFee}
-use Rattle.texts.specs.declared.steps.PlainReceived.{PlainReceived}
-use Rattle.texts.specs.declared.steps.PlainReceived.TheVariants.{Updated, Signed}
+use Rattle.updates.specs.declared.messages.PeerStep.{PeerStep}
+use Rattle.updates.specs.declared.messages.PeerStep.TheVariants.{Update as Updated, CommitmentSigned}
 use Rattle.texts.specs.declared.steps.PlainStep.{PlainStep}
 use Rattle.texts.specs.declared.steps.PlainStep.TheVariants.{Own, Receive}
 use Rattle.claim.specs.Opcodes.{◌>>=◌}
@@ -19,7 +19,7 @@ use Rattle.texts.specs.Messages.{update_of}
 -- ---- messages
 
 -- the token on a commitment, and those on its HTLC transactions
-unfoldable pub signature_in : Data → Option PlainSignature
+unfoldable pub signature_in : Data → Option Tokens
 signature_in d = do
   form ← array_of 3 d
   commitment ← item_of 1 token_bytes_of form
@@ -27,23 +27,23 @@ signature_in d = do
   Some (record { commitment = commitment; htlcs = htlcs })
 
 -- the secret of the revoked commitment, and the point for the number two above its
-unfoldable pub revocation_in : Data → Option PlainRevocation
+unfoldable pub revocation_in : Data → Option Revocation
 revocation_in d = do
   form ← array_of 3 d
   secret ← item_of 1 (bytes_of_len 32) form
   next_point ← item_of 2 key_of form
   Some (record { secret = secret; next_point = next_point })
 
-unfoldable pub revocation_of : Data → Option PlainRevocation
+unfoldable pub revocation_of : Data → Option Revocation
 revocation_of d = tag_of d >>= (λ name. if bytes_eq name (codes "revoke") then revocation_in d else None)
 
 -- a message that a step receives: any but a revocation
-unfoldable pub received_named : List ℕ → Data → Option PlainReceived
+unfoldable pub received_named : List ℕ → Data → Option PeerStep
 received_named name d =
-    if bytes_eq name (codes "signed") then (signature_in d >>= (λ s. Some (Signed s)))
+    if bytes_eq name (codes "signed") then (signature_in d >>= (λ s. Some (CommitmentSigned s)))
     else (update_of d >>= (λ u. Some (Updated u)))
 
-unfoldable pub received_of : Data → Option PlainReceived
+unfoldable pub received_of : Data → Option PeerStep
 received_of d = tag_of d >>= (λ name. received_named name d)
 
 -- ---- steps: the step's name and its fields follow the call's name and the channel
@@ -51,10 +51,10 @@ received_of d = tag_of d >>= (λ name. received_named name d)
 unfoldable pub own_offer_of : Data → Option OwnUpdate
 own_offer_of d = do
   form ← array_of 6 d
-  amount ← item_of 3 u64_of form
+  amount_msat ← item_of 3 u64_of form
   hash ← item_of 4 (bytes_of_len 32) form
-  expiry ← item_of 5 u32_of form
-  Some (Offer amount hash expiry)
+  expiry_height ← item_of 5 u32_of form
+  Some (Offer amount_msat hash expiry_height)
 
 unfoldable pub own_fulfil_of : Data → Option OwnUpdate
 own_fulfil_of d = do
@@ -72,8 +72,8 @@ own_fail_of d = do
 unfoldable pub own_fee_of : Data → Option OwnUpdate
 own_fee_of d = do
   form ← array_of 4 d
-  rate ← item_of 3 u32_of form
-  Some (SetFee rate)
+  feerate_per_kw ← item_of 3 u32_of form
+  Some (SetFee feerate_per_kw)
 
 -- reads one's own update by its name
 unfoldable pub own_named : List ℕ → Data → Option OwnUpdate

@@ -7,23 +7,23 @@ use Rattle.claim.specs.Opcodes.{◌>>=◌}
 use Rattle.texts.specs.Values.{object_of, member_of, pair_of, u64_of, u32_of, u16_of, side_of}
 
 abbrev pub party_of : ℕ → ℕ → ℕ → ℕ → ProposedParty
-party_of dust delay minimum start = record { dust = dust; delay = delay; minimum = minimum; start = start }
+party_of dust_sat delay_blocks minimum_msat start_msat = record { dust_sat = dust_sat; delay_blocks = delay_blocks; minimum_msat = minimum_msat; start_msat = start_msat }
 
 -- an object of these seven members; each pair has the value of side A first
 unfoldable pub terms_of : Data → Option ProposedTerms
 terms_of d = do
   form ← object_of 7 d
-  dust ← member_of (codes "dust") (pair_of u64_of) form
-  delay ← member_of (codes "delay") (pair_of u16_of) form
-  minimum ← member_of (codes "minimum") (pair_of u64_of) form
-  start ← member_of (codes "start") (pair_of u64_of) form
-  capacity ← member_of (codes "capacity") u64_of form
+  dust_sat ← member_of (codes "dust") (pair_of u64_of) form
+  delay_blocks ← member_of (codes "delay") (pair_of u16_of) form
+  minimum_msat ← member_of (codes "minimum") (pair_of u64_of) form
+  start_msat ← member_of (codes "start") (pair_of u64_of) form
+  capacity_sat ← member_of (codes "capacity") u64_of form
   opener ← member_of (codes "opener") side_of form
-  feerate ← member_of (codes "feerate") u32_of form
+  feerate_per_kw ← member_of (codes "feerate") u32_of form
   Some (record {
-    capacity = capacity;
+    capacity_sat = capacity_sat;
     opener = opener;
-    feerate = feerate;
-    a = party_of dust.0 delay.0 minimum.0 start.0;
-    b = party_of dust.1 delay.1 minimum.1 start.1;
+    feerate_per_kw = feerate_per_kw;
+    a = party_of dust_sat.0 delay_blocks.0 minimum_msat.0 start_msat.0;
+    b = party_of dust_sat.1 delay_blocks.1 minimum_msat.1 start_msat.1;
   })

@@ -16,26 +16,26 @@ impl FromValue for ProposedTerms {
     #[tactic(auto, unfolding(crate::specs::Terms::terms_of))]
     fn from_value(value: &Value) -> Option<ProposedTerms> {
         let form = object_of(value, 7)?;
-        let dust: (u64, u64) = member(form, "dust")?;
-        let delay: (u16, u16) = member(form, "delay")?;
-        let minimum: (u64, u64) = member(form, "minimum")?;
-        let start: (u64, u64) = member(form, "start")?;
+        let dust_sat: (u64, u64) = member(form, "dust")?;
+        let delay_blocks: (u16, u16) = member(form, "delay")?;
+        let minimum_msat: (u64, u64) = member(form, "minimum")?;
+        let start_msat: (u64, u64) = member(form, "start")?;
         let a = ProposedParty {
-            dust: dust.0,
-            delay: delay.0,
-            minimum: minimum.0,
-            start: start.0,
+            dust_sat: dust_sat.0,
+            delay_blocks: delay_blocks.0,
+            minimum_msat: minimum_msat.0,
+            start_msat: start_msat.0,
         };
         let b = ProposedParty {
-            dust: dust.1,
-            delay: delay.1,
-            minimum: minimum.1,
-            start: start.1,
+            dust_sat: dust_sat.1,
+            delay_blocks: delay_blocks.1,
+            minimum_msat: minimum_msat.1,
+            start_msat: start_msat.1,
         };
         Some(ProposedTerms {
-            capacity: member(form, "capacity")?,
+            capacity_sat: member(form, "capacity")?,
             opener: member(form, "opener")?,
-            feerate: member(form, "feerate")?,
+            feerate_per_kw: member(form, "feerate")?,
             a,
             b,
         })

@@ -3,8 +3,8 @@
 ghost use Rattle.std.specs.Prelude.{◌≡◌, true, List, [], ◌∷◌, ◌++◌, map, length, codes, Some, IfOk};
 ghost use Rattle.serde_json.specs.Data.{string};
 ghost use Rattle.serde_json.specs.View.{view, items_view};
-ghost use Rattle.texts.specs.declared.steps.PlainReceived.{PlainReceived};
-ghost use Rattle.texts.specs.declared.steps.PlainReceived.TheVariants.{Signed};
+ghost use Rattle.updates.specs.declared.messages.PeerStep.{PeerStep};
+ghost use Rattle.updates.specs.declared.messages.PeerStep.TheVariants.{CommitmentSigned};
 ghost use Rattle.texts.specs.declared.steps.PlainStep.TheVariants.{Own, Receive};
 ghost use Rattle.texts.specs.declared.calls.PlainCall.{PlainCall};
 ghost use Rattle.texts.specs.declared.calls.PlainCall.TheVariants.{Step, Sign, Revoke, Keep, Release, Close};
@@ -18,7 +18,6 @@ ghost use Rattle.texts.specs.CallWriting.{AreTokens, base_keys_data, call_front,
 
 use crate::calls::PlainOpening;
 use crate::compound::{ArrayWriter, ObjectWriter};
-use crate::steps::{PlainRevocation, PlainSignature};
 use crate::writing::{WriteValue, write_bytes};
 use claim::Claim;
 use keys::Key;
@@ -27,7 +26,7 @@ use sighash::Token;
 use std::alloc::{AllocError, Global};
 use terms::BaseKeys;
 use tx::TxOut;
-use updates::OwnUpdate;
+use updates::{OwnUpdate, Revocation, Tokens};
 
 /// A string of hexadecimal digits.
 impl WriteValue for Key {
@@ -74,7 +73,7 @@ pub fn write_signature(
     ensures back { IfOk result (λ _. AreTokens
         (record { commitment = commitment.now; htlcs = htlcs.now })
         → received_of (signature_data (record { commitment = commitment.now; htlcs = htlcs.now }))
-        ≡ Some (Signed (record { commitment = commitment.now; htlcs = htlcs.now }))) }
+        ≡ Some (CommitmentSigned (record { commitment = commitment.now; htlcs = htlcs.now }))) }
 {
     let message = ArrayWriter::named(alloc, "signed")?
         .item(commitment)?
@@ -83,15 +82,15 @@ pub fn write_signature(
 }
 
 /// An array of `signed`, the token on the commitment and the array of those on its HTLC transactions.
-impl WriteValue for PlainSignature {
+impl WriteValue for Tokens {
     ghost use Rattle.std.specs.Prelude.{◌≡◌, Some};
-    ghost use Rattle.texts.specs.declared.steps.PlainReceived.TheVariants.{Signed};
+    ghost use Rattle.updates.specs.declared.messages.PeerStep.TheVariants.{CommitmentSigned};
     ghost use Rattle.texts.specs.Steps.{received_of};
     ghost use Rattle.texts.specs.CallWriting.{signature_data, AreTokens};
 
     ghost writes = { signature_data };
 
-    ghost comes_back = { λ s. AreTokens s → received_of (signature_data s) ≡ Some (Signed s) };
+    ghost comes_back = { λ s. AreTokens s → received_of (signature_data s) ≡ Some (CommitmentSigned s) };
 
     fn write_value(&self, alloc: Global) -> Result<Value, AllocError> {
         write_signature(alloc, &self.commitment, self.htlcs.values())
@@ -99,7 +98,7 @@ impl WriteValue for PlainSignature {
 }
 
 /// An array of `revoke`, the secret and the point.
-impl WriteValue for PlainRevocation {
+impl WriteValue for Revocation {
     ghost use Rattle.std.specs.Prelude.{◌≡◌, Some};
     ghost use Rattle.texts.specs.Steps.{revocation_of};
     ghost use Rattle.texts.specs.CallWriting.{revocation_data};
@@ -189,14 +188,14 @@ pub fn write_own(alloc: Global, channel: u64, update: &OwnUpdate) -> Result<Valu
 {
     match update {
         OwnUpdate::Offer {
-            amount,
+            amount_msat,
             hash,
-            expiry,
+            expiry_height,
         } => {
             let call = step(alloc, channel, "offer")?
-                .item(amount)?
+                .item(amount_msat)?
                 .item(hash)?
-                .item(expiry)?;
+                .item(expiry_height)?;
             Ok(call.finish())
         }
         OwnUpdate::Fulfil { id, preimage } => {
@@ -204,7 +203,9 @@ pub fn write_own(alloc: Global, channel: u64, update: &OwnUpdate) -> Result<Valu
             Ok(call.finish())
         }
         OwnUpdate::Fail { id } => Ok(step(alloc, channel, "fail")?.item(id)?.finish()),
-        OwnUpdate::SetFee { rate } => Ok(step(alloc, channel, "fee")?.item(rate)?.finish()),
+        OwnUpdate::SetFee { feerate_per_kw } => Ok(
+            step(alloc, channel, "fee")?.item(feerate_per_kw)?.finish(),
+        ),
     }
 }
 
@@ -212,7 +213,7 @@ pub fn write_own(alloc: Global, channel: u64, update: &OwnUpdate) -> Result<Valu
 #[tactic(auto, unfolding(crate::specs::CallWriting::receive_data), using(crate::proofs::CallReturning::receive_again))]
 pub fn write_receive(alloc: Global, channel: u64, message: Value) -> Result<Value, AllocError>
     ensures form { IfOk result (λ v. view v ≡ receive_data channel (view message)) }
-    ensures back { IfOk result (λ _. (m : PlainReceived) → received_of (view message) ≡ Some m
+    ensures back { IfOk result (λ _. (m : PeerStep) → received_of (view message) ≡ Some m
         → call_of (receive_data channel (view message)) ≡ Some (Step channel (Receive m))) }
 {
     let call = step(alloc, channel, "receive")?.value(message)?;
@@ -233,7 +234,7 @@ pub fn write_sign(alloc: Global, channel: u64) -> Result<Value, AllocError>
 pub fn write_revoke(
     alloc: Global,
     channel: u64,
-    revocation: &PlainRevocation,
+    revocation: &Revocation,
 ) -> Result<Value, AllocError>
     ensures form { IfOk result (λ v. view v ≡ revoke_data channel revocation.now) }
     ensures back { IfOk result (λ _. call_of (revoke_data channel revocation.now) ≡ Some

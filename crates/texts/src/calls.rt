@@ -8,7 +8,7 @@ ghost use Rattle.texts.specs.Calls.{opening_of, open_of, step_call_of, sign_of, 
 use crate::allocating::{ReadValue, read_item, read_member};
 use crate::claims::PlainClaim;
 use crate::errors::ShapeError;
-use crate::steps::{PlainReceived, PlainRevocation, PlainStep};
+use crate::steps::PlainStep;
 use crate::values::{FromValue, array_of, item, member, object_of, tag_of};
 use json_value::Value;
 use keys::Key;
@@ -17,7 +17,7 @@ use sighash::Token;
 use std::alloc::Global;
 use terms::{BaseKeys, ProposedTerms, Side};
 use tx::{MAX_INPUTS, MAX_OUTPUTS, OutPoint, TxOut};
-use updates::{OwnUpdate, Update};
+use updates::{OwnUpdate, PeerStep, Revocation, Update};
 
 /// How a side opens a channel, as read from JSON: the proposed terms, this side's seed, and what its peer sent before the channel was opened.
 #[derive(Clone, Copy, Debug)]
@@ -51,7 +51,7 @@ pub enum PlainCall {
     },
     Revoke {
         channel: u64,
-        revocation: PlainRevocation,
+        revocation: Revocation,
     },
     Keep {
         channel: u64,
@@ -274,8 +274,8 @@ fn changes_fee(step: &PlainStep) -> bool
     match step {
         PlainStep::Own(OwnUpdate::SetFee { .. }) => true,
         PlainStep::Own(_) => false,
-        PlainStep::Receive(PlainReceived::Updated(update)) => is_fee(update),
-        PlainStep::Receive(PlainReceived::Signed(_)) => false,
+        PlainStep::Receive(PeerStep::Update(update)) => is_fee(update),
+        PlainStep::Receive(PeerStep::CommitmentSigned(_)) => false,
     }
 }
 

@@ -3,12 +3,12 @@
 //!
 //! A value is read exactly where it has the shape, barring out-of-memory. A missing member, a member that the shape
 //! lacks, or one of another kind refuses the whole value. Readers check shape only; callers validate, as `claim`
-//! does a claim and `book` a call. [`FromValue`] reads what needs no allocation, [`ReadValue`] the rest.
+//! does a claim and `book_dump` a call. [`FromValue`] reads what needs no allocation, [`ReadValue`] the rest.
 //! [`WriteValue`] writes the value that is read back as the same.
 //!
 //! `json_value` has the JSON values that are read, and `serde_json` those that are written. `terms`, `updates` and
 //! `claim` have the types that both stand for.
-//! `scenario` reads scenarios with these shapes, and `book` writes and loads its dump.
+//! `scenario` reads scenarios with these shapes, and `book_dump` writes and loads a book's dump.
 //!
 //! ```rust
 //! let value = Value::from_str(alloc, "[\"fail\",1]")?;
@@ -43,6 +43,6 @@ pub use call_writing::{
 pub use calls::{PlainCall, PlainDump, PlainEntry, PlainOpening};
 pub use claims::PlainClaim;
 pub use errors::ShapeError;
-pub use steps::{PlainReceived, PlainRevocation, PlainSignature, PlainStep, own_named};
+pub use steps::{PlainStep, own_named};
 pub use values::{FromValue, array_of, item, member, name_at, object_of, tag_of};
 pub use writing::{WriteValue, write_bytes, write_each};

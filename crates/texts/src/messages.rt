@@ -16,9 +16,9 @@ fn add_of(value: &Value) -> Option<Update>
     let form = array_of(value, 5)?;
     Some(Update::Add(Htlc {
         id: item(form, 1)?,
-        amount: item(form, 2)?,
+        amount_msat: item(form, 2)?,
         hash: item(form, 3)?,
-        expiry: item(form, 4)?,
+        expiry_height: item(form, 4)?,
     }))
 }
 
@@ -47,7 +47,7 @@ fn fee_of(value: &Value) -> Option<Update>
 {
     let form = array_of(value, 2)?;
     Some(Update::Fee {
-        rate: item(form, 1)?,
+        feerate_per_kw: item(form, 1)?,
     })
 }
 

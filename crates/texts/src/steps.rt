@@ -9,36 +9,9 @@ use crate::allocating::{ReadValue, read_item};
 use crate::errors::ShapeError;
 use crate::values::{FromValue, array_of, item, name_at, tag_of};
 use json_value::Value;
-use keys::Key;
-use lists::List;
 use sighash::Token;
 use std::alloc::Global;
-use updates::{OwnUpdate, Update};
-
-/// A `commitment_signed` as read from JSON (BOLT 2).
-#[derive(Debug, Drop)]
-pub struct PlainSignature {
-    /// The token on the commitment.
-    pub commitment: Token,
-    /// The tokens on the HTLC transactions of its untrimmed HTLCs, in the order of its outputs.
-    pub htlcs: List<Token>,
-}
-
-/// A `revoke_and_ack` as read from JSON (BOLT 2).
-#[derive(Clone, Copy, Debug)]
-pub struct PlainRevocation {
-    /// The per-commitment secret of the revoked commitment.
-    pub secret: [u8; 32],
-    /// The per-commitment point for the number two above the revoked one's.
-    pub next_point: Key,
-}
-
-/// A message that a step receives: any but a revocation, which has a call of its own.
-#[derive(Debug, Drop)]
-pub enum PlainReceived {
-    Updated(Update),
-    Signed(PlainSignature),
-}
+use updates::{OwnUpdate, PeerStep, Revocation, Tokens, Update};
 
 /// A step of a channel as read from JSON.
 #[derive(Debug, Drop)]
@@ -46,7 +19,7 @@ pub enum PlainStep {
     /// An update of this side.
     Own(OwnUpdate),
     /// A message of the peer.
-    Receive(PlainReceived),
+    Receive(PeerStep),
 }
 
 impl ReadValue for Token {
@@ -60,36 +33,36 @@ impl ReadValue for Token {
 }
 
 #[tactic(auto, unfolding(crate::specs::Steps::signature_in))]
-fn signature_in(alloc: Global, value: &Value) -> Result<PlainSignature, ShapeError>
+fn signature_in(alloc: Global, value: &Value) -> Result<Tokens, ShapeError>
     ensures { Gives (λ s. s) result (signature_in (view value.now)) }
 {
     let form = array_of(value, 3).ok_or(ShapeError::BadShape)?;
     let commitment = item(form, 1).ok_or(ShapeError::BadShape)?;
-    Ok(PlainSignature {
+    Ok(Tokens {
         commitment,
         htlcs: read_item(alloc, form, 2)?,
     })
 }
 
 #[tactic(auto, unfolding(crate::specs::Steps::revocation_in))]
-fn revocation_in(value: &Value) -> Option<PlainRevocation>
+fn revocation_in(value: &Value) -> Option<Revocation>
     ensures { result ≡ revocation_in (view value.now) }
 {
     let form = array_of(value, 3)?;
-    Some(PlainRevocation {
+    Some(Revocation {
         secret: item(form, 1)?,
         next_point: item(form, 2)?,
     })
 }
 
 /// An array of `revoke`, the secret and the point.
-impl FromValue for PlainRevocation {
+impl FromValue for Revocation {
     ghost use Rattle.texts.specs.Steps.{revocation_of};
 
     ghost reads = { revocation_of };
 
     #[tactic(auto, unfolding(crate::specs::Steps::revocation_of))]
-    fn from_value(value: &Value) -> Option<PlainRevocation> {
+    fn from_value(value: &Value) -> Option<Revocation> {
         if tag_of(value)? == "revoke" {
             revocation_in(value)
         } else {
@@ -99,18 +72,18 @@ impl FromValue for PlainRevocation {
 }
 
 /// An array of `signed`, the token on the commitment and the array of those on its HTLC transactions; or an update.
-impl ReadValue for PlainReceived {
+impl ReadValue for PeerStep {
     ghost use Rattle.texts.specs.Steps.{received_of};
 
     ghost reads = { received_of };
 
     #[tactic(auto, unfolding(crate::specs::Steps::received_of, crate::specs::Steps::received_named))]
-    fn read_value(alloc: Global, value: &Value) -> Result<PlainReceived, ShapeError> {
+    fn read_value(alloc: Global, value: &Value) -> Result<PeerStep, ShapeError> {
         if tag_of(value).ok_or(ShapeError::BadShape)? == "signed" {
-            Ok(PlainReceived::Signed(signature_in(alloc, value)?))
+            Ok(PeerStep::CommitmentSigned(signature_in(alloc, value)?))
         } else {
             let update = Update::from_value(value).ok_or(ShapeError::BadShape)?;
-            Ok(PlainReceived::Updated(update))
+            Ok(PeerStep::Update(update))
         }
     }
 }
@@ -121,9 +94,9 @@ fn own_offer_of(value: &Value) -> Option<OwnUpdate>
 {
     let form = array_of(value, 6)?;
     Some(OwnUpdate::Offer {
-        amount: item(form, 3)?,
+        amount_msat: item(form, 3)?,
         hash: item(form, 4)?,
-        expiry: item(form, 5)?,
+        expiry_height: item(form, 5)?,
     })
 }
 
@@ -152,7 +125,7 @@ fn own_fee_of(value: &Value) -> Option<OwnUpdate>
 {
     let form = array_of(value, 4)?;
     Some(OwnUpdate::SetFee {
-        rate: item(form, 3)?,
+        feerate_per_kw: item(form, 3)?,
     })
 }
 

@@ -185,13 +185,13 @@ impl WriteValue for ProposedTerms {
     fn write_value(&self, alloc: Global) -> Result<Value, AllocError> {
         let (a, b) = (&self.a, &self.b);
         let terms = ObjectWriter::new(alloc)
-            .member("capacity", &self.capacity)?
-            .member("delay", &(a.delay, b.delay))?
-            .member("dust", &(a.dust, b.dust))?
-            .member("feerate", &self.feerate)?
-            .member("minimum", &(a.minimum, b.minimum))?
+            .member("capacity", &self.capacity_sat)?
+            .member("delay", &(a.delay_blocks, b.delay_blocks))?
+            .member("dust", &(a.dust_sat, b.dust_sat))?
+            .member("feerate", &self.feerate_per_kw)?
+            .member("minimum", &(a.minimum_msat, b.minimum_msat))?
             .member("opener", &self.opener)?
-            .member("start", &(a.start, b.start))?;
+            .member("start", &(a.start_msat, b.start_msat))?;
         Ok(terms.finish())
     }
 }
@@ -223,9 +223,9 @@ fn write_add(alloc: Global, htlc: &Htlc) -> Result<Value, AllocError>
 {
     let message = ArrayWriter::named(alloc, "add")?
         .item(&htlc.id)?
-        .item(&htlc.amount)?
+        .item(&htlc.amount_msat)?
         .item(&htlc.hash)?
-        .item(&htlc.expiry)?;
+        .item(&htlc.expiry_height)?;
     Ok(message.finish())
 }
 
@@ -250,7 +250,11 @@ impl WriteValue for Update {
                 Ok(message.finish())
             }
             Update::Fail { id } => Ok(ArrayWriter::named(alloc, "fail")?.item(id)?.finish()),
-            Update::Fee { rate } => Ok(ArrayWriter::named(alloc, "fee")?.item(rate)?.finish()),
+            Update::Fee { feerate_per_kw } => Ok(
+                ArrayWriter::named(alloc, "fee")?
+                    .item(feerate_per_kw)?
+                    .finish(),
+            ),
         }
     }
 }

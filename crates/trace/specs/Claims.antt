@@ -24,7 +24,7 @@ claim output way alone value = record { output = output; value = value; way = wa
 -- the owner's balance is open to its peer once the commitment is revoked, and to the owner once the output is old enough
 abbrev pub local_claim : Close → Option ℕ → Option Claimable
 local_claim Newest value = None
-local_claim (Revoked delay) value = option_map (claim ToLocal Penalty (Blocks delay)) value
+local_claim (Revoked delay_blocks) value = option_map (claim ToLocal Penalty (Blocks delay_blocks)) value
 
 -- the balance of the owner's peer is its own
 abbrev pub remote_claim : Option ℕ → Option Claimable
@@ -35,14 +35,14 @@ is_among hash hashes = list_any (λ h. bytes_eq h hash) hashes
 
 -- an HTLC is claimed by the secret, else the owner's by its preimage, and one that was offered to the owner by its lock time
 abbrev pub htlc_way : Close → List (List ℕ) → Direction → Htlc → Option Way
-htlc_way (Revoked delay) hashes d h = Some Penalty
+htlc_way (Revoked delay_blocks) hashes d h = Some Penalty
 htlc_way Newest hashes direction.Offered h = if is_among h.hash hashes then Some Preimage else None
-htlc_way Newest hashes direction.Received h = Some (Timeout h.expiry)
+htlc_way Newest hashes direction.Received h = Some (Timeout h.expiry_height)
 
 -- the owner takes its own HTLC once it expired, and one that was offered to it by the preimage
 abbrev pub claim_in : Direction → Htlc → Way → Claimable
-claim_in direction.Offered h way = claim (Received h.id) way (Until h.expiry) (satoshis_of h.amount)
-claim_in direction.Received h way = claim (Offered h.id) way NoPreimage (satoshis_of h.amount)
+claim_in direction.Offered h way = claim (Received h.id) way (Until h.expiry_height) (satoshis_of h.amount_msat)
+claim_in direction.Received h way = claim (Offered h.id) way NoPreimage (satoshis_of h.amount_msat)
 
 abbrev pub htlc_claim : Close → List (List ℕ) → Direction → Htlc → Option Claimable
 htlc_claim close hashes d h = option_map (claim_in d h) (htlc_way close hashes d h)

@@ -32,6 +32,7 @@ pub struct TxParts {
     pub version: u32,
     pub inputs: Inputs,
     pub outputs: Outputs,
+    /// A height below 500,000,000, else a time in seconds.
     pub lock_time: u32,
 }
 

@@ -17,8 +17,8 @@ const PAYMENT_BASES: [&str; 2] = [
 ];
 
 // A side with this payment base key.
-fn party(rt: &impl Abort, payment: &str, start: u64) -> Party {
-    party_with(one_key(key(rt, payment)), start)
+fn party(rt: &impl Abort, payment: &str, start_msat: u64) -> Party {
+    party_with(one_key(key(rt, payment)), start_msat)
 }
 
 // Terms with a capacity of 100,000 satoshis.
@@ -34,21 +34,21 @@ fn good_terms(rt: &impl Abort) -> Terms {
 }
 
 // A side's part of proposed terms.
-fn proposed_party(start: u64) -> ProposedParty {
+fn proposed_party(start_msat: u64) -> ProposedParty {
     ProposedParty {
-        dust: 546,
-        delay: 144,
-        minimum: 1000,
-        start,
+        dust_sat: 546,
+        delay_blocks: 144,
+        minimum_msat: 1000,
+        start_msat,
     }
 }
 
 // Proposed terms with a capacity of 100,000 satoshis.
 fn proposed(a: u64, b: u64) -> ProposedTerms {
     ProposedTerms {
-        capacity: 100_000,
+        capacity_sat: 100_000,
         opener: Side::A,
-        feerate: 1000,
+        feerate_per_kw: 1000,
         a: proposed_party(a),
         b: proposed_party(b),
     }

@@ -30,19 +30,24 @@ fn open(rt: &impl Abort, alloc: Global) -> (Ledger, Ledger) {
 fn seen(rt: &impl Abort, answer: Result<View, AllocError>) -> (u64, u64, usize, u32) {
     let view = answer.expect(rt, "a view");
     let htlcs = view.a.offered.len();
-    (view.a.balance, view.b.balance, htlcs, view.feerate)
+    (
+        view.a.balance_msat,
+        view.b.balance_msat,
+        htlcs,
+        view.feerate_per_kw,
+    )
 }
 
 /// A offers an HTLC, and B receives it.
-fn add(rt: &impl Abort, a: &mut Ledger, b: &mut Ledger, amount: u64) {
-    let htlc = a.offer(amount, HASH, 500).expect(rt, "an offer");
+fn add(rt: &impl Abort, a: &mut Ledger, b: &mut Ledger, amount_msat: u64) {
+    let htlc = a.offer(amount_msat, HASH, 500).expect(rt, "an offer");
     assert!(rt; b.receive_update(&Update::Add(htlc)).is_ok());
 }
 
 /// A changes the feerate, and B receives it.
-fn set_fee(rt: &impl Abort, a: &mut Ledger, b: &mut Ledger, rate: u32) {
-    assert!(rt; a.set_fee(rate).is_ok());
-    assert!(rt; b.receive_update(&Update::Fee { rate }).is_ok());
+fn set_fee(rt: &impl Abort, a: &mut Ledger, b: &mut Ledger, feerate_per_kw: u32) {
+    assert!(rt; a.set_fee(feerate_per_kw).is_ok());
+    assert!(rt; b.receive_update(&Update::Fee { feerate_per_kw }).is_ok());
 }
 
 /// Both sign and revoke, one after the other.
@@ -87,23 +92,23 @@ fn amounts_change_sides(rt: HostRuntime) {
 }
 
 // An HTLC with the number of the feerate is offered and failed, and the feerate changes.
-fn offer_and_fail(rt: &impl Abort, a: &mut Ledger, b: &mut Ledger, rate: u32) {
-    let id = u64::from(rate);
+fn offer_and_fail(rt: &impl Abort, a: &mut Ledger, b: &mut Ledger, feerate_per_kw: u32) {
+    let id = u64::from(feerate_per_kw);
     add(rt, a, b, 1000);
-    set_fee(rt, a, b, rate);
+    set_fee(rt, a, b, feerate_per_kw);
     settle(a, b);
     assert!(rt; b.fail(id).is_ok());
     assert!(rt; a.receive_update(&Update::Fail { id }).is_ok());
     settle(b, a);
-    assert!(rt; seen(rt, b.view_of(Side::A)) == (80_000_000, 20_000_000, 0, rate));
+    assert!(rt; seen(rt, b.view_of(Side::A)) == (80_000_000, 20_000_000, 0, feerate_per_kw));
 }
 
 // Under ample memory no call is refused, however long the lists are; and then as many HTLCs as a commitment may hold.
 #[test]
 fn long_histories_are_accepted(rt: HostRuntime) {
     let (mut a, mut b) = open(&rt, rt.alloc());
-    for rate in 0..200u32 {
-        offer_and_fail(&rt, &mut a, &mut b, rate);
+    for feerate_per_kw in 0..200u32 {
+        offer_and_fail(&rt, &mut a, &mut b, feerate_per_kw);
     }
     for _htlc in 0..483 {
         add(&rt, &mut a, &mut b, 1000);
@@ -115,12 +120,12 @@ fn long_histories_are_accepted(rt: HostRuntime) {
 /// The example in the documentation of `updates`.
 fn offer_and_see(
     ledger: &mut Ledger,
-    amount: u64,
+    amount_msat: u64,
     hash: [u8; 32],
-    expiry: u32,
+    expiry_height: u32,
 ) -> Result<u64, ChannelError> {
-    ledger.offer(amount, hash, expiry)?;
-    Ok(ledger.view_to_sign()?.share(ledger.side()).balance)
+    ledger.offer(amount_msat, hash, expiry_height)?;
+    Ok(ledger.view_to_sign()?.share(ledger.side()).balance_msat)
 }
 
 #[test]

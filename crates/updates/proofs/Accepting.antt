@@ -8,10 +8,10 @@ use Rattle.updates.specs.declared.changes.Update.TheVariants.{Add, Fulfil, Fail,
 use Rattle.terms.specs.declared.htlcs.Htlc.{Htlc}
 use Rattle.terms.specs.declared.sides.Side.{Side}
 use Rattle.terms.specs.declared.agreement.Terms.{Terms}
-use Rattle.updates.specs.Updates.{fate, offers, offer_of, spent, gained, live_count}
+use Rattle.updates.specs.Updates.{fate, offers, offer_of, spent_msat, gained_msat, live_count}
 use Rattle.updates.specs.declared.fates.Fate.{Fate}
 use Rattle.updates.specs.declared.fates.Fate.TheVariants.{Live, Fulfilled, Failed}
-use Rattle.updates.specs.Views.{start_of}
+use Rattle.updates.specs.Views.{start_msat_of}
 use Rattle.sha2.specs.Sha256.{sha256}
 use Rattle.updates.specs.Stages.{Stages}
 use Rattle.updates.specs.Refusals.{Test, if_so, first_refusal, removable, to_remove, is_wrong, update_tests, IsRefusal}
@@ -42,10 +42,10 @@ add_passes : (terms : Terms) (by : Side) (s o s' o' : Stages) (p : Htlc) → Kno
 add_passes terms by s o s' o' p k (t1, (t2, (t3, (t4, (t5, (t6, t7)))))) =
     let live : live_count s'.known o'.settled ≤ live_count s.known o.settled = rw k.known (live_count_falls s.known o.settled o'.settled k.others_settled) in
     let few : leb 483 (live_count s'.known o'.settled) ≡ false = let l = leb-false 483 (live_count s.known o.settled) t5 in lt-leb 483 _ (omega (arith, live, l)) in
-    let out : spent s'.known o'.settled ≤ spent s.known o.settled = rw k.known (spent_falls s.known o.settled o'.settled k.others_settled) in
-    let come : gained s.settled o.known ≤ gained s'.settled o'.known = rw k.settled (gained_of_more s.settled o.known o'.known k.others_known) in
-    let had : p.amount + spent s.known o.settled ≤ start_of by terms + gained s.settled o.known = ltb-false _ _ t6 in
-    let enough : ltb (start_of by terms + gained s'.settled o'.known) (p.amount + spent s'.known o'.settled) ≡ false = le-ltb _ _ (omega (arith, out, come, had)) in
+    let out : spent_msat s'.known o'.settled ≤ spent_msat s.known o.settled = rw k.known (spent_falls s.known o.settled o'.settled k.others_settled) in
+    let come : gained_msat s.settled o.known ≤ gained_msat s'.settled o'.known = rw k.settled (gained_of_more s.settled o.known o'.known k.others_known) in
+    let had : p.amount_msat + spent_msat s.known o.settled ≤ start_msat_of by terms + gained_msat s.settled o.known = ltb-false _ _ t6 in
+    let enough : ltb (start_msat_of by terms + gained_msat s'.settled o'.known) (p.amount_msat + spent_msat s'.known o'.settled) ≡ false = le-ltb _ _ (omega (arith, out, come, had)) in
     (ap (λ l. not (eqb p.id (length (offers l)))) k.known ∙ t1, (t2, (t3, (t4, (few, (enough, tt))))))
 
 -- a removal that passed is of a live HTLC, which is found among more updates too
@@ -73,7 +73,7 @@ update_passes terms by s o s' o' (Fulfil id preimage) k (t1, (t2, t3)) =
     let g = same_to_remove s o s' o' id k t1 in
     (ap is_none g ∙ t1, (ap (is_wrong (sha256 preimage)) g ∙ t2, tt))
 update_passes terms by s o s' o' (Fail id) k (t1, t2) = let g = same_to_remove s o s' o' id k t1 in (ap is_none g ∙ t1, tt)
-update_passes terms by s o s' o' (Fee rate) k e = e
+update_passes terms by s o s' o' (Fee feerate_per_kw) k e = e
 
 pub update_accepted : ReceiversAccept
 update_accepted terms by s o s' o' u k e = none_refuses _ (update_passes terms by s o s' o' u k (all_pass _ e))

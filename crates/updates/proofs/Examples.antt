@@ -13,13 +13,13 @@ use Rattle.updates.specs.declared.changes.Update.TheVariants.{Add, Fulfil, Fail,
 use Rattle.updates.specs.declared.fates.Fate.TheVariants.{Live, Fulfilled, Failed}
 use Rattle.updates.specs.declared.errors.ChannelError.{ChannelError}
 use Rattle.updates.specs.declared.errors.ChannelError.TheVariants.{NoMemory, AmountZero, BelowMinimum, ExpiryTooLarge, WrongId, TooManyHtlcs, OverBalance, UnknownHtlc, WrongPreimage, NoUpdates, BadSignature, WrongSecret, NotYourTurn, NotOpener}
-use Rattle.updates.specs.Updates.{fate, offers, offer_of, spent, gained, pending, live_count, last_fee}
-use Rattle.updates.specs.Views.{share_of, feerate_of, expire_at_heights}
+use Rattle.updates.specs.Updates.{fate, offers, spent_msat, gained_msat, pending_msat, live_count, last_feerate_per_kw}
+use Rattle.updates.specs.Views.{share_of, feerate_per_kw_of, expire_at_heights}
 use Rattle.updates.specs.Stages.{Stages, none_yet, with_update, to_receiver, by_receiver, to_sender, by_sender}
 use Rattle.updates.specs.Refusals.{refusal_number, first_refusal, update_tests, covers_nothing, to_remove}
 
 abbrev htlc : ℕ → ℕ → Htlc
-htlc id amount = record { id = id; amount = amount; hash = []; expiry = 500 }
+htlc id amount_msat = record { id = id; amount_msat = amount_msat; hash = []; expiry_height = 500 }
 
 -- the first removal counts, and no other update removes
 fates : (fate 0 [] ≡ Live)
@@ -38,12 +38,12 @@ of_a = Add (htlc 0 5000) ∷ Fee 253 ∷ Add (htlc 1 7000) ∷ Add (htlc 2 11000
 abbrev of_b : List Update
 of_b = Fulfil 0 [] ∷ Add (htlc 0 13000) ∷ Fail 1 ∷ []
 
-sums : (spent of_a of_b ≡ 16000) × (gained of_b of_a ≡ 5000) × (pending of_a of_b ≡ 11000) × (live_count of_a of_b ≡ 1)
-    × (spent of_b of_a ≡ 13000) × (gained of_a of_b ≡ 0) × (pending of_b of_a ≡ 13000) × (live_count of_b of_a ≡ 1)
+sums : (spent_msat of_a of_b ≡ 16000) × (gained_msat of_b of_a ≡ 5000) × (pending_msat of_a of_b ≡ 11000) × (live_count of_a of_b ≡ 1)
+    × (spent_msat of_b of_a ≡ 13000) × (gained_msat of_a of_b ≡ 0) × (pending_msat of_b of_a ≡ 13000) × (live_count of_b of_a ≡ 1)
 sums = (refl, refl, refl, refl, refl, refl, refl, refl)
 
 abbrev holds : ℕ → List Htlc → Share
-holds balance offered = record { balance = balance; offered = offered }
+holds balance_msat offered = record { balance_msat = balance_msat; offered = offered }
 
 shares : (share_of 80000 of_a of_b ≡ holds 64000 (htlc 2 11000 ∷ []))
     × (share_of 20000 of_b of_a ≡ holds 12000 (htlc 0 13000 ∷ []))
@@ -52,7 +52,7 @@ shares : (share_of 80000 of_a of_b ≡ holds 64000 (htlc 2 11000 ∷ []))
 shares = (refl, refl, refl, refl)
 
 abbrev expiring : ℕ → Htlc
-expiring height = record { id = 0; amount = 1; hash = []; expiry = height }
+expiring height = record { id = 0; amount_msat = 1; hash = []; expiry_height = height }
 
 -- heights are below 500,000,000
 heights : (expire_at_heights [] ≡ true)
@@ -62,10 +62,10 @@ heights : (expire_at_heights [] ≡ true)
 heights = (refl, refl, refl, refl)
 
 -- the last change of the feerate in the opener's list
-fees : (last_fee 1000 [] ≡ 1000)
-    × (last_fee 1000 (Fee 5 ∷ Fail 0 ∷ Fee 7 ∷ Fail 1 ∷ []) ≡ 7)
-    × (feerate_of A 1000 of_a (Fee 7 ∷ []) ≡ 253)
-    × (feerate_of B 1000 of_a (Fee 7 ∷ []) ≡ 7)
+fees : (last_feerate_per_kw 1000 [] ≡ 1000)
+    × (last_feerate_per_kw 1000 (Fee 5 ∷ Fail 0 ∷ Fee 7 ∷ Fail 1 ∷ []) ≡ 7)
+    × (feerate_per_kw_of A 1000 of_a (Fee 7 ∷ []) ≡ 253)
+    × (feerate_per_kw_of B 1000 of_a (Fee 7 ∷ []) ≡ 7)
 fees = (refl, refl, refl, refl)
 
 -- an update passes the stages in turn, and a later one after it
@@ -105,13 +105,13 @@ refusal_numbers = refl
 -- A opened a channel of 100,000 satoshis, of which it has 80,000
 module _ (funding : OutPoint) (bases : BaseKeys) where
   abbrev party : ℕ → Party
-  party start = record { dust = 546; delay = 144; minimum = 1000; start = start; bases = bases }
+  party start_msat = record { dust_sat = 546; delay_blocks = 144; minimum_msat = 1000; start_msat = start_msat; bases = bases }
 
   abbrev terms : Terms
-  terms = record { funding = funding; capacity = 100000; opener = A; feerate = 1000; a = party 80000000; b = party 20000000; limited = lit≤ tt; whole = refl; short_a = lit< tt; short_b = lit< tt }
+  terms = record { funding = funding; capacity_sat = 100000; opener = A; feerate_per_kw = 1000; a = party 80000000; b = party 20000000; limited = lit≤ tt; whole = refl; short_a = lit< tt; short_b = lit< tt }
 
   abbrev offer : ℕ → ℕ → ℕ → Update
-  offer id amount expiry = Add (record { id = id; amount = amount; hash = []; expiry = expiry })
+  offer id amount_msat expiry_height = Add (record { id = id; amount_msat = amount_msat; hash = []; expiry_height = expiry_height })
 
   abbrev refusal : Side → Stages → Update → Option ChannelError
   refusal by own u = first_refusal (update_tests terms by own none_yet u)

@@ -1,5 +1,5 @@
 -- What is kept of pending HTLCs, over calls and messages.
-use Rattle.std.proofs.Common.{◌≡◌, ℕ, zero, suc, ◌+◌, ◌*◌, ◌^◌, ◌<◌, ◌≤◌, false, eqb, List, [], ◌∷◌, ◌++◌, length, filter, sym, ap, ◌∙◌, refl, arith, Option, Some, None, append-nil, length-append}
+use Rattle.std.proofs.Common.{◌≡◌, ℕ, ◌+◌, ◌≤◌, List, [], ◌∷◌, ◌++◌, length, filter, sym, ap, ◌∙◌, refl, arith, length-append}
 use Rattle.std.proofs.lemmas.Bool.{eqb-true, not-false}
 use Rattle.terms.specs.declared.sides.Side.{Side}
 use Rattle.terms.specs.declared.agreement.Terms.{Terms}
@@ -8,17 +8,15 @@ use Rattle.updates.specs.declared.changes.Update.{Update}
 use Rattle.updates.specs.declared.changes.Update.TheVariants.{Add, Fulfil, Fail, Fee}
 use Rattle.updates.specs.declared.fates.Fate.{Fate}
 use Rattle.updates.specs.declared.fates.Fate.TheVariants.{Live, Fulfilled, Failed}
-use Rattle.updates.specs.declared.fates.End.{End}
-use Rattle.updates.specs.declared.fates.End.TheVariants.{Never, At}
-use Rattle.updates.specs.declared.pending.PendingHtlc.{PendingHtlc}
+use Rattle.updates.specs.declared.fates.End.TheVariants.{Never}
 use Rattle.updates.specs.declared.pending.Pending.{Pending}
-use Rattle.updates.specs.Updates.{first_of_fates, fate_by, fate, offers, offer_of, total, if_fulfilled, spent, gained, pending}
+use Rattle.updates.specs.Updates.{first_of_fates, fate_by, fate, offers, offer_of, if_fulfilled, spent_msat, gained_msat, pending_msat}
 use Rattle.updates.specs.Ends.{end_from, end_of}
-use Rattle.updates.specs.Views.{start_of}
+use Rattle.updates.specs.Views.{start_msat_of}
 use Rattle.updates.specs.Stages.{Stages, with_update}
-use Rattle.updates.specs.Refusals.{Test, first_refusal, add_tests, fulfil_tests, fail_tests, update_tests, removable}
-use Rattle.updates.specs.Pending.{pending_htlcs, total_amount, fulfilled_at, found_in, is_left, noted_all, new_pending, IsGrown, IsNoted, IsAlike, IsBounded, IsKept, kept_tests}
-use Rattle.updates.specs.Steady.{InOrder, IsBeginning, IsFair, RemovesBelow}
+use Rattle.updates.specs.Refusals.{add_tests, fulfil_tests, fail_tests, update_tests, removable}
+use Rattle.updates.specs.Pending.{pending_htlcs, total_amount_msat, fulfilled_at, found_in, is_left, noted_all, new_pending, IsGrown, IsNoted, IsAlike, IsBounded, IsKept, kept_tests}
+use Rattle.updates.specs.Steady.{InOrder, IsBeginning, IsFair}
 use Rattle.updates.proofs.Sums.{begins, offers-append, gained-append, spent_is, fate-append}
 use Rattle.updates.proofs.Accepting.{AllPass}
 use Rattle.updates.proofs.Funds.{settled_known}
@@ -28,7 +26,7 @@ use Rattle.updates.proofs.Keeping.{length_pending, amount_pending, pending-appen
 pub kept_none : (p : Pending) (s o : Stages) → s.known ≡ [] → p.offered ≡ 0 → p.fulfilled ≡ 0 → p.htlcs.items ≡ [] → IsKept p s o
 kept_none p s o e a b c = record {
   offered = a ∙ ap (λ us. length (offers us)) (sym e);
-  fulfilled = b ∙ ap (λ us. gained o.settled us) (sym e);
+  fulfilled = b ∙ ap (λ us. gained_msat o.settled us) (sym e);
   htlcs = c ∙ ap (λ us. pending_htlcs 0 us o.known o.settled) (sym e);
   bound = rw (b, c) (omega arith);
 }
@@ -45,17 +43,17 @@ same_found id q s o so oo m = ap (found_in id (length o.settled) (length s.known
 pub tests_kept : (terms : Terms) (by : Side) (p q : Pending) (s o : Stages) (u : Update) → InOrder s → InOrder o → IsKept p s o → IsKept q o s
     → kept_tests terms by p q (length o.settled) (length s.known) u ≡ update_tests terms by s o u
 tests_kept terms by p q s o (Add h) so oo k m =
-    same_tests terms by h _ _ _ _ _ _ _ _ k.offered (ap length k.htlcs ∙ length_pending 0 s.known o.known o.settled) (ap (λ n. start_of by terms + n) m.fulfilled) (out_is k)
+    same_tests terms by h _ _ _ _ _ _ _ _ k.offered (ap length k.htlcs ∙ length_pending 0 s.known o.known o.settled) (ap (λ n. start_msat_of by terms + n) m.fulfilled) (out_is k)
   where
-    out_is : IsKept p s o → p.fulfilled + total_amount p.htlcs.items ≡ spent s.known o.settled
+    out_is : IsKept p s o → p.fulfilled + total_amount_msat p.htlcs.items ≡ spent_msat s.known o.settled
     out_is k =
         let a = k.fulfilled in
-        let b : total_amount p.htlcs.items ≡ pending s.known o.settled = ap total_amount k.htlcs ∙ amount_pending 0 s.known o.known o.settled in
+        let b : total_amount_msat p.htlcs.items ≡ pending_msat s.known o.settled = ap total_amount_msat k.htlcs ∙ amount_pending 0 s.known o.known o.settled in
         let c = spent_is s.known o.settled in
         omega (arith, a, b, c)
 tests_kept terms by p q s o (Fulfil id preimage) so oo k m = ap (λ f. fulfil_tests f preimage) (same_found id q s o so oo m)
 tests_kept terms by p q s o (Fail id) so oo k m = ap fail_tests (same_found id q s o so oo m)
-tests_kept terms by p q s o (Fee rate) so oo k m = refl
+tests_kept terms by p q s o (Fee feerate_per_kw) so oo k m = refl
 
 -- an HTLC that nobody removed has no end
 no_end : (id : ℕ) (us : List Update) → fate id us ≡ Live → end_of id us ≡ Never
@@ -73,17 +71,17 @@ live_part Fulfilled g e = absurd (cc)
 live_part Failed g e = absurd (cc)
 
 -- the next HTLC is removed by nobody
-next_live : (start : ℕ) (s o : Stages) (id : ℕ) → InOrder s → IsFair start o s → id ≡ length (offers s.known) → fate id o.known ≡ Live
-next_live start s o id so f e =
+next_live : (start_msat : ℕ) (s o : Stages) (id : ℕ) → InOrder s → IsFair start_msat o s → id ≡ length (offers s.known) → fate id o.known ≡ Live
+next_live start_msat s o id so f e =
     let b = settled_known s so in
     let whole : offers s.known ≡ offers s.settled ++ offers b.0 = ap offers (sym b.1) ∙ offers-append s.settled b.0 in
     let l : length (offers s.settled) ≤ id = let g = ap length whole ∙ length-append (offers s.settled) (offers b.0) in omega (arith, e, g) in
     f.removes id l
 
 -- the side that offers makes an update that passes its tests
-pub kept_grown : (terms : Terms) (by : Side) (start : ℕ) (p q : Pending) (s o : Stages) (u : Update) → InOrder s → InOrder o → IsFair start o s
+pub kept_grown : (terms : Terms) (by : Side) (start_msat : ℕ) (p q : Pending) (s o : Stages) (u : Update) → InOrder s → InOrder o → IsFair start_msat o s
     → AllPass (update_tests terms by s o u) → IsKept p s o → IsGrown p q (length s.known) u → IsKept q (with_update u s) o
-kept_grown terms by start p q s o u so oo f t k g = record {
+kept_grown terms by start_msat p q s o u so oo f t k g = record {
   offered = g.offered ∙ ap (λ n. n + length (offers (u ∷ []))) k.offered ∙ sym (ap length (offers-append s.known (u ∷ [])) ∙ length-append (offers s.known) (offers (u ∷ [])));
   fulfilled = (let a = g.fulfilled in let b = k.fulfilled in let c = gained-append o.settled s.known (u ∷ []) in let d = none_gained u t in omega (arith, a, b, c, d));
   htlcs = g.htlcs ∙ ap (λ es. es ++ new_pending (length s.known) u) k.htlcs ∙ ap (λ es. pending_htlcs 0 s.known o.known o.settled ++ es) (sym (one_more u t)) ∙ sym (pending-append 0 (length s.known) s.known (u ∷ []) o.known o.settled (omega arith));
@@ -93,30 +91,30 @@ kept_grown terms by start p q s o u so oo f t k g = record {
     settled_live : (h : Htlc) → h.id ≡ length (offers s.known) → fate h.id o.settled ≡ Live
     settled_live h e =
         let b = settled_known o oo in
-        live_part (fate h.id o.settled) (fate h.id b.0) (sym (fate-append h.id o.settled b.0) ∙ ap (fate h.id) b.1 ∙ next_live start s o h.id so f e)
+        live_part (fate h.id o.settled) (fate h.id b.0) (sym (fate-append h.id o.settled b.0) ∙ ap (fate h.id) b.1 ∙ next_live start_msat s o h.id so f e)
 
-    none_gained : (u : Update) → AllPass (update_tests terms by s o u) → gained o.settled (u ∷ []) ≡ 0
+    none_gained : (u : Update) → AllPass (update_tests terms by s o u) → gained_msat o.settled (u ∷ []) ≡ 0
     none_gained (Add h) (t, ts) =
         let e = settled_live h (eqb-true _ _ (not-false _ t)) in
-        let w : if_fulfilled (fate h.id o.settled) h.amount ≡ 0 = ap (λ k. if_fulfilled k h.amount) e in
+        let w : if_fulfilled (fate h.id o.settled) h.amount_msat ≡ 0 = ap (λ k. if_fulfilled k h.amount_msat) e in
         omega (arith, w)
     none_gained (Fulfil id preimage) t = refl
     none_gained (Fail id) t = refl
-    none_gained (Fee rate) t = refl
+    none_gained (Fee feerate_per_kw) t = refl
 
     one_more : (u : Update) → AllPass (update_tests terms by s o u) → pending_htlcs (length s.known) (u ∷ []) o.known o.settled ≡ new_pending (length s.known) u
     one_more (Add h) (t, ts) =
         let e : h.id ≡ length (offers s.known) = eqb-true _ _ (not-false _ t) in
-        rw (settled_live h e, no_end h.id o.known (next_live start s o h.id so f e)) refl
+        rw (settled_live h e, no_end h.id o.known (next_live start_msat s o h.id so f e)) refl
     one_more (Fulfil id preimage) t = refl
     one_more (Fail id) t = refl
-    one_more (Fee rate) t = refl
+    one_more (Fee feerate_per_kw) t = refl
 
     new_length : (u : Update) → length (new_pending (length s.known) u) ≡ length (offers (u ∷ []))
     new_length (Add h) = refl
     new_length (Fulfil id preimage) = refl
     new_length (Fail id) = refl
-    new_length (Fee rate) = refl
+    new_length (Fee feerate_per_kw) = refl
 
     grown_bound : (u : Update) → IsGrown p q (length s.known) u → IsBounded q
     grown_bound u g =
@@ -143,7 +141,7 @@ pub kept_settled : (p q : Pending) (s o o' : Stages) → IsKept p s o → o'.kno
 kept_settled p q s o o' k e b l offered fulfilled htlcs bound = record {
   offered = offered ∙ k.offered;
   fulfilled = fulfilled ∙ ap (λ n. n + fulfilled_at (length s.known) (length o'.settled) p.htlcs.items) k.fulfilled
-      ∙ ap (λ es. gained o.settled s.known + fulfilled_at (length s.known) (length o'.settled) es) k.htlcs
+      ∙ ap (λ es. gained_msat o.settled s.known + fulfilled_at (length s.known) (length o'.settled) es) k.htlcs
       ∙ sym (fulfilled_in_part s.known s.known o.known o.settled o'.settled (begins s.known) b l);
   htlcs = htlcs ∙ ap (filter (is_left (length o'.settled))) k.htlcs ∙ sym (pending_left 0 s.known o.known o.settled o'.settled b l) ∙ ap (λ us. pending_htlcs 0 s.known us o'.settled) (sym e);
   bound = bound;
@@ -162,7 +160,7 @@ kept_alike p q s o k a = record {
 pub kept_moved : (p : Pending) (s o s' o' : Stages) → IsKept p s o → s'.known ≡ s.known → o'.known ≡ o.known → o'.settled ≡ o.settled → IsKept p s' o'
 kept_moved p s o s' o' k a b c = record {
   offered = k.offered ∙ ap (λ us. length (offers us)) (sym a);
-  fulfilled = k.fulfilled ∙ ap (λ us. gained us s.known) (sym c) ∙ ap (gained o'.settled) (sym a);
+  fulfilled = k.fulfilled ∙ ap (λ us. gained_msat us s.known) (sym c) ∙ ap (gained_msat o'.settled) (sym a);
   htlcs = k.htlcs ∙ ap (λ us. pending_htlcs 0 us o.known o.settled) (sym a) ∙ ap (λ us. pending_htlcs 0 s'.known us o.settled) (sym b) ∙ ap (pending_htlcs 0 s'.known o'.known) (sym c);
   bound = k.bound;
 }
@@ -173,4 +171,4 @@ offers_few [] = omega arith
 offers_few (Add h ∷ us) = let g = offers_few us in omega (arith, g)
 offers_few (Fulfil id preimage ∷ us) = let g = offers_few us in omega (arith, g)
 offers_few (Fail id ∷ us) = let g = offers_few us in omega (arith, g)
-offers_few (Fee rate ∷ us) = let g = offers_few us in omega (arith, g)
+offers_few (Fee feerate_per_kw ∷ us) = let g = offers_few us in omega (arith, g)

@@ -1,17 +1,16 @@
 -- What is kept of pending HTLCs says what the lists of updates say of all HTLCs.
-use Rattle.std.proofs.Common.{◌≡◌, ℕ, zero, suc, ◌+◌, ◌*◌, ◌^◌, ◌<◌, ◌≤◌, Bool, true, false, eqb, ltb, cond, List, [], ◌∷◌, ◌++◌, length, take, set, get_or, map, filter, sym, ap, ◌∙◌, refl, arith, Option, Some, None, inl, inr, ◌⊎◌, length-append, append-nil, add-one}
-use Rattle.std.proofs.lemmas.Bool.{eqb-true, cond-true, cond-false, lt-ltb, le-ltb, cases_lt}
+use Rattle.std.proofs.Common.{◌≡◌, ℕ, zero, suc, ◌+◌, ◌<◌, ◌≤◌, Bool, true, false, eqb, cond, List, [], ◌∷◌, ◌++◌, length, take, set, get_or, filter, sym, ap, ◌∙◌, refl, arith, Option, Some, None, append-nil, add-one}
+use Rattle.std.proofs.lemmas.Bool.{eqb-true, cond-true, cond-false, lt-ltb, le-ltb}
 use Rattle.terms.specs.declared.htlcs.Htlc.{Htlc}
 use Rattle.updates.specs.declared.changes.Update.{Update}
 use Rattle.updates.specs.declared.changes.Update.TheVariants.{Add, Fulfil, Fail, Fee}
 use Rattle.updates.specs.declared.fates.Fate.{Fate}
 use Rattle.updates.specs.declared.fates.Fate.TheVariants.{Live, Fulfilled, Failed}
-use Rattle.updates.specs.declared.fates.End.{End}
 use Rattle.updates.specs.declared.pending.PendingHtlc.{PendingHtlc}
-use Rattle.updates.specs.Updates.{first_of_fates, fate_by, fate, offers, offer_of, total, if_live, if_fulfilled, one_if_live, kept_if_live, live_in}
-use Rattle.updates.specs.Ends.{end_of, within, end_after}
+use Rattle.updates.specs.Updates.{first_of_fates, fate, offers, offer_of, total, if_live, if_fulfilled, one_if_live, kept_if_live, live_in}
+use Rattle.updates.specs.Ends.{end_of, within}
 use Rattle.updates.specs.Refusals.{removable}
-use Rattle.updates.specs.Pending.{pending_if_live, pending_htlcs, fate_at, total_amount, fulfilled_at, live_at, found_in, is_live, is_left, noted, noted_all}
+use Rattle.updates.specs.Pending.{pending_if_live, pending_htlcs, fate_at, total_amount_msat, fulfilled_at, live_at, found_in, is_left, noted, noted_all}
 use Rattle.updates.specs.Steady.{IsBeginning}
 use Rattle.updates.proofs.Sums.{fate-append}
 use Rattle.updates.proofs.Ends.{fate_within, end_of-push}
@@ -40,23 +39,23 @@ length_if_live Failed x xs n = omega arith
 pub length_pending : (at : ℕ) (us known settled : List Update) → length (pending_htlcs at us known settled) ≡ total one_if_live (offers us) settled
 length_pending at [] known settled = refl
 length_pending at (Add h ∷ us) known settled =
-    length_if_live (fate h.id settled) _ _ h.amount ∙ ap (λ n. one_if_live (fate h.id settled) h.amount + n) (length_pending (suc at) us known settled)
+    length_if_live (fate h.id settled) _ _ h.amount_msat ∙ ap (λ n. one_if_live (fate h.id settled) h.amount_msat + n) (length_pending (suc at) us known settled)
 length_pending at (Fulfil id preimage ∷ us) known settled = length_pending (suc at) us known settled
 length_pending at (Fail id ∷ us) known settled = length_pending (suc at) us known settled
-length_pending at (Fee rate ∷ us) known settled = length_pending (suc at) us known settled
+length_pending at (Fee feerate_per_kw ∷ us) known settled = length_pending (suc at) us known settled
 
-amount_if_live : (f : Fate) (x : PendingHtlc) (xs : List PendingHtlc) → total_amount (pending_if_live f x xs) ≡ if_live f x.htlc.amount + total_amount xs
+amount_if_live : (f : Fate) (x : PendingHtlc) (xs : List PendingHtlc) → total_amount_msat (pending_if_live f x xs) ≡ if_live f x.htlc.amount_msat + total_amount_msat xs
 amount_if_live Live x xs = refl
 amount_if_live Fulfilled x xs = omega arith
 amount_if_live Failed x xs = omega arith
 
-pub amount_pending : (at : ℕ) (us known settled : List Update) → total_amount (pending_htlcs at us known settled) ≡ total if_live (offers us) settled
+pub amount_pending : (at : ℕ) (us known settled : List Update) → total_amount_msat (pending_htlcs at us known settled) ≡ total if_live (offers us) settled
 amount_pending at [] known settled = refl
 amount_pending at (Add h ∷ us) known settled =
-    amount_if_live (fate h.id settled) _ _ ∙ ap (λ n. if_live (fate h.id settled) h.amount + n) (amount_pending (suc at) us known settled)
+    amount_if_live (fate h.id settled) _ _ ∙ ap (λ n. if_live (fate h.id settled) h.amount_msat + n) (amount_pending (suc at) us known settled)
 amount_pending at (Fulfil id preimage ∷ us) known settled = amount_pending (suc at) us known settled
 amount_pending at (Fail id ∷ us) known settled = amount_pending (suc at) us known settled
-amount_pending at (Fee rate ∷ us) known settled = amount_pending (suc at) us known settled
+amount_pending at (Fee feerate_per_kw ∷ us) known settled = amount_pending (suc at) us known settled
 
 -- more updates of the side that offers
 
@@ -72,7 +71,7 @@ pending-append at m (Add h ∷ us) vs known settled e =
     ∙ sym (append_if_live (fate h.id settled) _ _ (pending_htlcs m vs known settled))
 pending-append at m (Fulfil id preimage ∷ us) vs known settled e = pending-append (suc at) m us vs known settled (omega (arith, e))
 pending-append at m (Fail id ∷ us) vs known settled e = pending-append (suc at) m us vs known settled (omega (arith, e))
-pending-append at m (Fee rate ∷ us) vs known settled e = pending-append (suc at) m us vs known settled (omega (arith, e))
+pending-append at m (Fee feerate_per_kw ∷ us) vs known settled e = pending-append (suc at) m us vs known settled (omega (arith, e))
 
 -- one more update of the side that removes
 
@@ -112,7 +111,7 @@ pending_noted at (Add h ∷ us) known settled u =
     ∙ sym (noted_if_live (length known) u (fate h.id settled) _ _)
 pending_noted at (Fulfil id preimage ∷ us) known settled u = pending_noted (suc at) us known settled u
 pending_noted at (Fail id ∷ us) known settled u = pending_noted (suc at) us known settled u
-pending_noted at (Fee rate ∷ us) known settled u = pending_noted (suc at) us known settled u
+pending_noted at (Fee feerate_per_kw ∷ us) known settled u = pending_noted (suc at) us known settled u
 
 -- more updates of the side that removes passed all stages
 
@@ -135,7 +134,7 @@ pending_left at (Add h ∷ us) known settled longer b k =
     ∙ left_if_live (length longer) x (pending_htlcs (suc at) us known settled) (fate h.id settled) (fate h.id b.0) (fate_of_part h.id longer known k ∙ g)
 pending_left at (Fulfil id preimage ∷ us) known settled longer b k = pending_left (suc at) us known settled longer b k
 pending_left at (Fail id ∷ us) known settled longer b k = pending_left (suc at) us known settled longer b k
-pending_left at (Fee rate ∷ us) known settled longer b k = pending_left (suc at) us known settled longer b k
+pending_left at (Fee feerate_per_kw ∷ us) known settled longer b k = pending_left (suc at) us known settled longer b k
 
 -- what is offered among the first m updates, and what isn't
 
@@ -162,11 +161,11 @@ fulfilled_late m d at (Add h ∷ us) known settled l = by (fate h.id settled) (f
     by Failed g = g
 fulfilled_late m d at (Fulfil id preimage ∷ us) known settled l = fulfilled_late m d (suc at) us known settled (omega (arith, l))
 fulfilled_late m d at (Fail id ∷ us) known settled l = fulfilled_late m d (suc at) us known settled (omega (arith, l))
-fulfilled_late m d at (Fee rate ∷ us) known settled l = fulfilled_late m d (suc at) us known settled (omega (arith, l))
+fulfilled_late m d at (Fee feerate_per_kw ∷ us) known settled l = fulfilled_late m d (suc at) us known settled (omega (arith, l))
 
 weighed : (m d : ℕ) (x : PendingHtlc) (xs : List PendingHtlc) (f r : Fate) (t : ℕ) → fate_at m d x ≡ first_of_fates f r
-    → if_fulfilled (first_of_fates f r) x.htlc.amount + (t + fulfilled_at m d xs) ≡ if_fulfilled f x.htlc.amount + t + fulfilled_at m d (pending_if_live f x xs)
-weighed m d x xs Live r t e = let g : if_fulfilled (fate_at m d x) x.htlc.amount ≡ if_fulfilled r x.htlc.amount = ap (λ k. if_fulfilled k x.htlc.amount) e in omega (arith, g)
+    → if_fulfilled (first_of_fates f r) x.htlc.amount_msat + (t + fulfilled_at m d xs) ≡ if_fulfilled f x.htlc.amount_msat + t + fulfilled_at m d (pending_if_live f x xs)
+weighed m d x xs Live r t e = let g : if_fulfilled (fate_at m d x) x.htlc.amount_msat ≡ if_fulfilled r x.htlc.amount_msat = ap (λ k. if_fulfilled k x.htlc.amount_msat) e in omega (arith, g)
 weighed m d x xs Fulfilled r t e = omega arith
 weighed m d x xs Failed r t e = omega arith
 
@@ -177,12 +176,12 @@ fulfilled_early m at (Add h ∷ us) known settled part b k l =
     let x : PendingHtlc = record { htlc = h; added = at; end = end_of h.id known } in
     let g = fate_after h.id settled part b in
     let e : fate_at m (length part) x ≡ first_of_fates (fate h.id settled) (fate h.id b.0) = early (length part) m x (omega (arith, l)) ∙ fate_of_part h.id part known k ∙ g in
-    ap (λ f. if_fulfilled f h.amount + total if_fulfilled (offers us) part) g
-    ∙ ap (λ n. if_fulfilled (first_of_fates (fate h.id settled) (fate h.id b.0)) h.amount + n) (fulfilled_early m (suc at) us known settled part b k (omega (arith, l)))
+    ap (λ f. if_fulfilled f h.amount_msat + total if_fulfilled (offers us) part) g
+    ∙ ap (λ n. if_fulfilled (first_of_fates (fate h.id settled) (fate h.id b.0)) h.amount_msat + n) (fulfilled_early m (suc at) us known settled part b k (omega (arith, l)))
     ∙ weighed m (length part) x (pending_htlcs (suc at) us known settled) (fate h.id settled) (fate h.id b.0) (total if_fulfilled (offers us) settled) e
 fulfilled_early m at (Fulfil id preimage ∷ us) known settled part b k l = fulfilled_early m (suc at) us known settled part b k (omega (arith, l))
 fulfilled_early m at (Fail id ∷ us) known settled part b k l = fulfilled_early m (suc at) us known settled part b k (omega (arith, l))
-fulfilled_early m at (Fee rate ∷ us) known settled part b k l = fulfilled_early m (suc at) us known settled part b k (omega (arith, l))
+fulfilled_early m at (Fee feerate_per_kw ∷ us) known settled part b k l = fulfilled_early m (suc at) us known settled part b k (omega (arith, l))
 
 -- of HTLCs that are offered in the first updates of a list
 pub fulfilled_in_part : (mine whole known settled part : List Update) → IsBeginning mine whole → IsBeginning settled part → IsBeginning part known
@@ -220,7 +219,7 @@ live_late m d at (Add h ∷ us) known settled l = by (fate h.id settled) (live_l
     by Failed g = g
 live_late m d at (Fulfil id preimage ∷ us) known settled l = live_late m d (suc at) us known settled (omega (arith, l))
 live_late m d at (Fail id ∷ us) known settled l = live_late m d (suc at) us known settled (omega (arith, l))
-live_late m d at (Fee rate ∷ us) known settled l = live_late m d (suc at) us known settled (omega (arith, l))
+live_late m d at (Fee feerate_per_kw ∷ us) known settled l = live_late m d (suc at) us known settled (omega (arith, l))
 
 stands : (m d : ℕ) (x : PendingHtlc) (xs : List PendingHtlc) (f r : Fate) → fate_at m d x ≡ first_of_fates f r
     → kept_if_live (first_of_fates f r) x.htlc (live_at m d xs) ≡ live_at m d (pending_if_live f x xs)
@@ -240,7 +239,7 @@ live_early m at (Add h ∷ us) known settled part b k l =
     ∙ stands m (length part) x (pending_htlcs (suc at) us known settled) (fate h.id settled) (fate h.id b.0) e
 live_early m at (Fulfil id preimage ∷ us) known settled part b k l = live_early m (suc at) us known settled part b k (omega (arith, l))
 live_early m at (Fail id ∷ us) known settled part b k l = live_early m (suc at) us known settled part b k (omega (arith, l))
-live_early m at (Fee rate ∷ us) known settled part b k l = live_early m (suc at) us known settled part b k (omega (arith, l))
+live_early m at (Fee feerate_per_kw ∷ us) known settled part b k l = live_early m (suc at) us known settled part b k (omega (arith, l))
 
 pub live_in_part : (mine whole known settled part : List Update) → IsBeginning mine whole → IsBeginning settled part → IsBeginning part known
     → live_in (offers mine) part ≡ live_at (length mine) (length part) (pending_htlcs 0 whole known settled)
@@ -274,7 +273,7 @@ found_late id m d at (Add h ∷ us) known settled l = by (fate h.id settled) (fo
     by Failed g = g
 found_late id m d at (Fulfil i preimage ∷ us) known settled l = found_late id m d (suc at) us known settled (omega (arith, l))
 found_late id m d at (Fail i ∷ us) known settled l = found_late id m d (suc at) us known settled (omega (arith, l))
-found_late id m d at (Fee rate ∷ us) known settled l = found_late id m d (suc at) us known settled (omega (arith, l))
+found_late id m d at (Fee feerate_per_kw ∷ us) known settled l = found_late id m d (suc at) us known settled (omega (arith, l))
 
 -- one HTLC before those among which it is sought: the fate of the one that is sought is that of the whole, and of the first one by its id
 found_first : (id m d : ℕ) (x : PendingHtlc) (xs : List PendingHtlc) (o : Option Htlc) (f r whole : Fate) → fate_at m d x ≡ first_of_fates f r
@@ -303,7 +302,7 @@ found_early id m at (Add h ∷ us) rest known settled b e =
     (found_early id m (suc at) us rest known settled b (omega (arith, e)))
 found_early id m at (Fulfil i preimage ∷ us) rest known settled b e = found_early id m (suc at) us rest known settled b (omega (arith, e))
 found_early id m at (Fail i ∷ us) rest known settled b e = found_early id m (suc at) us rest known settled b (omega (arith, e))
-found_early id m at (Fee rate ∷ us) rest known settled b e = found_early id m (suc at) us rest known settled b (omega (arith, e))
+found_early id m at (Fee feerate_per_kw ∷ us) rest known settled b e = found_early id m (suc at) us rest known settled b (omega (arith, e))
 
 pub found_in_part : (id : ℕ) (mine whole known settled : List Update) → IsBeginning mine whole → IsBeginning settled known
     → removable (fate id known) (offer_of id (offers mine)) ≡ found_in id (length mine) (length known) (pending_htlcs 0 whole known settled)

@@ -1,18 +1,16 @@
 -- What a ledger keeps true lasts over its calls.
-use Rattle.std.proofs.Common.{◌≡◌, ℕ, ◌+◌, ◌≤◌, List, [], ◌∷◌, length, filter, sym, ap, ◌∙◌, refl, arith, None}
+use Rattle.std.proofs.Common.{◌≡◌, ℕ, ◌+◌, ◌≤◌, [], length, filter, ap, ◌∙◌, refl, arith, None}
 use Rattle.terms.specs.declared.sides.Side.{Side}
 use Rattle.terms.specs.declared.agreement.Terms.{Terms}
 use Rattle.terms.specs.Sides.{other}
 use Rattle.updates.specs.declared.changes.Update.{Update}
 use Rattle.updates.specs.declared.pending.Pending.{Pending}
-use Rattle.updates.specs.Updates.{offers}
-use Rattle.updates.specs.Stages.{Stages, with_update, to_receiver, by_receiver, to_sender, by_sender}
-use Rattle.updates.specs.Refusals.{Test, first_refusal, update_tests}
+use Rattle.updates.specs.Stages.{Stages, to_receiver, by_receiver, to_sender, by_sender}
+use Rattle.updates.specs.Refusals.{first_refusal}
 use Rattle.updates.specs.Pending.{fulfilled_at, is_left, IsGrown, IsNoted, IsAlike, IsBounded, IsKept, kept_tests}
-use Rattle.updates.specs.Steady.{Held, IsSteady, IsLedger, own_tests, their_tests, holding_none, holding_made, holding_signed, holding_update, holding_signature, holding_revocation}
-use Rattle.updates.proofs.Sums.{begins}
+use Rattle.updates.specs.Steady.{Held, IsLedger, own_tests, their_tests, holding_none, holding_made, holding_signed, holding_update, holding_signature, holding_revocation}
 use Rattle.updates.proofs.Accepting.{all_pass}
-use Rattle.updates.proofs.Funds.{settled_known, settled_past, past_known, sender_known}
+use Rattle.updates.proofs.Funds.{settled_past, past_known, sender_known}
 use Rattle.updates.proofs.OneSide.{steady_none, steady_made, steady_signed, steady_update, steady_signature, steady_revocation}
 use Rattle.updates.proofs.Held.{kept_none, tests_kept, kept_grown, kept_noted, kept_settled, kept_alike, kept_moved, offers_few}
 

@@ -3,7 +3,7 @@ use Rattle.std.proofs.Common.{◌≡◌, ℕ, suc, ◌+◌, ◌<◌, ◌≤◌, 
 use Rattle.std.proofs.lemmas.Bool.{eqb-true}
 use Rattle.updates.specs.declared.changes.Update.{Update}
 use Rattle.terms.specs.declared.htlcs.Htlc.{Htlc}
-use Rattle.updates.specs.Updates.{first_of_fates, fate, offers, offer_of, total, if_fulfilled, gained}
+use Rattle.updates.specs.Updates.{first_of_fates, fate, offers, offer_of, total, if_fulfilled, gained_msat}
 use Rattle.updates.specs.declared.fates.Fate.TheVariants.{Live}
 use Rattle.updates.proofs.Sums.{offers-append, fate-append, gained-append}
 use Rattle.updates.specs.Steady.{IsBeginning, Numbered, RemovesBelow}
@@ -57,18 +57,18 @@ pub none_fulfilled : (n : ℕ) (os : List Htlc) (us : List Update) → RemovesBe
 none_fulfilled n [] us r m = refl
 none_fulfilled n (o ∷ os) us r m =
     let e : fate o.id us ≡ Live = r o.id (let h = m.0 in omega (arith, h)) in
-    let g : if_fulfilled (fate o.id us) o.amount ≡ 0 = ap (λ f. if_fulfilled f o.amount) e in
+    let g : if_fulfilled (fate o.id us) o.amount_msat ≡ 0 = ap (λ f. if_fulfilled f o.amount_msat) e in
     let h = none_fulfilled (suc n) os us (removes_below-more n (suc n) us (omega arith) r) m.1 in
     omega (arith, g, h)
 
 -- so fulfilments brought nothing beyond the offers that passed all stages
-pub gained_settled : (mine settled known : List Update) → IsBeginning settled known → Numbered 0 (offers known) → RemovesBelow (length (offers settled)) mine → gained mine known ≡ gained mine settled
+pub gained_settled : (mine settled known : List Update) → IsBeginning settled known → Numbered 0 (offers known) → RemovesBelow (length (offers settled)) mine → gained_msat mine known ≡ gained_msat mine settled
 gained_settled mine settled known p n r =
     let e : offers known ≡ offers settled ++ offers p.0 = ap offers (sym p.1) ∙ offers-append settled p.0 in
     let m : Numbered 0 (offers settled ++ offers p.0) = rw e at n in
     let rest : Numbered (0 + length (offers settled)) (offers p.0) = numbered_rest 0 (offers settled) (offers p.0) m in
     let f : 0 + length (offers settled) ≡ length (offers settled) = omega arith in
     let rest' : Numbered (length (offers settled)) (offers p.0) = rw f at rest in
-    let h : gained mine p.0 ≡ 0 = none_fulfilled (length (offers settled)) (offers p.0) mine r rest' in
+    let h : gained_msat mine p.0 ≡ 0 = none_fulfilled (length (offers settled)) (offers p.0) mine r rest' in
     let g = gained-append mine settled p.0 in
     rw (← p.1) (omega (arith, g, h))

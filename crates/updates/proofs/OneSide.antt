@@ -1,5 +1,5 @@
 -- What stays true of one side's state, whatever its peer sends.
-use Rattle.std.proofs.Common.{◌≡◌, ℕ, ◌+◌, ◌*◌, ◌≤◌, List, [], ◌∷◌, length, IsTrue, refl, arith, None}
+use Rattle.std.proofs.Common.{◌≡◌, ℕ, ◌≤◌, List, [], ◌∷◌, length, IsTrue, refl, arith, None}
 use Rattle.updates.specs.declared.changes.Update.{Update}
 use Rattle.terms.specs.declared.sides.Side.{Side}
 use Rattle.terms.specs.declared.agreement.Terms.{Terms}
@@ -7,7 +7,7 @@ use Rattle.terms.specs.declared.sides.Side.TheVariants.{A, B}
 use Rattle.terms.specs.Sides.{other}
 use Rattle.updates.specs.declared.limits.TheConstants.{MAX_HTLCS}
 use Rattle.updates.specs.Updates.{live}
-use Rattle.updates.specs.Views.{IsCovered, IsSoundBy, start_of, expire_at_heights}
+use Rattle.updates.specs.Views.{IsCovered, IsSoundBy, start_msat_of, expire_at_heights}
 use Rattle.updates.specs.Stages.{none_yet, with_update, to_receiver, by_receiver, to_sender, by_sender}
 use Rattle.updates.specs.Refusals.{first_refusal, update_tests}
 use Rattle.updates.proofs.Sums.{begins}
@@ -18,8 +18,8 @@ use Rattle.updates.specs.Steady.{Held, InOrder, IsFair, IsPart, IsSteady, holdin
 none_in_order : InOrder none_yet
 none_in_order = record { settled = begins []; sender = begins []; past = begins []; receiver = begins [] }
 
-none_fair : (start : ℕ) → IsFair start none_yet none_yet
-none_fair start = record { numbered = tt; removes = λ id h. refl; covered = omega arith; few = omega arith; heights = refl }
+none_fair : (start_msat : ℕ) → IsFair start_msat none_yet none_yet
+none_fair start_msat = record { numbered = tt; removes = λ id h. refl; covered = omega arith; few = omega arith; heights = refl }
 
 pub steady_none : (terms : Terms) (side : Side) → IsSteady (holding_none terms side)
 steady_none terms side = record { own = none_in_order; theirs = none_in_order; own_revoked = refl; theirs_revoked = refl; own_fair = none_fair _; their_fair = none_fair _ }
@@ -82,7 +82,7 @@ sound_at h p q k op tq =
     (few_in_view _ h.own h.theirs p q k.own_fair op tq) (few_in_view _ h.theirs h.own q p k.their_fair tq op)
     (heights_in_view _ h.own h.theirs p q k.own_fair op) (heights_in_view _ h.theirs h.own q p k.their_fair tq)
   where
-    by : (side : Side) → IsCovered (start_of side h.terms) p q → IsCovered (start_of (other side) h.terms) q p → length (live p q) ≤ MAX_HTLCS → length (live q p) ≤ MAX_HTLCS
+    by : (side : Side) → IsCovered (start_msat_of side h.terms) p q → IsCovered (start_msat_of (other side) h.terms) q p → length (live p q) ≤ MAX_HTLCS → length (live q p) ≤ MAX_HTLCS
         → IsTrue (expire_at_heights (live p q)) → IsTrue (expire_at_heights (live q p)) → IsSoundBy h.terms side p q
     by A c d m n x y = sound_view h.terms p q c d m n x y
     by B c d m n x y = sound_view h.terms q p d c n m y x

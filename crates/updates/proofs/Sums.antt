@@ -3,7 +3,7 @@ use Rattle.std.proofs.Common.{◌≡◌, ℕ, ◌+◌, ◌≤◌, List, [], ◌�
 use Rattle.updates.specs.declared.changes.Update.{Update}
 use Rattle.updates.specs.declared.changes.Update.TheVariants.{Add, Fulfil, Fail, Fee}
 use Rattle.terms.specs.declared.htlcs.Htlc.{Htlc}
-use Rattle.updates.specs.Updates.{first_of_fates, fate_by, fate, offers, total, if_live, if_fulfilled, unless_failed, one_if_live, spent, gained, pending, live_count, kept_if_live, live_in, live}
+use Rattle.updates.specs.Updates.{first_of_fates, fate_by, fate, offers, total, if_live, if_fulfilled, unless_failed, one_if_live, spent_msat, gained_msat, pending_msat, live_count, kept_if_live, live_in, live}
 use Rattle.updates.specs.declared.fates.Fate.{Fate}
 use Rattle.updates.specs.declared.fates.Fate.TheVariants.{Live, Fulfilled, Failed}
 use Rattle.updates.specs.Steady.{IsBeginning}
@@ -48,14 +48,14 @@ pub total_falls : (f : Fate → ℕ → ℕ) → Falls f → (os : List Htlc) (u
 total_falls f w [] us vs = omega arith
 total_falls f w (o ∷ os) us vs =
     let h = total_falls f w os us vs in
-    let g : f (fate o.id (us ++ vs)) o.amount ≤ f (fate o.id us) o.amount = rw fate-append (w (fate o.id us) (fate o.id vs) o.amount) in
+    let g : f (fate o.id (us ++ vs)) o.amount_msat ≤ f (fate o.id us) o.amount_msat = rw fate-append (w (fate o.id us) (fate o.id vs) o.amount_msat) in
     omega (arith, g, h)
 
 pub total_rises : (f : Fate → ℕ → ℕ) → Rises f → (os : List Htlc) (us vs : List Update) → total f os us ≤ total f os (us ++ vs)
 total_rises f w [] us vs = omega arith
 total_rises f w (o ∷ os) us vs =
     let h = total_rises f w os us vs in
-    let g : f (fate o.id us) o.amount ≤ f (fate o.id (us ++ vs)) o.amount = rw fate-append (w (fate o.id us) (fate o.id vs) o.amount) in
+    let g : f (fate o.id us) o.amount_msat ≤ f (fate o.id (us ++ vs)) o.amount_msat = rw fate-append (w (fate o.id us) (fate o.id vs) o.amount_msat) in
     omega (arith, g, h)
 
 if_fulfilled_rises : Rises if_fulfilled
@@ -79,25 +79,25 @@ one_if_live_falls Failed h n = omega arith
 
 -- sums over a longer list of the other side's updates, or of one's own
 
-pub spent_falls : (mine xs ys : List Update) → IsBeginning xs ys → spent mine ys ≤ spent mine xs
+pub spent_falls : (mine xs ys : List Update) → IsBeginning xs ys → spent_msat mine ys ≤ spent_msat mine xs
 spent_falls mine xs ys p = rw (← p.1) (total_falls unless_failed unless_failed_falls (offers mine) xs p.0)
 
 pub live_count_falls : (mine xs ys : List Update) → IsBeginning xs ys → live_count mine ys ≤ live_count mine xs
 live_count_falls mine xs ys p = rw (← p.1) (total_falls one_if_live one_if_live_falls (offers mine) xs p.0)
 
-pub gained_rises : (xs ys others : List Update) → IsBeginning xs ys → gained xs others ≤ gained ys others
+pub gained_rises : (xs ys others : List Update) → IsBeginning xs ys → gained_msat xs others ≤ gained_msat ys others
 gained_rises xs ys others p = rw (← p.1) (total_rises if_fulfilled if_fulfilled_rises (offers others) xs p.0)
 
-pub gained-append : (mine us vs : List Update) → gained mine (us ++ vs) ≡ gained mine us + gained mine vs
+pub gained-append : (mine us vs : List Update) → gained_msat mine (us ++ vs) ≡ gained_msat mine us + gained_msat mine vs
 gained-append mine us vs = ap (λ os. total if_fulfilled os mine) (offers-append us vs) ∙ total-append if_fulfilled (offers us) (offers vs) mine
 
-pub spent-append : (us vs others : List Update) → spent (us ++ vs) others ≡ spent us others + spent vs others
+pub spent-append : (us vs others : List Update) → spent_msat (us ++ vs) others ≡ spent_msat us others + spent_msat vs others
 spent-append us vs others = ap (λ os. total unless_failed os others) (offers-append us vs) ∙ total-append unless_failed (offers us) (offers vs) others
 
-pub gained_of_more : (mine xs ys : List Update) → IsBeginning xs ys → gained mine xs ≤ gained mine ys
+pub gained_of_more : (mine xs ys : List Update) → IsBeginning xs ys → gained_msat mine xs ≤ gained_msat mine ys
 gained_of_more mine xs ys p = let h = gained-append mine xs p.0 in rw (← p.1) (omega (arith, h))
 
-pub spent_of_fewer : (xs ys others : List Update) → IsBeginning xs ys → spent xs others ≤ spent ys others
+pub spent_of_fewer : (xs ys others : List Update) → IsBeginning xs ys → spent_msat xs others ≤ spent_msat ys others
 spent_of_fewer xs ys others p = let h = spent-append xs p.0 others in rw (← p.1) (omega (arith, h))
 
 pub live_count-append : (us vs others : List Update) → live_count (us ++ vs) others ≡ live_count us others + live_count vs others
@@ -107,14 +107,14 @@ pub live_count_of_fewer : (xs ys others : List Update) → IsBeginning xs ys →
 live_count_of_fewer xs ys others p = let h = live_count-append xs p.0 others in rw (← p.1) (omega (arith, h))
 
 -- the number of live HTLCs
-one_more : (f : Fate) (h : Htlc) (hs : List Htlc) (amount : ℕ) → length (kept_if_live f h hs) ≡ one_if_live f amount + length hs
-one_more Live h hs amount = omega arith
-one_more Fulfilled h hs amount = omega arith
-one_more Failed h hs amount = omega arith
+one_more : (f : Fate) (h : Htlc) (hs : List Htlc) (amount_msat : ℕ) → length (kept_if_live f h hs) ≡ one_if_live f amount_msat + length hs
+one_more Live h hs amount_msat = omega arith
+one_more Fulfilled h hs amount_msat = omega arith
+one_more Failed h hs amount_msat = omega arith
 
 live_in-length : (os : List Htlc) (ends : List Update) → length (live_in os ends) ≡ total one_if_live os ends
 live_in-length [] ends = refl
-live_in-length (o ∷ os) ends = one_more (fate o.id ends) o (live_in os ends) o.amount ∙ ap (λ n. one_if_live (fate o.id ends) o.amount + n) (live_in-length os ends)
+live_in-length (o ∷ os) ends = one_more (fate o.id ends) o (live_in os ends) o.amount_msat ∙ ap (λ n. one_if_live (fate o.id ends) o.amount_msat + n) (live_in-length os ends)
 
 pub live-length : (mine others : List Update) → length (live mine others) ≡ live_count mine others
 live-length mine others = live_in-length (offers mine) others
@@ -127,7 +127,7 @@ weights_add Failed n = omega arith
 
 totals_add : (os : List Htlc) (ends : List Update) → total unless_failed os ends ≡ total if_live os ends + total if_fulfilled os ends
 totals_add [] ends = refl
-totals_add (o ∷ os) ends = let h = totals_add os ends in let g = weights_add (fate o.id ends) o.amount in omega (arith, g, h)
+totals_add (o ∷ os) ends = let h = totals_add os ends in let g = weights_add (fate o.id ends) o.amount_msat in omega (arith, g, h)
 
-pub spent_is : (mine others : List Update) → spent mine others ≡ pending mine others + gained others mine
+pub spent_is : (mine others : List Update) → spent_msat mine others ≡ pending_msat mine others + gained_msat others mine
 spent_is mine others = totals_add (offers mine) others

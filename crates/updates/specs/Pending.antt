@@ -1,5 +1,5 @@
 -- The HTLCs of one direction whose removal has not passed all five stages, and what they say of all that were offered.
-use Rattle.std.specs.Prelude.{◌≡◌, ℕ, suc, ◌+◌, ◌*◌, ◌^◌, ◌≤◌, nat_lt, Bool, true, false, ◌==◌, if◌then◌else◌, List, [], ◌∷◌, ◌++◌, length, map, filter, Option, Some, None}
+use Rattle.std.specs.Prelude.{◌≡◌, ℕ, suc, ◌+◌, ◌*◌, ◌^◌, ◌≤◌, nat_lt, Bool, true, false, ◌==◌, if◌then◌else◌, List, [], ◌∷◌, ◌++◌, length, map, Option, Some, None}
 use Rattle.terms.specs.declared.htlcs.Htlc.{Htlc}
 use Rattle.terms.specs.declared.sides.Side.{Side}
 use Rattle.terms.specs.declared.agreement.Terms.{Terms}
@@ -10,10 +10,10 @@ use Rattle.updates.specs.declared.fates.Fate.TheVariants.{Live, Fulfilled, Faile
 use Rattle.updates.specs.declared.fates.End.TheVariants.{Never}
 use Rattle.updates.specs.declared.pending.PendingHtlc.{PendingHtlc}
 use Rattle.updates.specs.declared.pending.Pending.{Pending}
-use Rattle.updates.specs.Updates.{fate, fate_by, offers, gained, if_fulfilled, kept_if_live}
+use Rattle.updates.specs.Updates.{fate, fate_by, offers, gained_msat, if_fulfilled, kept_if_live}
 use Rattle.updates.specs.Ends.{end_of, within, end_after}
 use Rattle.updates.specs.Stages.{Stages}
-use Rattle.updates.specs.Views.{start_of}
+use Rattle.updates.specs.Views.{start_msat_of}
 use Rattle.updates.specs.Refusals.{Test, removable, add_tests, fulfil_tests, fail_tests, fee_tests}
 
 abbrev pub pending_if_live : Fate → PendingHtlc → List PendingHtlc → List PendingHtlc
@@ -29,19 +29,19 @@ pending_htlcs at (Add h ∷ us) known settled =
     pending_if_live (fate h.id settled) (record { htlc = h; added = at; end = end_of h.id known }) (pending_htlcs (suc at) us known settled)
 pending_htlcs at (Fulfil id preimage ∷ us) known settled = pending_htlcs (suc at) us known settled
 pending_htlcs at (Fail id ∷ us) known settled = pending_htlcs (suc at) us known settled
-pending_htlcs at (Fee rate ∷ us) known settled = pending_htlcs (suc at) us known settled
+pending_htlcs at (Fee feerate_per_kw ∷ us) known settled = pending_htlcs (suc at) us known settled
 
 -- what the first `removed` updates of the other side make of an HTLC; Failed where it is not among the first `added` of its own side
 abbrev pub fate_at : ℕ → ℕ → PendingHtlc → Fate
 fate_at added removed e = if nat_lt e.added added then within removed e.end else Failed
 
-abbrev pub total_amount : List PendingHtlc → ℕ
-total_amount [] = 0
-total_amount (e ∷ es) = e.htlc.amount + total_amount es
+abbrev pub total_amount_msat : List PendingHtlc → ℕ
+total_amount_msat [] = 0
+total_amount_msat (e ∷ es) = e.htlc.amount_msat + total_amount_msat es
 
 abbrev pub fulfilled_at : ℕ → ℕ → List PendingHtlc → ℕ
 fulfilled_at added removed [] = 0
-fulfilled_at added removed (e ∷ es) = if_fulfilled (fate_at added removed e) e.htlc.amount + fulfilled_at added removed es
+fulfilled_at added removed (e ∷ es) = if_fulfilled (fate_at added removed e) e.htlc.amount_msat + fulfilled_at added removed es
 
 abbrev pub live_at : ℕ → ℕ → List PendingHtlc → List Htlc
 live_at added removed [] = []
@@ -72,7 +72,7 @@ abbrev pub new_pending : ℕ → Update → List PendingHtlc
 new_pending position (Add h) = record { htlc = h; added = position; end = Never } ∷ []
 new_pending position (Fulfil id preimage) = []
 new_pending position (Fail id) = []
-new_pending position (Fee rate) = []
+new_pending position (Fee feerate_per_kw) = []
 
 -- before and after the side that offers makes an update, at this position among its own
 pub record IsGrown (p q : Pending) (position : ℕ) (u : Update) : Type 0 where
@@ -99,7 +99,7 @@ IsBounded p = p.fulfilled + 2 ^ 64 * length p.htlcs.items ≤ 2 ^ 64 * p.offered
 -- what is kept of the HTLCs that `sender` offers and `others` removes
 pub record IsKept (p : Pending) (sender others : Stages) : Type 0 where
   pub offered : p.offered ≡ length (offers sender.known)
-  pub fulfilled : p.fulfilled ≡ gained others.settled sender.known
+  pub fulfilled : p.fulfilled ≡ gained_msat others.settled sender.known
   pub htlcs : p.htlcs.items ≡ pending_htlcs 0 sender.known others.known others.settled
   pub bound : IsBounded p
 
@@ -107,8 +107,8 @@ pub record IsKept (p : Pending) (sender others : Stages) : Type 0 where
 -- passed all stages, and `known` the number of the sender's that are known
 abbrev pub kept_tests : Terms → Side → Pending → Pending → ℕ → ℕ → Update → List Test
 kept_tests terms by sender others settled known (Add h) =
-    add_tests terms by sender.offered (length sender.htlcs.items) (start_of by terms + others.fulfilled)
-    (sender.fulfilled + total_amount sender.htlcs.items) h
+    add_tests terms by sender.offered (length sender.htlcs.items) (start_msat_of by terms + others.fulfilled)
+    (sender.fulfilled + total_amount_msat sender.htlcs.items) h
 kept_tests terms by sender others settled known (Fulfil id preimage) = fulfil_tests (found_in id settled known others.htlcs.items) preimage
 kept_tests terms by sender others settled known (Fail id) = fail_tests (found_in id settled known others.htlcs.items)
-kept_tests terms by sender others settled known (Fee rate) = fee_tests terms by
+kept_tests terms by sender others settled known (Fee feerate_per_kw) = fee_tests terms by

@@ -1,5 +1,5 @@
 -- Which updates a channel refuses, in which order, and by which number (BOLT 2).
-use Rattle.std.specs.Prelude.{◌≡◌, ℕ, ◌+◌, Bool, true, false, not, ◌&&◌, nat_lt, nat_le, ◌==◌, List, [], ◌∷◌, length, Option, Some, None, is_none, Result, MatchResult}
+use Rattle.std.specs.Prelude.{◌≡◌, ℕ, ◌+◌, Bool, true, false, not, ◌&&◌, nat_lt, nat_le, ◌==◌, List, [], ◌∷◌, length, Option, Some, None, is_none}
 use Rattle.std.specs.Str.{bytes_eq}
 use Rattle.std.specs.Option.{option_map_or}
 use Rattle.sha2.specs.Sha256.{sha256}
@@ -15,9 +15,9 @@ use Rattle.updates.specs.declared.fates.Fate.{Fate}
 use Rattle.updates.specs.declared.fates.Fate.TheVariants.{Live}
 use Rattle.updates.specs.declared.errors.ChannelError.{ChannelError}
 use Rattle.updates.specs.declared.errors.ChannelError.TheVariants.{NoMemory, AmountZero, BelowMinimum, ExpiryTooLarge, WrongId, TooManyHtlcs, OverBalance, UnknownHtlc, WrongPreimage, NoUpdates, BadSignature, WrongSecret, NotYourTurn, NotOpener}
-use Rattle.updates.specs.declared.limits.TheConstants.{MAX_HTLCS, EXPIRY_END}
-use Rattle.updates.specs.Updates.{fate, offers, offer_of, spent, gained, live_count}
-use Rattle.updates.specs.Views.{start_of}
+use Rattle.updates.specs.declared.limits.TheConstants.{MAX_HTLCS, EXPIRY_HEIGHT_END}
+use Rattle.updates.specs.Updates.{fate, offers, offer_of, spent_msat, gained_msat, live_count}
+use Rattle.updates.specs.Views.{start_msat_of}
 use Rattle.updates.specs.Stages.{Stages}
 
 -- 0 is out of memory
@@ -54,10 +54,10 @@ first_refusal (t ∷ tests) = if_so t.0 t.1 (first_refusal tests)
 -- had in millisatoshis, and `out` what of it has gone out
 abbrev pub add_tests : Terms → Side → ℕ → ℕ → ℕ → ℕ → Htlc → List Test
 add_tests terms by next live had out h =
-    (not (h.id == next), WrongId) ∷ (h.amount == 0, AmountZero)
-    ∷ (nat_lt h.amount (party (other by) terms).minimum, BelowMinimum)
-    ∷ (nat_le EXPIRY_END h.expiry, ExpiryTooLarge) ∷ (nat_le MAX_HTLCS live, TooManyHtlcs)
-    ∷ (nat_lt had (h.amount + out), OverBalance) ∷ []
+    (not (h.id == next), WrongId) ∷ (h.amount_msat == 0, AmountZero)
+    ∷ (nat_lt h.amount_msat (party (other by) terms).minimum_msat, BelowMinimum)
+    ∷ (nat_le EXPIRY_HEIGHT_END h.expiry_height, ExpiryTooLarge) ∷ (nat_le MAX_HTLCS live, TooManyHtlcs)
+    ∷ (nat_lt had (h.amount_msat + out), OverBalance) ∷ []
 
 abbrev pub is_wrong : List ℕ → Option Htlc → Bool
 is_wrong hash o = option_map_or (λ h. not (bytes_eq hash h.hash)) o false
@@ -89,23 +89,15 @@ to_remove id sender others = removable (fate id sender.known) (offer_of id (offe
 abbrev pub update_tests : Terms → Side → Stages → Stages → Update → List Test
 update_tests terms by sender others (Add h) =
     add_tests terms by (length (offers sender.known)) (live_count sender.known others.settled)
-    (start_of by terms + gained sender.settled others.known) (spent sender.known others.settled) h
+    (start_msat_of by terms + gained_msat sender.settled others.known) (spent_msat sender.known others.settled) h
 update_tests terms by sender others (Fulfil id x) = fulfil_tests (to_remove id sender others) x
 update_tests terms by sender others (Fail id) = fail_tests (to_remove id sender others)
-update_tests terms by sender others (Fee rate) = fee_tests terms by
+update_tests terms by sender others (Fee feerate_per_kw) = fee_tests terms by
 
 -- whether a signature of `sender` covers no new update
 abbrev pub covers_nothing : Stages → Stages → Bool
 covers_nothing s o =
     length s.known == length s.with_receiver && length o.past_receiver == length o.with_sender
-
--- a result is Ok where nothing is refused first, and else an error that is this refusal
-abbrev pub OkUnless : {A E R : Type 0} → Result A E → Option R → (Option R → E → Type 0) → Type 0
-OkUnless result first IsRefusal = MatchResult result (λ _. first ≡ None) (IsRefusal first)
-
--- just the first refusal
-abbrev pub IsFirst : {R : Type 0} → Option R → R → Type 0
-IsFirst first r = first ≡ Some r
 
 -- out of memory, or the first refusal
 abbrev pub IsRefusal : Option ChannelError → ChannelError → Type 0

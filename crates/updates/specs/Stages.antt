@@ -5,7 +5,7 @@ use Rattle.updates.specs.declared.changes.Update.{Update}
 use Rattle.updates.specs.declared.stages.Part.{Part}
 use Rattle.updates.specs.declared.stages.Stage.{Stage}
 use Rattle.updates.specs.declared.stages.Stage.TheVariants.{Known, WithReceiver, PastReceiver, WithSender}
-use Rattle.updates.specs.Updates.{newest_fee}
+use Rattle.updates.specs.Updates.{newest_feerate_per_kw}
 
 -- the sender is who made the updates, the receiver the other side; each part is a beginning of the one before it
 pub record Stages : Type 0 where
@@ -56,12 +56,12 @@ stages_of updates with_receiver past_receiver with_sender settled = record {
   settled = take settled updates;
 }
 
--- a part as its length and its newest fee
+-- a part as its length and its newest feerate
 pub record Counts (part : Part) (us : List Update) : Type 0 where
   pub count : part.count ≡ length us
-  pub fee : part.fee ≡ newest_fee us
+  pub feerate_per_kw : part.feerate_per_kw ≡ newest_feerate_per_kw us
 
--- the first updates of a list, kept as a count and their newest fee
+-- the first updates of a list, kept as a count and their newest feerate
 pub record IsPartOf (us : List Update) (part : Part) : Type 0 where
   pub within : part.count ≤ length us
-  pub fee : part.fee ≡ newest_fee (take part.count us)
+  pub feerate_per_kw : part.feerate_per_kw ≡ newest_feerate_per_kw (take part.count us)

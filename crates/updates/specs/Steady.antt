@@ -6,10 +6,10 @@ use Rattle.terms.specs.declared.sides.Side.{Side}
 use Rattle.terms.specs.declared.agreement.Terms.{Terms}
 use Rattle.updates.specs.declared.fates.Fate.TheVariants.{Live}
 use Rattle.updates.specs.declared.limits.TheConstants.{MAX_HTLCS}
-use Rattle.updates.specs.Updates.{fate, offers, spent, gained, live_count}
+use Rattle.updates.specs.Updates.{fate, offers, spent_msat, gained_msat, live_count}
 use Rattle.terms.specs.Sides.{other}
 use Rattle.updates.specs.declared.pending.Pending.{Pending}
-use Rattle.updates.specs.Views.{start_of, expire_at_heights}
+use Rattle.updates.specs.Views.{start_msat_of, expire_at_heights}
 use Rattle.updates.specs.Refusals.{Test, first_refusal, update_tests}
 use Rattle.updates.specs.Pending.{IsKept}
 use Rattle.updates.specs.Stages.{Stages, none_yet, with_update, to_receiver, by_receiver, to_sender, by_sender}
@@ -36,10 +36,10 @@ RemovesBelow n us = (id : ℕ) → n ≤ id → fate id us ≡ Live
 
 -- the ids count up, only settled HTLCs are removed, the sender had what it spent, no more HTLCs are live than allowed, and each expires at a
 -- height
-pub record IsFair (start : ℕ) (s o : Stages) : Type 0 where
+pub record IsFair (start_msat : ℕ) (s o : Stages) : Type 0 where
   pub numbered : Numbered 0 (offers s.known)
   pub removes : RemovesBelow (length (offers o.settled)) s.known
-  pub covered : spent s.known o.settled ≤ start + gained s.settled o.known
+  pub covered : spent_msat s.known o.settled ≤ start_msat + gained_msat s.settled o.known
   pub few : live_count s.known o.settled ≤ MAX_HTLCS
   pub heights : IsTrue (expire_at_heights (offers s.known))
 
@@ -60,8 +60,8 @@ pub record IsSteady (h : Held) : Type 0 where
   pub theirs : InOrder h.theirs
   pub own_revoked : h.own.with_sender ≡ h.own.settled  -- a signature that comes is answered at once
   pub theirs_revoked : h.theirs.with_receiver ≡ h.theirs.past_receiver
-  pub own_fair : IsFair (start_of h.side h.terms) h.own h.theirs
-  pub their_fair : IsFair (start_of (other h.side) h.terms) h.theirs h.own
+  pub own_fair : IsFair (start_msat_of h.side h.terms) h.own h.theirs
+  pub their_fair : IsFair (start_msat_of (other h.side) h.terms) h.theirs h.own
 
 -- what calls and messages make of it: nothing yet; an update of one's own, a signature sent; an update received, a signature received and
 -- answered by a revocation, a revocation received
@@ -87,8 +87,8 @@ holding_revocation h = record h { own = by_receiver h.own; theirs = by_sender h.
 
 -- the HTLC that a side would offer next
 abbrev pub next_htlc : Stages → ℕ → List ℕ → ℕ → Htlc
-next_htlc own amount hash expiry =
-    record { id = length (offers own.known); amount = amount; hash = hash; expiry = expiry }
+next_htlc own amount_msat hash expiry_height =
+    record { id = length (offers own.known); amount_msat = amount_msat; hash = hash; expiry_height = expiry_height }
 
 -- the tests of an update of one's own, and of the peer's
 abbrev pub own_tests : Held → Update → List Test

@@ -37,7 +37,7 @@ offer_of id htlcs = find (λ h. h.id == id) htlcs
 -- a sum over offers, by what the other side's updates made of each
 abbrev pub total : (Fate → ℕ → ℕ) → List Htlc → List Update → ℕ
 total f [] ends = 0
-total f (o ∷ os) ends = f (fate o.id ends) o.amount + total f os ends
+total f (o ∷ os) ends = f (fate o.id ends) o.amount_msat + total f os ends
 
 abbrev pub if_live : Fate → ℕ → ℕ
 if_live Live n = n
@@ -56,16 +56,16 @@ one_if_live Live n = 1
 one_if_live ended n = 0
 
 -- the millisatoshis that left one's balance: of the offers in `mine` that `others` did not fail
-abbrev pub spent : List Update → List Update → ℕ
-spent mine others = total unless_failed (offers mine) others
+abbrev pub spent_msat : List Update → List Update → ℕ
+spent_msat mine others = total unless_failed (offers mine) others
 
 -- the millisatoshis that one's fulfilments in `mine` brought, of the offers in `others`
-abbrev pub gained : List Update → List Update → ℕ
-gained mine others = total if_fulfilled (offers others) mine
+abbrev pub gained_msat : List Update → List Update → ℕ
+gained_msat mine others = total if_fulfilled (offers others) mine
 
 -- the millisatoshis in the offers of `mine` that `others` did not remove
-abbrev pub pending : List Update → List Update → ℕ
-pending mine others = total if_live (offers mine) others
+abbrev pub pending_msat : List Update → List Update → ℕ
+pending_msat mine others = total if_live (offers mine) others
 
 -- the number of these HTLCs
 abbrev pub live_count : List Update → List Update → ℕ
@@ -84,18 +84,18 @@ abbrev pub live : List Update → List Update → List Htlc
 live mine others = live_in (offers mine) others
 
 -- the rate that an update sets, if it changes the feerate
-abbrev pub fee_of : Update → Option ℕ
-fee_of (Fee rate) = Some rate
-fee_of u = None
+abbrev pub feerate_per_kw_set_by : Update → Option ℕ
+feerate_per_kw_set_by (Fee feerate_per_kw) = Some feerate_per_kw
+feerate_per_kw_set_by u = None
 
-abbrev pub later_fee : Option ℕ → Option ℕ → Option ℕ
-later_fee earlier later = option_or later earlier
+abbrev pub later_feerate_per_kw : Option ℕ → Option ℕ → Option ℕ
+later_feerate_per_kw earlier later = option_or later earlier
 
 -- the rate of the last change of the feerate in a list
-abbrev pub newest_fee : List Update → Option ℕ
-newest_fee [] = None
-newest_fee (u ∷ us) = later_fee (fee_of u) (newest_fee us)
+abbrev pub newest_feerate_per_kw : List Update → Option ℕ
+newest_feerate_per_kw [] = None
+newest_feerate_per_kw (u ∷ us) = later_feerate_per_kw (feerate_per_kw_set_by u) (newest_feerate_per_kw us)
 
 -- the feerate after a list of updates
-abbrev pub last_fee : ℕ → List Update → ℕ
-last_fee rate us = unwrap_or (newest_fee us) rate
+abbrev pub last_feerate_per_kw : ℕ → List Update → ℕ
+last_feerate_per_kw feerate_per_kw us = unwrap_or (newest_feerate_per_kw us) feerate_per_kw

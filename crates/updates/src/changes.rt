@@ -12,7 +12,7 @@ pub enum Update {
     /// `update_fail_htlc`: removes an HTLC of the peer and leaves its amount to the peer.
     Fail { id: u64 },
     /// `update_fee`: changes the feerate, in satoshis per 1,000 units of weight.
-    Fee { rate: u32 },
+    Fee { feerate_per_kw: u32 },
 }
 
 /// An update as the side that makes it decides on it. The channel gives an offer its id.
@@ -21,11 +21,11 @@ pub enum OwnUpdate {
     /// Offers an HTLC.
     Offer {
         /// The amount in millisatoshis.
-        amount: u64,
+        amount_msat: u64,
         /// SHA-256 of the payment preimage.
         hash: [u8; 32],
         /// The block height from which it can be timed out (`cltv_expiry`).
-        expiry: u32,
+        expiry_height: u32,
     },
     /// Fulfils an HTLC of the peer.
     Fulfil {
@@ -38,6 +38,6 @@ pub enum OwnUpdate {
     },
     /// Changes the feerate, in satoshis per 1,000 units of weight.
     SetFee {
-        rate: u32,
+        feerate_per_kw: u32,
     },
 }

@@ -1,13 +1,14 @@
 //! Tests of updates, the same for their sender and their receiver.
 
 ghost use Rattle.std.specs.Prelude.{◌≡◌, ◌+◌, ◌*◌, ◌^◌, ◌≤◌, length, Some, None};
-ghost use Rattle.updates.specs.Views.{start_of};
-ghost use Rattle.updates.specs.Pending.{total_amount, kept_tests, IsBounded};
-ghost use Rattle.updates.specs.Refusals.{first_refusal, add_tests, fulfil_tests, fail_tests, OkUnless, IsFirst};
+ghost use Rattle.updates.specs.Views.{start_msat_of};
+ghost use Rattle.updates.specs.Pending.{total_amount_msat, kept_tests, IsBounded};
+ghost use Rattle.terms.specs.Refusals.{OkUnless, IsFirst};
+ghost use Rattle.updates.specs.Refusals.{first_refusal, add_tests, fulfil_tests, fail_tests};
 
 use crate::changes::Update;
 use crate::errors::ChannelError;
-use crate::limits::{EXPIRY_END, MAX_HTLCS};
+use crate::limits::{EXPIRY_HEIGHT_END, MAX_HTLCS};
 use crate::pending::Pending;
 use digest::sha256;
 use terms::{Htlc, Side, Terms};
@@ -24,27 +25,27 @@ fn check_add(
     requires others { IsBounded others.now }
     ensures { OkUnless result
         (first_refusal (add_tests terms.now by sender.now.offered (length sender.now.htlcs.items)
-        (start_of by terms.now + others.now.fulfilled) (sender.now.fulfilled + total_amount
+        (start_msat_of by terms.now + others.now.fulfilled) (sender.now.fulfilled + total_amount_msat
         sender.now.htlcs.items) htlc.now)) IsFirst }
 {
     if htlc.id != sender.offered {
         return Err(ChannelError::WrongId);
     }
-    if htlc.amount == 0 {
+    if htlc.amount_msat == 0 {
         return Err(ChannelError::AmountZero);
     }
-    if htlc.amount < terms.party(by.other()).minimum {
+    if htlc.amount_msat < terms.party(by.other()).minimum_msat {
         return Err(ChannelError::BelowMinimum);
     }
-    if htlc.expiry >= EXPIRY_END {
+    if htlc.expiry_height >= EXPIRY_HEIGHT_END {
         return Err(ChannelError::ExpiryTooLarge);
     }
     if sender.htlcs.len() >= MAX_HTLCS {
         return Err(ChannelError::TooManyHtlcs);
     }
-    let had = u128::from(terms.party(by).start) + others.fulfilled;
-    let out = sender.fulfilled + sender.total_amount();
-    if had < u128::from(htlc.amount) + out {
+    let had = u128::from(terms.party(by).start_msat) + others.fulfilled;
+    let out = sender.fulfilled + sender.total_amount_msat();
+    if had < u128::from(htlc.amount_msat) + out {
         return Err(ChannelError::OverBalance);
     }
     Ok(())

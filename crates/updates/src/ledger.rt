@@ -7,7 +7,7 @@ use crate::changes::Update;
 use crate::checking::check_update;
 use crate::errors::ChannelError;
 use crate::pending::Pending;
-use crate::shares::{rate_at, share_at, view_from};
+use crate::shares::{feerate_per_kw_at, share_at, view_from};
 use crate::stages::{Part, Stage, UpdateList};
 use std::alloc::{AllocError, Global};
 use std::marker::Model;
@@ -39,11 +39,12 @@ impl Model for Ledger {
 }
 
 impl Ledger {
-    ghost use Rattle.std.specs.Prelude.{◌≡◌, None, IfOk, OnErr, MatchResult, length, take};
+    ghost use Rattle.std.specs.Prelude.{◌≡◌, IfOk, OnErr, length, take};
     ghost use Rattle.updates.specs.Shares.{IsPartAt, view_in, newest_view, IsSoundIn, IsNewestSound};
     ghost use Rattle.updates.specs.Updates.{offers};
     ghost use Rattle.updates.specs.declared.changes.Update.TheVariants.{Add, Fulfil, Fail, Fee};
-    ghost use Rattle.updates.specs.Refusals.{first_refusal, covers_nothing, IsRefusal, OkUnless};
+    ghost use Rattle.terms.specs.Refusals.{OkUnless};
+    ghost use Rattle.updates.specs.Refusals.{first_refusal, covers_nothing, IsRefusal};
     ghost use Rattle.updates.specs.Stages.{part_of};
     ghost use Rattle.updates.specs.Steady.{Held, own_tests, their_tests, next_htlc, holding_none, holding_made, holding_signed, holding_update, holding_signature, holding_revocation};
 
@@ -99,8 +100,7 @@ impl Ledger {
     // Makes an update of one's own.
     fn make(&mut self, update: Update) -> Result<(), ChannelError>
         ensures ok { IfOk result (λ _. self.new ≡ holding_made update self.old) }
-        ensures tested { MatchResult result (λ _. first_refusal (own_tests self.old update) ≡ None)
-            (IsRefusal (first_refusal (own_tests self.old update))) }
+        ensures tested { OkUnless result (first_refusal (own_tests self.old update)) IsRefusal }
         ensures err { OnErr result (self.new ≡ self.old) }
     {
         self.check_own(&update)?;
@@ -113,22 +113,27 @@ impl Ledger {
         Ok(())
     }
 
-    /// Offers an HTLC of `amount` millisatoshis, and returns it with its id, the next one of this side. The refusals are checked in this order:
+    /// Offers an HTLC of `amount_msat` millisatoshis, and returns it with its id, the next one of this side. The refusals are checked in this order:
     /// WrongId (which cannot occur here), AmountZero, BelowMinimum, ExpiryTooLarge, TooManyHtlcs, OverBalance. A refusal leaves the ledger as it
     /// was.
-    pub fn offer(&mut self, amount: u64, hash: [u8; 32], expiry: u32) -> Result<Htlc, ChannelError>
-        ensures htlc { IfOk result (λ h. h ≡ next_htlc self.old.own amount hash expiry) }
+    pub fn offer(
+        &mut self,
+        amount_msat: u64,
+        hash: [u8; 32],
+        expiry_height: u32,
+    ) -> Result<Htlc, ChannelError>
+        ensures htlc { IfOk result (λ h. h ≡ next_htlc self.old.own amount_msat hash expiry_height) }
         ensures ok { IfOk result (λ h. self.new ≡ holding_made (Add h) self.old) }
         ensures tested { OkUnless result
-            (first_refusal (own_tests self.old (Add (next_htlc self.old.own amount hash expiry))))
+            (first_refusal (own_tests self.old (Add (next_htlc self.old.own amount_msat hash expiry_height))))
             IsRefusal }
         ensures err { OnErr result (self.new ≡ self.old) }
     {
         let htlc = Htlc {
             id: self.next_id(),
-            amount,
+            amount_msat,
             hash,
-            expiry,
+            expiry_height,
         };
         self.make(Update::Add(htlc))?;
         Ok(htlc)
@@ -162,14 +167,14 @@ impl Ledger {
         self.make(Update::Fail { id })
     }
 
-    /// Changes the feerate to `rate` satoshis per 1,000 units of weight. The error is NotOpener where this side did not open the channel. A
+    /// Changes the feerate to `feerate_per_kw` satoshis per 1,000 units of weight. The error is NotOpener where this side did not open the channel. A
     /// refusal leaves the ledger as it was.
-    pub fn set_fee(&mut self, rate: u32) -> Result<(), ChannelError>
-        ensures ok { IfOk result (λ _. self.new ≡ holding_made (Fee rate) self.old) }
-        ensures tested { OkUnless result (first_refusal (own_tests self.old (Fee rate))) IsRefusal }
+    pub fn set_fee(&mut self, feerate_per_kw: u32) -> Result<(), ChannelError>
+        ensures ok { IfOk result (λ _. self.new ≡ holding_made (Fee feerate_per_kw) self.old) }
+        ensures tested { OkUnless result (first_refusal (own_tests self.old (Fee feerate_per_kw))) IsRefusal }
         ensures err { OnErr result (self.new ≡ self.old) }
     {
-        self.make(Update::Fee { rate })
+        self.make(Update::Fee { feerate_per_kw })
     }
 
     /// Receives an update of the peer, with the same tests as for an update of one's own. A refusal leaves the ledger as it was.
@@ -240,14 +245,20 @@ impl Ledger {
         ensures { IfOk result (λ v. v ≡ view_in self.now (take own.count self.now.own.known)
             (take theirs.count self.now.theirs.known)) }
     {
-        let start = self.terms.party(self.side).start;
-        let peers_start = self.terms.party(self.side.other()).start;
+        let start_msat = self.terms.party(self.side).start_msat;
+        let peers_start_msat = self.terms.party(self.side.other()).start_msat;
         let (ours, peers) = (&self.own_htlcs, &self.their_htlcs);
-        let mine = share_at(start, ours, peers, own.count, theirs.count)?;
-        let others = share_at(peers_start, peers, ours, theirs.count, own.count)?;
-        let rate = self.terms.feerate;
-        let rate = rate_at(self.side, self.terms.opener, rate, own.fee, theirs.fee);
-        Ok(view_from(self.side, mine, others, rate))
+        let mine = share_at(start_msat, ours, peers, own.count, theirs.count)?;
+        let others = share_at(peers_start_msat, peers, ours, theirs.count, own.count)?;
+        let feerate_per_kw = self.terms.feerate_per_kw;
+        let feerate_per_kw = feerate_per_kw_at(
+            self.side,
+            self.terms.opener,
+            feerate_per_kw,
+            own.feerate_per_kw,
+            theirs.feerate_per_kw,
+        );
+        Ok(view_from(self.side, mine, others, feerate_per_kw))
     }
 
     // The view of the updates that have reached these stages.

@@ -2,7 +2,8 @@
 //! BOLT 3).
 //!
 //! [`OwnUpdate`] is what a side decides: it offers, fulfils or fails an HTLC, or sets the feerate. [`Update`] is what
-//! it tells its peer. A [`Ledger`] holds both sides' updates as one side knows them. Barring out-of-memory, each call
+//! it tells its peer. A [`PeerStep`] is what comes of the peer: an update, or the [`Tokens`] of a signature, which a
+//! [`Revocation`] answers. A [`Ledger`] holds both sides' updates as one side knows them. Barring out-of-memory, each call
 //! names the first refusal that holds, in the order that it states, and each view is exactly that of the updates in a
 //! commitment. Whatever the peer sends, in each view no balance is below 0, and balances and HTLCs sum to the
 //! capacity. The time of a call grows with the number of pending HTLCs, not with the number that there ever were; no
@@ -13,9 +14,9 @@
 //!
 //! ```rust
 //! /// Offers an HTLC, and says what this side has in the commitment that it signs next.
-//! fn offer_and_see(ledger: &mut Ledger, amount: u64, hash: [u8; 32], expiry: u32) -> Result<u64, ChannelError> {
-//!     ledger.offer(amount, hash, expiry)?;
-//!     Ok(ledger.view_to_sign()?.share(ledger.side()).balance)
+//! fn offer_and_see(ledger: &mut Ledger, amount_msat: u64, hash: [u8; 32], expiry_height: u32) -> Result<u64, ChannelError> {
+//!     ledger.offer(amount_msat, hash, expiry_height)?;
+//!     Ok(ledger.view_to_sign()?.share(ledger.side()).balance_msat)
 //! }
 //! ```
 //!
@@ -30,6 +31,7 @@ mod fates;
 pub mod laws;
 mod ledger;
 mod limits;
+mod messages;
 mod pending;
 mod shares;
 mod stages;
@@ -37,4 +39,5 @@ mod stages;
 pub use changes::{OwnUpdate, Update};
 pub use errors::ChannelError;
 pub use ledger::Ledger;
-pub use limits::{EXPIRY_END, MAX_HTLCS};
+pub use limits::{EXPIRY_HEIGHT_END, MAX_HTLCS};
+pub use messages::{PeerStep, Revocation, Tokens};

@@ -4,4 +4,4 @@
 pub const MAX_HTLCS: usize = 483;
 
 /// Expiries are block heights, which are below this (BIP 65).
-pub const EXPIRY_END: u32 = 500_000_000;
+pub const EXPIRY_HEIGHT_END: u32 = 500_000_000;

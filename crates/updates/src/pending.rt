@@ -58,7 +58,7 @@ impl PendingHtlc {
 
 impl Pending {
     ghost use Rattle.std.specs.Prelude.{◌≡◌, ◌+◌, ◌*◌, ◌^◌, ◌≤◌, [], length, filter, map, IfOk};
-    ghost use Rattle.updates.specs.Pending.{total_amount, fulfilled_at, live_at, found_in, is_left, IsNoted};
+    ghost use Rattle.updates.specs.Pending.{total_amount_msat, fulfilled_at, live_at, found_in, is_left, IsNoted};
 
     /// No HTLC yet.
     pub(crate) fn new(alloc: Global) -> Pending
@@ -74,13 +74,13 @@ impl Pending {
     }
 
     /// The sum of the pending HTLCs in millisatoshis.
-    pub(crate) fn total_amount(&self) -> u128
-        ensures value { result ≡ total_amount self.now.htlcs.items }
+    pub(crate) fn total_amount_msat(&self) -> u128
+        ensures value { result ≡ total_amount_msat self.now.htlcs.items }
         ensures bound { result ≤ 2 ^ 64 * length self.now.htlcs.items }
     {
         let mut sum: u128 = 0;
         for pending in &self.htlcs {
-            sum += u128::from(pending.htlc.amount);
+            sum += u128::from(pending.htlc.amount_msat);
         }
         sum
     }
@@ -98,7 +98,7 @@ impl Pending {
         let mut sum = self.fulfilled;
         for pending in &self.htlcs {
             if pending.fate_at(added, removed) == Fate::Fulfilled {
-                sum += u128::from(pending.htlc.amount);
+                sum += u128::from(pending.htlc.amount_msat);
             }
         }
         sum

@@ -1,7 +1,7 @@
 //! The updates of one side, and how many of them have reached each stage.
 
 ghost use Rattle.std.specs.Prelude.{◌≡◌};
-ghost use Rattle.updates.specs.Updates.{fee_of, later_fee};
+ghost use Rattle.updates.specs.Updates.{feerate_per_kw_set_by, later_feerate_per_kw};
 
 use crate::changes::Update;
 use std::alloc::{AllocError, Global};
@@ -13,7 +13,7 @@ pub(crate) struct Part {
     /// The number of updates.
     pub count: usize,
     /// The rate of the last change of the feerate among them.
-    pub fee: Option<u32>,
+    pub feerate_per_kw: Option<u32>,
 }
 
 /// A stage that updates reach. A commitment holds the updates that have reached a certain stage.
@@ -29,7 +29,7 @@ pub(crate) enum Stage {
 #[derive(Drop)]
 pub(crate) struct UpdateList {
     updates: Vec<Update>,
-    fee: Option<u32>,
+    feerate_per_kw: Option<u32>,
     with_receiver: Part,
     past_receiver: Part,
     with_sender: Part,
@@ -38,33 +38,33 @@ pub(crate) struct UpdateList {
 
 impl Model for UpdateList {
     ghost use Rattle.std.specs.Prelude.{◌≡◌, ◌≤◌, length};
-    ghost use Rattle.updates.specs.Updates.{newest_fee};
+    ghost use Rattle.updates.specs.Updates.{newest_feerate_per_kw};
     ghost use Rattle.updates.specs.Stages.{Stages, stages_of, IsPartOf};
 
     ghost Value = { Stages };
 
     ghost view = { λ l. stages_of l.updates.items l.with_receiver.count l.past_receiver.count l.with_sender.count l.settled.count };
 
-    ghost invariant = { λ l. (l.fee ≡ newest_fee l.updates.items)
+    ghost invariant = { λ l. (l.feerate_per_kw ≡ newest_feerate_per_kw l.updates.items)
         × (IsPartOf l.updates.items l.with_receiver)
         × (IsPartOf l.updates.items l.past_receiver)
         × (IsPartOf l.updates.items l.with_sender)
         × (IsPartOf l.updates.items l.settled) };
 }
 
-// The newest fee, after one more update.
-fn fee_after(fee: Option<u32>, update: &Update) -> Option<u32>
-    ensures { result ≡ later_fee fee (fee_of update.now) }
+// The newest feerate, after one more update.
+fn feerate_per_kw_after(feerate_per_kw: Option<u32>, update: &Update) -> Option<u32>
+    ensures { result ≡ later_feerate_per_kw feerate_per_kw (feerate_per_kw_set_by update.now) }
 {
     match update {
-        Update::Fee { rate } => Some(*rate),
-        _ => fee,
+        Update::Fee { feerate_per_kw } => Some(*feerate_per_kw),
+        _ => feerate_per_kw,
     }
 }
 
 const NONE_YET: Part = Part {
     count: 0,
-    fee: None,
+    feerate_per_kw: None,
 };
 
 impl UpdateList {
@@ -77,7 +77,7 @@ impl UpdateList {
     {
         UpdateList {
             updates: Vec::new(alloc),
-            fee: None,
+            feerate_per_kw: None,
             with_receiver: NONE_YET,
             past_receiver: NONE_YET,
             with_sender: NONE_YET,
@@ -91,7 +91,7 @@ impl UpdateList {
     {
         Part {
             count: self.updates.len(),
-            fee: self.fee,
+            feerate_per_kw: self.feerate_per_kw,
         }
     }
 
@@ -140,9 +140,9 @@ impl UpdateList {
         ensures ok { IfOk result (λ _. self.new ≡ with_update update self.old) }
         ensures err { OnErr result (self.new ≡ self.old) }
     {
-        let fee = fee_after(self.fee, &update);
+        let feerate_per_kw = feerate_per_kw_after(self.feerate_per_kw, &update);
         self.updates.push(update)?;
-        self.fee = fee;
+        self.feerate_per_kw = feerate_per_kw;
         Ok(())
     }
 
@@ -152,7 +152,7 @@ impl UpdateList {
     {
         self.with_receiver = Part {
             count: self.updates.len(),
-            fee: self.fee,
+            feerate_per_kw: self.feerate_per_kw,
         };
     }
 

@@ -41,9 +41,9 @@ fn terms(opener: Side) -> Option<Terms> {
 fn htlc(first: u32, id: u32) -> Htlc {
     Htlc {
         id: u64::from(id),
-        amount: 10_000_000 + u64::from(id % 9) * 1000,
+        amount_msat: 10_000_000 + u64::from(id % 9) * 1000,
         hash: sha256(&first.wrapping_add(id).to_le_bytes()),
-        expiry: 500 + id % 7,
+        expiry_height: 500 + id % 7,
     }
 }
 
@@ -60,7 +60,7 @@ fn push_htlcs(htlcs: &mut Vec<Htlc>, first: u32, count: u32) -> bool {
 /// A share with these HTLCs.
 fn share(offered: Vec<Htlc>) -> Share {
     Share {
-        balance: 4_000_000_000_000,
+        balance_msat: 4_000_000_000_000,
         offered: List::from_vec(offered),
     }
 }
@@ -93,7 +93,7 @@ fn show_asked(page: &mut Page, asked: Asked) {
     let view = View {
         a: share(a),
         b: share(b),
-        feerate: 1000,
+        feerate_per_kw: 1000,
     };
     show_times(page, asked, &view);
 }

@@ -31,8 +31,8 @@ pub struct Peers {
 }
 
 /// Opens a channel of this capacity in satoshis, of which A and B have these millisatoshis.
-fn open_with(alloc: Global, capacity: u64, starts: [u64; 2]) -> Option<Peers> {
-    match open_sides(alloc, capacity, starts) {
+fn open_with(alloc: Global, capacity_sat: u64, starts_msat: [u64; 2]) -> Option<Peers> {
+    match open_sides(alloc, capacity_sat, starts_msat) {
         Ok(sides) => Some(Peers {
             terms: sides.terms,
             pair: Pair::new(alloc, sides.a, sides.b),
@@ -144,7 +144,11 @@ fn play_channel(page: &mut Page, opened: Option<Peers>, lines: &str) {
 /// Plays the lines after `open`: the rest of that line has the capacity, if it has any.
 fn play_opened(page: &mut Page, rest: &str, lines: &str) {
     let opened = match rest.trim().parse::<u64>() {
-        Ok(capacity) => open_with(page.alloc(), capacity, [capacity.saturating_mul(500); 2]),
+        Ok(capacity_sat) => open_with(
+            page.alloc(),
+            capacity_sat,
+            [capacity_sat.saturating_mul(500); 2],
+        ),
         Err(_) => open(page.alloc()),
     };
     play_channel(page, opened, lines);

@@ -65,20 +65,20 @@ offered_read r m l p mk lk rl ml ll pl =
     (from_each IsOp (offered r m l p) (tt, (tt, (rv, (tt, (tt, (tt, (tt, (mv, (tt, (tt, (size.valid, (tt, (tt, (tt, (two, (tt, (lv, (two, (tt, (tt, (tt, (pv, (tt, (tt, (tt, (tt, tt)))))))))))))))))))))))))))
     (let short = size.short in simp length-append (omega (arith, short, rl, ml, ll, pl)))
 
-received_read : (r m l p : List ℕ) (expiry : ℕ) → expiry < 2 ^ 32 → is_key m ≡ true → is_key l ≡ true → length r ≡ 20 → length m ≡ 33 → length l ≡ 33 → length p ≡ 20
-    → script_ops (spelling (received r m l p expiry)) ≡ Some (received r m l p expiry)
-received_read r m l p expiry low mk lk rl ml ll pl =
+received_read : (r m l p : List ℕ) (expiry_height : ℕ) → expiry_height < 2 ^ 32 → is_key m ≡ true → is_key l ≡ true → length r ≡ 20 → length m ≡ 33 → length l ≡ 33 → length p ≡ 20
+    → script_ops (spelling (received r m l p expiry_height)) ≡ Some (received r m l p expiry_height)
+received_read r m l p expiry_height low mk lk rl ml ll pl =
     let size = push_is 32 (omega arith) in
-    let height = push_is expiry low in
+    let height = push_is expiry_height low in
     let rv : IsOp (Push r) = omega (arith, rl) in
     let mv : IsOp (Push m) = omega (arith, ml) in
     let lv : IsOp (Push l) = omega (arith, ll) in
     let pv : IsOp (Push p) = omega (arith, pl) in
-    parsed_spelling (received r m l p expiry)
-    (from_each IsOp (received r m l p expiry) (tt, (tt, (rv, (tt, (tt, (tt, (tt, (mv, (tt, (tt, (size.valid, (tt, (tt, (tt, (pv, (tt, (two, (tt, (lv, (two, (tt, (tt, (tt, (height.valid, (tt, (tt, (tt, (tt, (tt, tt))))))))))))))))))))))))))))))
+    parsed_spelling (received r m l p expiry_height)
+    (from_each IsOp (received r m l p expiry_height) (tt, (tt, (rv, (tt, (tt, (tt, (tt, (mv, (tt, (tt, (size.valid, (tt, (tt, (tt, (pv, (tt, (two, (tt, (lv, (two, (tt, (tt, (tt, (height.valid, (tt, (tt, (tt, (tt, (tt, tt))))))))))))))))))))))))))))))
     (let short = size.short in let small = height.short in simp length-append (omega (arith, short, small, rl, ml, ll, pl)))
 
-pub form_read : (k : KeyBytes) (d : Direction) (h : Htlc) → AreKeys k → h.expiry < LOCKTIME_THRESHOLD → IsRead (htlc_form k d h) (htlc_script k d h)
+pub form_read : (k : KeyBytes) (d : Direction) (h : Htlc) → AreKeys k → h.expiry_height < LOCKTIME_THRESHOLD → IsRead (htlc_form k d h) (htlc_script k d h)
 unfolding htlc_script
 form_read k Offered h keys low =
     let rl = length-ripemd160 _ in
@@ -95,6 +95,6 @@ form_read k Received h keys low =
     let ml = key-length k.remote_htlc keys.remote in
     let ll = key-length k.local_htlc keys.local in
     record {
-      ops = received_read (hash160 k.revocation) k.remote_htlc k.local_htlc (ripemd160 h.hash) h.expiry (omega (arith, low)) keys.remote keys.local rl ml ll pl;
-      ways = received-listed (hash160 k.revocation) k.remote_htlc k.local_htlc (ripemd160 h.hash) h.expiry (omega (arith, low)) keys.remote keys.local ml ll rl pl;
+      ops = received_read (hash160 k.revocation) k.remote_htlc k.local_htlc (ripemd160 h.hash) h.expiry_height (omega (arith, low)) keys.remote keys.local rl ml ll pl;
+      ways = received-listed (hash160 k.revocation) k.remote_htlc k.local_htlc (ripemd160 h.hash) h.expiry_height (omega (arith, low)) keys.remote keys.local ml ll rl pl;
     }

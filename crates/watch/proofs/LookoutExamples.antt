@@ -17,7 +17,7 @@ use Rattle.watch.specs.Watching.{Seen, due_by, is_given, nothing_seen}
 use Rattle.watch.specs.Lookouts.{IsSettled, with_learnt, some_is_paid, next_is_paid, changes}
 
 abbrev offered : ℕ → List ℕ → HtlcOutput
-offered index h = record { index = index; direction = Offered; htlc = record { id = 0; amount = 1000000; hash = h; expiry = 500 } }
+offered index h = record { index = index; direction = Offered; htlc = record { id = 0; amount_msat = 1000000; hash = h; expiry_height = 500 } }
 
 -- more preimages are appended
 more : (known : Known) (x y z : List ℕ) → (with_learnt (x ∷ y ∷ []) (record known { preimages = z ∷ [] })).preimages ≡ z ∷ x ∷ y ∷ []

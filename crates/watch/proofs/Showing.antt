@@ -104,7 +104,7 @@ by_item commitments c h t i w x known spends at shown long hashed = by_test (byt
 
     by_test : (b : Bool) → bytes_eq (sha256 x) h.htlc.hash ≡ b → IsLearnt commitments h.htlc.hash t.inputs ⊎ HashCollides h.htlc.hash i
     by_test true e = inl (record { preimage = x; hashed = (bytes_eq-Decides (sha256 x) h.htlc.hash).0 e; learnt = learnt commitments c h t i x known spends of_32 e })
-    by_test false e = inr (record { item = x; shown = of_32; collide = record { apart = λ is. false≢true (sym e ∙ (bytes_eq-Decides (sha256 x) h.htlc.hash).1 is); same = same } })
+    by_test false e = inr (record { item = x; shown = of_32; collide = (λ is. false≢true (sym e ∙ (bytes_eq-Decides (sha256 x) h.htlc.hash).1 is), same) })
 
 along : (commitments : List CommitmentHtlcs) (c : Contents) (h : HtlcOutput) (d : Direction) (t : Transaction) (i : TxIn) (spend : Spend) (p : Path) (items : List (List ℕ)) (script : List ℕ) → Contains commitments (htlcs_in c)
     → SpendsHtlc c h t i → slice_get (htlc_form c.keys d h.htlc).paths (preimage_way d) ≡ Some p → i.witness ≡ items ++ script ∷ [] → Meets spend items p.arity p.facts
@@ -120,7 +120,7 @@ along commitments c h Received t i spend p items script known spends there w m =
 
 pub preimages_are_learnt : PreimagesAreLearnt
 preimages_are_learnt commitments c h t i known spends g =
-    along commitments c h h.direction t i (spend_of t i (htlc_script c.keys h.direction h.htlc) (satoshis_of h.htlc.amount)) g.path g.items (htlc_script c.keys h.direction h.htlc) known spends g.there g.witness g.meets
+    along commitments c h h.direction t i (spend_of t i (htlc_script c.keys h.direction h.htlc) (satoshis_of h.htlc.amount_msat)) g.path g.items (htlc_script c.keys h.direction h.htlc) known spends g.there g.witness g.meets
 
 -- ---- clean runs
 
@@ -160,7 +160,7 @@ module _ (exact : SatisfiedExactly) (c : Contents) (h : HtlcOutput) (t : Transac
   script = htlc_script c.keys h.direction h.htlc
 
   abbrev value : ℕ
-  value = satoshis_of h.htlc.amount
+  value = satoshis_of h.htlc.amount_msat
 
   abbrev form : CheckedScript
   form = htlc_form c.keys h.direction h.htlc
@@ -189,7 +189,7 @@ module _ (exact : SatisfiedExactly) (c : Contents) (h : HtlcOutput) (t : Transac
         script = found;
         shown = shown;
         bytes = λ all. of_last IsBytes (reverse below) found (subst (AllByRecursion IsBytes) shown all);
-        collide = record { apart = λ is. false≢true (sym same ∙ (bytes_eq-Decides found script).1 is); same = e };
+        collide = (λ is. false≢true (sym same ∙ (bytes_eq-Decides found script).1 is), e);
       })
 
   by_hash : (found : List ℕ) (below : List (List ℕ)) (b : Bool) → reverse i.witness ≡ found ∷ below → bytes_eq (sha256 found) (sha256 script) ≡ b
@@ -204,4 +204,4 @@ module _ (exact : SatisfiedExactly) (c : Contents) (h : HtlcOutput) (t : Transac
 pub openers_go : SatisfiedExactly → SpendersGo
 openers_go exact c h t i counted height keys low run =
     by_witness exact c h t i counted height (form_read c.keys h.direction h.htlc keys low) (reverse i.witness) refl
-    (sym (run_is t i (satoshis_of h.htlc.amount) (htlc_script c.keys h.direction h.htlc)) ∙ run)
+    (sym (run_is t i (satoshis_of h.htlc.amount_msat) (htlc_script c.keys h.direction h.htlc)) ∙ run)

@@ -4,17 +4,18 @@ use Rattle.std.specs.List.{AllByRecursion}
 use Rattle.std.proofs.lemmas.List.{reverse-append}
 use Rattle.std.proofs.lemmas.Option.{same_Some}
 use Rattle.sha2.specs.Sha256.{sha256, digest_bytes, hash_after, compress, rounds, schedule, first_words}
+use Rattle.digest.specs.Hash.{Collide}
 use Rattle.tx.specs.declared.input.TxIn.{TxIn}
 use Rattle.commit.specs.declared.outputs.HtlcOutput.{HtlcOutput}
 use Rattle.commit.specs.Outputs.{htlc_script}
 use Rattle.commit.specs.Commitments.{Contents}
 use Rattle.resolve.specs.Preimages.{shown_by_input, if_32, shown_by}
-use Rattle.watch.specs.Showing.{Collide, IsBytes, ScriptCollides, HashCollides}
+use Rattle.watch.specs.Showing.{IsBytes, ScriptCollides, HashCollides}
 
 -- DUP HASH160 and a list of numbers with the same SHA-256, which is no byte string
 twins : Collide sha256 (0x75 ∷ 0x1a9 ∷ []) (0x76 ∷ 0xa9 ∷ [])
 unfolding sha256 digest_bytes hash_after compress rounds schedule first_words
-twins = record { apart = λ e. omega (arith, ap (λ xs. get_or xs 0 0) e); same = refl }
+twins = (λ e. omega (arith, ap (λ xs. get_or xs 0 0) e), refl)
 
 no_bytes : (rest : List ℕ) → IsBytes (0x75 ∷ 0x1a9 ∷ rest) → ⊥
 no_bytes rest all = omega (arith, all.1.0)
@@ -33,7 +34,7 @@ module _ (c : Contents) (h : HtlcOutput) (i : TxIn) where
 
   -- the witness ends with the HTLC's own script
   own_script : (items : List (List ℕ)) → i.witness ≡ items ++ script ∷ [] → ScriptCollides c h i → ⊥
-  own_script items w k = k.collide.apart (sym (last_is k.items k.script) ∙ ap last_in (sym k.shown ∙ w) ∙ last_is items script)
+  own_script items w k = k.collide.0 (sym (last_is k.items k.script) ∙ ap last_in (sym k.shown ∙ w) ∙ last_is items script)
 
   -- the witness is empty
   no_items : i.witness ≡ [] → ScriptCollides c h i → ⊥
@@ -59,7 +60,7 @@ module _ (hash : List ℕ) (i : TxIn) (a x script : List ℕ) where
 
   -- what is shown is the preimage
   the_preimage : i.witness ≡ a ∷ x ∷ script ∷ [] → sha256 x ≡ hash → HashCollides hash i → ⊥
-  the_preimage w hashed k = k.collide.apart (ap sha256 (sym (shown_is (length x == 32) k.item (sym (shows w) ∙ k.shown))) ∙ hashed)
+  the_preimage w hashed k = k.collide.0 (ap sha256 (sym (shown_is (length x == 32) k.item (sym (shows w) ∙ k.shown))) ∙ hashed)
 
   -- the item has another length
   another_length : i.witness ≡ a ∷ x ∷ script ∷ [] → (length x == 32) ≡ false → HashCollides hash i → ⊥

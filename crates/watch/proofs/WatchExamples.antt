@@ -62,7 +62,7 @@ no_number terms i j = (refl, refl)
 -- a preimage of that very HTLC's hash
 module _ (x hash other : List ℕ) where
   abbrev htlc : List ℕ → Htlc
-  htlc h = record { id = 0; amount = 1000000; hash = h; expiry = 500 }
+  htlc h = record { id = 0; amount_msat = 1000000; hash = h; expiry_height = 500 }
 
   abbrev commitment : CommitmentHtlcs
   commitment = record { id = 7 ∷ []; htlcs = record { index = 0; direction = Offered; htlc = htlc hash } ∷ record { index = 2; direction = Offered; htlc = htlc other } ∷ [] }
@@ -90,7 +90,7 @@ module _ (known : Known) (x y hash other a b script : List ℕ) (claims : List C
   with_inputs inputs = record { version = 2; inputs = inputs; outputs = []; lock_time = 0 }
 
   abbrev offered : ℕ → List ℕ → HtlcOutput
-  offered index h = record { index = index; direction = Offered; htlc = record { id = 0; amount = 1000000; hash = h; expiry = 500 } }
+  offered index h = record { index = index; direction = Offered; htlc = record { id = 0; amount_msat = 1000000; hash = h; expiry_height = 500 } }
 
   abbrev two : List CommitmentHtlcs
   two = record { id = 8 ∷ []; htlcs = offered 0 hash ∷ offered 2 other ∷ [] } ∷ []

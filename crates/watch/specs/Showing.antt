@@ -1,7 +1,8 @@
 -- Whoever spends the output of an HTLC by its preimage shows the preimage to the watch.
-use Rattle.std.specs.Prelude.{◌≡◌, ◌≢◌, ℕ, ◌<◌, ◌⊎◌, true, List, [], ◌∷◌, ◌++◌, Some, slice_get, Contains}
+use Rattle.std.specs.Prelude.{◌≡◌, ℕ, ◌<◌, ◌⊎◌, true, List, [], ◌∷◌, ◌++◌, Some, slice_get, Contains}
 use Rattle.std.specs.List.{AllByRecursion}
 use Rattle.sha2.specs.Sha256.{sha256}
+use Rattle.digest.specs.Hash.{Collide}
 use Rattle.digest.specs.Ripemd160.{ripemd160}
 use Rattle.script.specs.declared.limits.TheConstants.{LOCKTIME_THRESHOLD}
 use Rattle.script.specs.Token.{is_key}
@@ -31,11 +32,6 @@ pub record SpendsHtlc (c : Contents) (h : HtlcOutput) (t : Transaction) (i : TxI
   pub input : Contains t.inputs i
   pub outpoint : i.outpoint ≡ record { txid = id_of c; index = h.index }
 
--- two messages have one hash
-pub record Collide (hash : List ℕ → List ℕ) (x y : List ℕ) : Type 0 where
-  pub apart : x ≢ y
-  pub same : hash x ≡ hash y
-
 -- ---- the ways through an HTLC's script
 
 -- its witness takes the path of an index: the items below the script meet that path
@@ -44,7 +40,7 @@ pub record Goes (c : Contents) (h : HtlcOutput) (t : Transaction) (i : TxIn) (in
   pub there : slice_get (htlc_form c.keys h.direction h.htlc).paths index ≡ Some path
   pub items : List (List ℕ)
   pub witness : i.witness ≡ items ++ htlc_script c.keys h.direction h.htlc ∷ []
-  pub meets : Meets (spend_of t i (htlc_script c.keys h.direction h.htlc) (satoshis_of h.htlc.amount)) items path.arity path.facts
+  pub meets : Meets (spend_of t i (htlc_script c.keys h.direction h.htlc) (satoshis_of h.htlc.amount_msat)) items path.arity path.facts
 
 -- the HTLC keys have the form of keys, as those of each commitment of the terms have
 pub record AreKeys (k : KeyBytes) : Type 0 where
@@ -71,7 +67,7 @@ pub record ScriptCollides (c : Contents) (h : HtlcOutput) (i : TxIn) : Type 0 wh
 -- where the output runs clean (BIP 141), the witness takes one of the paths, or it ends with another script with the same SHA-256
 abbrev pub SpendersGo : Type 0
 SpendersGo =
-    (c : Contents) (h : HtlcOutput) (t : Transaction) (i : TxIn) (counted height : ℕ) → AreKeys c.keys → h.htlc.expiry < LOCKTIME_THRESHOLD
+    (c : Contents) (h : HtlcOutput) (t : Transaction) (i : TxIn) (counted height : ℕ) → AreKeys c.keys → h.htlc.expiry_height < LOCKTIME_THRESHOLD
     → run_of t i (tx_output (htlc_output c.keys h.direction h.htlc)) ≡ Some (Clean counted height) → ((index : ℕ) × Goes c h t i index) ⊎ ScriptCollides c h i
 
 -- ---- the preimage

@@ -81,7 +81,7 @@ no_opening : (call : Call) (chs : Channels) → opens_none call ≡ true → is_
 no_opening (calls.Open o) chs none = absurd cc
 no_opening (calls.Step c step) chs none = refl
 no_opening (calls.Sign c) chs none = refl
-no_opening (calls.Revoke c secret point) chs none = refl
+no_opening (calls.Revoke c revocation) chs none = refl
 no_opening (calls.Keep c n claims) chs none = refl
 no_opening (calls.Release c batch) chs none = refl
 no_opening (calls.Close c) chs none = refl
@@ -91,7 +91,7 @@ memory_is : (call : Call) → opens_none call ≡ true → refusal_in (no_memory
 memory_is (calls.Open o) none = absurd cc
 memory_is (calls.Step c step) none = refl
 memory_is (calls.Sign c) none = refl
-memory_is (calls.Revoke c secret point) none = refl
+memory_is (calls.Revoke c revocation) none = refl
 memory_is (calls.Keep c n claims) none = refl
 memory_is (calls.Release c batch) none = refl
 memory_is (calls.Close c) none = refl
@@ -100,7 +100,7 @@ memory_refused : (call : Call) → is_accepted (no_memory_of call) ≡ false
 memory_refused (calls.Open o) = refl
 memory_refused (calls.Step c step) = refl
 memory_refused (calls.Sign c) = refl
-memory_refused (calls.Revoke c secret point) = refl
+memory_refused (calls.Revoke c revocation) = refl
 memory_refused (calls.Keep c n claims) = refl
 memory_refused (calls.Release c batch) = refl
 memory_refused (calls.Close c) = refl
@@ -156,7 +156,7 @@ pub opens_nothing : (call : Call) → opens_none call ≡ true → OpensNone cal
 opens_nothing (calls.Open o) none = absurd cc
 opens_nothing (calls.Step c step) none = λ chs. length-at_index _ c chs
 opens_nothing (calls.Sign c) none = λ chs. length-at_index _ c chs
-opens_nothing (calls.Revoke c secret point) none = λ chs. length-at_index _ c chs
+opens_nothing (calls.Revoke c revocation) none = λ chs. length-at_index _ c chs
 opens_nothing (calls.Keep c n claims) none = λ chs. length-at_index _ c chs
 opens_nothing (calls.Release c batch) none = λ chs. refl
 opens_nothing (calls.Close c) none = λ chs. length-at_index _ c chs

@@ -155,7 +155,7 @@ found_output true o p e = absurd cc
 found_output false o p e = cc
 
 pub funded_by : (seeds : Seeds) (c : ℕ) (plain : ProposedTerms) (o : Output) (r : Option Output) → r ≡ funding_if_within seeds c plain → r ≡ Some o → o ≡ funding_output seeds c plain
-funded_by seeds c plain o r is some = found_output (nat_lt MAX_VALUE plain.capacity) (funding_output seeds c plain) o (sym some ∙ is)
+funded_by seeds c plain o r is some = found_output (nat_lt MAX_VALUE plain.capacity_sat) (funding_output seeds c plain) o (sym some ∙ is)
 
 -- a chain grants it
 pub is_granted : (seeds : Seeds) (c : ℕ) (plain : ProposedTerms) (o : Output) → o ≡ funding_output seeds c plain → is_program o.script ≡ false → ⊥

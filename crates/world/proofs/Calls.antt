@@ -8,12 +8,13 @@ use Rattle.terms.specs.declared.sides.Side.{Side}
 use Rattle.updates.specs.declared.changes.OwnUpdate.{OwnUpdate}
 use Rattle.updates.specs.declared.errors.ChannelError.{ChannelError}
 use Rattle.channel.specs.declared.messages.Message.{Message}
-use Rattle.channel.specs.declared.messages.Message.TheVariants.{Updated, CommitmentSigned, RevokeAndAck}
+use Rattle.updates.specs.declared.messages.PeerStep.TheVariants.{Update as Updated, CommitmentSigned}
+use Rattle.channel.specs.declared.messages.Message.TheVariants.{Step as StepMessage, RevokeAndAck}
 use Rattle.channel.specs.Tokens.{peer_tokens}
 use Rattle.channel.specs.States.{update_of, State, update_refusal, receive_refusal, after_sign, after, answers, signature_message}
 use Rattle.channel.specs.Peers.{Acts, updates, signs, receives}
 use Rattle.book.specs.declared.calls.Step.{Step}
-use Rattle.book.specs.declared.calls.Step.TheVariants.{Own, Updated as UpdatedStep, Signed}
+use Rattle.book.specs.declared.calls.Step.TheVariants.{Own, Peer}
 use Rattle.book.specs.declared.calls.Call.{Call}
 use Rattle.book.specs.declared.calls.Call.TheVariants.{Step as Stepping, Sign, Keep, Release, Close}
 use Rattle.book.specs.declared.calls.Entry.{Entry}
@@ -69,14 +70,14 @@ pub record IsMade (chs : Channels) (c : ℕ) (u : OwnUpdate) (messages : List Me
   pub channel : ChannelBook
   pub there : slice_get chs c ≡ Some channel
   pub taken : update_refusal channel.state (update_of channel.state u) ≡ None
-  pub sent : messages ≡ Updated (update_of channel.state u) ∷ []
+  pub sent : messages ≡ StepMessage (Updated (update_of channel.state u)) ∷ []
 
 pub made_of : (found : Option ChannelBook) (u : OwnUpdate) (chs : Channels) (c : ℕ) (ms : List Message) → slice_get chs c ≡ found
-    → asked NoChannelToStep found (λ ch. unless (λ e. e) (book_step_refusal peer_tokens ch (Own u)) (Updated (update_of ch.state u) ∷ [])) ≡ Ok ms → IsMade chs c u ms
+    → asked NoChannelToStep found (λ ch. unless (λ e. e) (book_step_refusal peer_tokens ch (Own u)) (StepMessage (Updated (update_of ch.state u)) ∷ [])) ≡ Ok ms → IsMade chs c u ms
 made_of None u chs c ms there e = absurd cc
 made_of (Some ch) u chs c ms there e = by (book_step_refusal peer_tokens ch (Own u)) refl e
   where
-    by : (r : Option StepError) → book_step_refusal peer_tokens ch (Own u) ≡ r → unless (λ e. e) r (Updated (update_of ch.state u) ∷ []) ≡ Ok ms → IsMade chs c u ms
+    by : (r : Option StepError) → book_step_refusal peer_tokens ch (Own u) ≡ r → unless (λ e. e) r (StepMessage (Updated (update_of ch.state u)) ∷ []) ≡ Ok ms → IsMade chs c u ms
     by None none e = record { channel = ch; there = there; taken = channel_steps ch (Own u) none; sent = cc }
     by (Some r) some e = absurd cc
 
@@ -172,41 +173,41 @@ rest_is c (x ∷ xs) (y ∷ ys) (p ∷ ps) [] side m rest queue paired = absurd 
 
 -- the call of a message changes the state of its channel as the message does, and has its answers
 call_changes : (m : Message) (c : ℕ) (chs : Channels) → channels_after (call_of c m) chs ≡ at_index (with_state (λ s. after s m)) c chs
-call_changes (Updated u) c chs = refl
-call_changes (CommitmentSigned tokens) c chs = refl
-call_changes (RevokeAndAck secret point) c chs = refl
+call_changes (StepMessage (Updated u)) c chs = refl
+call_changes (StepMessage (CommitmentSigned tokens)) c chs = refl
+call_changes (RevokeAndAck revocation) c chs = refl
 
 -- whether the channel is closed to a message
 abbrev pub is_shut : ChannelBook → Message → Bool
-is_shut x (Updated u) = false
-is_shut x (CommitmentSigned tokens) = is_closed x
-is_shut x (RevokeAndAck secret point) = false
+is_shut x (StepMessage (Updated u)) = false
+is_shut x (StepMessage (CommitmentSigned tokens)) = is_closed x
+is_shut x (RevokeAndAck revocation) = false
 
 -- the book's reply where the channel takes the message
 answer_is : (m : Message) (c : ℕ) (chs : Channels) (x : ChannelBook) → slice_get chs c ≡ Some x → is_shut x m ≡ false → receive_refusal peer_tokens x.state m ≡ None
     → messages_in (answer_of peer_tokens chs (call_of c m)) ≡ answers x.state m
-answer_is (Updated u) c chs x here free none = rw (here, and-false (is_closed x), none) refl
-answer_is (CommitmentSigned tokens) c chs x here free none = rw (here, free, none) refl
-answer_is (RevokeAndAck secret point) c chs x here free none = refl
+answer_is (StepMessage (Updated u)) c chs x here free none = rw (here, and-false (is_closed x), none) refl
+answer_is (StepMessage (CommitmentSigned tokens)) c chs x here free none = rw (here, free, none) refl
+answer_is (RevokeAndAck revocation) c chs x here free none = refl
 
 pub taken_is : (m : Message) (c : ℕ) (chs : Channels) (x : ChannelBook) → slice_get chs c ≡ Some x → is_shut x m ≡ false → receive_refusal peer_tokens x.state m ≡ None
     → is_accepted (answer_of peer_tokens chs (call_of c m)) ≡ true
-taken_is (Updated u) c chs x here free none = rw (here, and-false (is_closed x), none) refl
-taken_is (CommitmentSigned tokens) c chs x here free none = rw (here, free, none) refl
-taken_is (RevokeAndAck secret point) c chs x here free none = rw (here, none) refl
+taken_is (StepMessage (Updated u)) c chs x here free none = rw (here, and-false (is_closed x), none) refl
+taken_is (StepMessage (CommitmentSigned tokens)) c chs x here free none = rw (here, free, none) refl
+taken_is (RevokeAndAck revocation) c chs x here free none = rw (here, none) refl
 
 -- a message to which the channel is closed is a signature
 pub shut_out : (m : Message) (o : Option ChannelBook) (x : ChannelBook) → o ≡ Some x → is_shut x m ≡ true → IsShutOut o m
-shut_out (Updated u) o x there shut = absurd cc
-shut_out (CommitmentSigned tokens) o x there shut = record { ch = x; tokens = tokens; there = there; closed = shut; signature = refl }
-shut_out (RevokeAndAck secret point) o x there shut = absurd cc
+shut_out (StepMessage (Updated u)) o x there shut = absurd cc
+shut_out (StepMessage (CommitmentSigned tokens)) o x there shut = record { ch = x; tokens = tokens; there = there; closed = shut; signature = refl }
+shut_out (RevokeAndAck revocation) o x there shut = absurd cc
 
 -- and the book refuses it
 pub shut_is : (m : Message) (c : ℕ) (chs : Channels) → IsShutOut (slice_get chs c) m → answer_of peer_tokens chs (call_of c m) ≡ stepped (Err ClosedToSteps)
 shut_is m c chs s =
     ap (λ (k : Message). answer_of peer_tokens chs (call_of c k)) s.signature
-    ∙ ap (λ (o : Option ChannelBook). stepped (asked NoChannelToStep o (λ ch. unless (λ e. e) (book_step_refusal peer_tokens ch (Signed s.tokens)) (answers ch.state (CommitmentSigned s.tokens))))) s.there
-    ∙ ap (λ (b : Bool). stepped (unless (λ e. e) (if_so (b && true) ClosedToSteps (option_map Refused (receive_refusal peer_tokens s.ch.state (CommitmentSigned s.tokens)))) (answers s.ch.state (CommitmentSigned s.tokens)))) s.closed
+    ∙ ap (λ (o : Option ChannelBook). stepped (asked NoChannelToStep o (λ ch. unless (λ e. e) (book_step_refusal peer_tokens ch (Peer (CommitmentSigned s.tokens))) (answers ch.state (StepMessage (CommitmentSigned s.tokens)))))) s.there
+    ∙ ap (λ (b : Bool). stepped (unless (λ e. e) (if_so (b && true) ClosedToSteps (option_map Refused (receive_refusal peer_tokens s.ch.state (StepMessage (CommitmentSigned s.tokens))))) (answers s.ch.state (StepMessage (CommitmentSigned s.tokens))))) s.closed
 
 step_taken : (chs : Channels) (c : ℕ) (x : ChannelBook) (step : Step) → slice_get chs c ≡ Some x → is_accepted (answer_of peer_tokens chs (Stepping c step)) ≡ true
     → is_ok (unless (λ e. e) (book_step_refusal peer_tokens x step) (messages_of x.state step)) ≡ true
@@ -225,15 +226,15 @@ revocation_passed (Some r) n ok = absurd cc
 -- the channel takes what the book takes
 pub channel_takes : (m : Message) (c : ℕ) (chs : Channels) (x : ChannelBook) → slice_get chs c ≡ Some x → is_accepted (answer_of peer_tokens chs (call_of c m)) ≡ true
     → (is_shut x m ≡ false) × (receive_refusal peer_tokens x.state m ≡ None)
-channel_takes (Updated u) c chs x here ok =
-    (refl, (passed (is_closed x && false) (receive_refusal peer_tokens x.state (Updated u)) (answers x.state (Updated u)) (step_taken chs c x (UpdatedStep u) here ok)).1)
-channel_takes (CommitmentSigned tokens) c chs x here ok =
-    let p = passed (is_closed x && true) (receive_refusal peer_tokens x.state (CommitmentSigned tokens)) (answers x.state (CommitmentSigned tokens)) (step_taken chs c x (Signed tokens) here ok) in
+channel_takes (StepMessage (Updated u)) c chs x here ok =
+    (refl, (passed (is_closed x && false) (receive_refusal peer_tokens x.state (StepMessage (Updated u))) (answers x.state (StepMessage (Updated u))) (step_taken chs c x (Peer (Updated u)) here ok)).1)
+channel_takes (StepMessage (CommitmentSigned tokens)) c chs x here ok =
+    let p = passed (is_closed x && true) (receive_refusal peer_tokens x.state (StepMessage (CommitmentSigned tokens))) (answers x.state (StepMessage (CommitmentSigned tokens))) (step_taken chs c x (Peer (CommitmentSigned tokens)) here ok) in
     (sym (and-true (is_closed x)) ∙ p.0, p.1)
-channel_takes (RevokeAndAck secret point) c chs x here ok = (
+channel_takes (RevokeAndAck revocation) c chs x here ok = (
   refl,
-  revocation_passed (receive_refusal peer_tokens x.state (RevokeAndAck secret point)) (length x.state.secrets)
-      (sym (ap (λ (o : Option ChannelBook). is_ok (asked NoChannelToStep o (λ k. unless Refused (receive_refusal peer_tokens k.state (RevokeAndAck secret point)) (length k.state.secrets)))) here) ∙ ok),
+  revocation_passed (receive_refusal peer_tokens x.state (RevokeAndAck revocation)) (length x.state.secrets)
+      (sym (ap (λ (o : Option ChannelBook). is_ok (asked NoChannelToStep o (λ k. unless Refused (receive_refusal peer_tokens k.state (RevokeAndAck revocation)) (length k.state.secrets)))) here) ∙ ok),
 )
 
 -- the oldest message was delivered, and its answer is on its way

@@ -9,11 +9,12 @@ use Rattle.terms.specs.declared.sides.Side.TheVariants.{A, B}
 use Rattle.terms.specs.Sides.{other}
 use Rattle.keys.specs.declared.compressed.Key.{Key}
 use Rattle.channel.specs.declared.messages.Message.{Message}
-use Rattle.channel.specs.declared.messages.Message.TheVariants.{Updated as UpdatedMessage, CommitmentSigned, RevokeAndAck}
+use Rattle.updates.specs.declared.messages.PeerStep.TheVariants.{Update as Updated, CommitmentSigned}
+use Rattle.channel.specs.declared.messages.Message.TheVariants.{Step as StepMessage, RevokeAndAck}
 use Rattle.channel.specs.States.{State, after_sign, after}
 use Rattle.channel.specs.Tokens.{peer_tokens}
 use Rattle.book.specs.declared.calls.Step.{Step}
-use Rattle.book.specs.declared.calls.Step.TheVariants.{Own, Updated, Signed}
+use Rattle.book.specs.declared.calls.Step.TheVariants.{Own, Peer}
 use Rattle.book.specs.declared.calls.Call.{Call}
 use Rattle.book.specs.declared.calls.Call.TheVariants as calls
 use Rattle.book.specs.declared.calls.Entry.{Entry}
@@ -56,13 +57,13 @@ unchanged s = record { terms = refl; side = refl; mine = stay s.mine; signed = s
 
 step_grew : (step : Step) (s : State) → Grew s (stepped step s)
 step_grew (Own u) s = record { terms = refl; side = refl; mine = stay s.mine; signed = stay s.signed; secrets = stay s.secrets }
-step_grew (Updated u) s = record { terms = refl; side = refl; mine = stay s.mine; signed = stay s.signed; secrets = stay s.secrets }
-step_grew (Signed tokens) s = record { terms = refl; side = refl; mine = before_last s.mine _; signed = stay s.signed; secrets = stay s.secrets }
+step_grew (Peer (Updated u)) s = record { terms = refl; side = refl; mine = stay s.mine; signed = stay s.signed; secrets = stay s.secrets }
+step_grew (Peer (CommitmentSigned tokens)) s = record { terms = refl; side = refl; mine = before_last s.mine _; signed = stay s.signed; secrets = stay s.secrets }
 
 sign_grew : (s : State) → Grew s (after_sign s)
 sign_grew s = record { terms = refl; side = refl; mine = stay s.mine; signed = before_last s.signed _; secrets = stay s.secrets }
 
-revoke_grew : (secret : List ℕ) (point : Key) (s : State) → Grew s (after s (RevokeAndAck secret point))
+revoke_grew : (secret : List ℕ) (point : Key) (s : State) → Grew s (after s (RevokeAndAck (record { secret = secret; next_point = point })))
 revoke_grew secret point s = record { terms = refl; side = refl; mine = stay s.mine; signed = stay s.signed; secrets = before_last s.secrets secret }
 
 -- ---- the channels after a call
@@ -107,7 +108,7 @@ pub call_later : (call : Call) (c : ℕ) (chs : Channels) (ch : ChannelBook) →
 call_later (calls.Open o) c chs ch at = same_later c (channels_after (calls.Open o) chs) ch (before_last chs _ c ch at)
 call_later (calls.Step d step) c chs ch at = changed_later (with_state (stepped step)) (λ x. step_grew step x.state) d c chs ch at
 call_later (calls.Sign d) c chs ch at = changed_later (with_state after_sign) (λ x. sign_grew x.state) d c chs ch at
-call_later (calls.Revoke d secret point) c chs ch at = changed_later (with_state (λ s. after s (RevokeAndAck secret point))) (λ x. revoke_grew secret point x.state) d c chs ch at
+call_later (calls.Revoke d revocation) c chs ch at = changed_later (with_state (λ s. after s (RevokeAndAck revocation))) (λ x. revoke_grew revocation.secret revocation.next_point x.state) d c chs ch at
 call_later (calls.Keep d n claims) c chs ch at = changed_later (with_kept n) (λ x. unchanged x.state) d c chs ch at
 call_later (calls.Release d batch) c chs ch at = same_later c chs ch at
 call_later (calls.Close d) c chs ch at = changed_later with_closed (λ x. unchanged x.state) d c chs ch at
@@ -116,7 +117,7 @@ pub call_there : (call : Call) (c : ℕ) (chs : Channels) (ch : ChannelBook) →
 call_there (calls.Open o) c chs ch none at = absurd cc
 call_there (calls.Step d step) c chs ch none at = changed_there (with_state (stepped step)) (λ x. step_grew step x.state) d c chs ch at
 call_there (calls.Sign d) c chs ch none at = changed_there (with_state after_sign) (λ x. sign_grew x.state) d c chs ch at
-call_there (calls.Revoke d secret point) c chs ch none at = changed_there (with_state (λ s. after s (RevokeAndAck secret point))) (λ x. revoke_grew secret point x.state) d c chs ch at
+call_there (calls.Revoke d revocation) c chs ch none at = changed_there (with_state (λ s. after s (RevokeAndAck revocation))) (λ x. revoke_grew revocation.secret revocation.next_point x.state) d c chs ch at
 call_there (calls.Keep d n claims) c chs ch none at = changed_there (with_kept n) (λ x. unchanged x.state) d c chs ch at
 call_there (calls.Release d batch) c chs ch none at = same_there c chs ch at
 call_there (calls.Close d) c chs ch none at = changed_there with_closed (λ x. unchanged x.state) d c chs ch at
@@ -189,9 +190,9 @@ both_later B n peer w g h B = g
 
 -- the calls of events open no channel
 pub message_opens_none : (c : ℕ) (m : Message) → opens_none (call_of c m) ≡ true
-message_opens_none c (UpdatedMessage u) = refl
-message_opens_none c (CommitmentSigned tokens) = refl
-message_opens_none c (RevokeAndAck secret point) = refl
+message_opens_none c (StepMessage (Updated u)) = refl
+message_opens_none c (StepMessage (CommitmentSigned tokens)) = refl
+message_opens_none c (RevokeAndAck revocation) = refl
 
 delivered_grown : (c : ℕ) (o : Result Message EventError) (me : Node) → IsGrown me.history (delivered c o me).history
 delivered_grown c (Ok m) me = called_grown me (call_of c m) (message_opens_none c m)

@@ -7,7 +7,8 @@ use Rattle.terms.specs.declared.sides.Side.TheVariants.{A}
 use Rattle.terms.specs.Sides.{other}
 use Rattle.scenario.specs.declared.events.Event.{Event}
 use Rattle.channel.specs.declared.messages.Message.{Message}
-use Rattle.channel.specs.declared.messages.Message.TheVariants.{Updated, CommitmentSigned, RevokeAndAck}
+use Rattle.updates.specs.declared.messages.PeerStep.TheVariants.{Update as Updated, CommitmentSigned}
+use Rattle.channel.specs.declared.messages.Message.TheVariants.{Step as StepMessage, RevokeAndAck}
 use Rattle.channel.specs.Tokens.{peer_tokens}
 use Rattle.tx.specs.Fields.{Transaction}
 use Rattle.book.specs.declared.calls.Call.{Call}
@@ -56,9 +57,9 @@ revoked_is (Err e) none = absurd (none-some _ (sym none))
 
 -- a message that nothing refuses is taken
 pub is_taken : (m : Message) (c : ℕ) (history : List Entry) → refusal_in (reply_of peer_tokens history (call_of c m)) ≡ None → is_accepted (reply_of peer_tokens history (call_of c m)) ≡ true
-is_taken (Updated u) c history none = stepped_is _ none
-is_taken (CommitmentSigned tokens) c history none = stepped_is _ none
-is_taken (RevokeAndAck secret point) c history none = revoked_is _ none
+is_taken (StepMessage (Updated u)) c history none = stepped_is _ none
+is_taken (StepMessage (CommitmentSigned tokens)) c history none = stepped_is _ none
+is_taken (RevokeAndAck revocation) c history none = revoked_is _ none
 
 -- ---- calls
 

@@ -16,10 +16,10 @@ use Rattle.world.specs.Opening.{seed_in, AreTermsOf, HaveKeys}
 
 -- if the base keys are those of the two signers, so are those of the terms
 pub are_terms : (seeds : Seeds) (c : ℕ) (o : OutPoint) (p : ProposedTerms) (r : Option Terms) (a b : BaseKeys) → a ≡ bases_of (seed_in seeds c A) → b ≡ bases_of (seed_in seeds c B)
-    → IfSome r (λ t. HasFields t o p.capacity p.opener p.feerate (party_of p.a a) (party_of p.b b)) → IfSome r (AreTermsOf seeds c o p)
+    → IfSome r (λ t. HasFields t o p.capacity_sat p.opener p.feerate_per_kw (party_of p.a a) (party_of p.b b)) → IfSome r (AreTermsOf seeds c o p)
 are_terms seeds c o p r a b ea eb fields =
-    subst (λ (x : BaseKeys). IfSome r (λ t. HasFields t o p.capacity p.opener p.feerate (party_of p.a x) (party_of p.b (bases_of (seed_in seeds c B))))) ea
-    (subst (λ (x : BaseKeys). IfSome r (λ t. HasFields t o p.capacity p.opener p.feerate (party_of p.a a) (party_of p.b x))) eb fields)
+    subst (λ (x : BaseKeys). IfSome r (λ t. HasFields t o p.capacity_sat p.opener p.feerate_per_kw (party_of p.a x) (party_of p.b (bases_of (seed_in seeds c B))))) ea
+    (subst (λ (x : BaseKeys). IfSome r (λ t. HasFields t o p.capacity_sat p.opener p.feerate_per_kw (party_of p.a a) (party_of p.b x))) eb fields)
 
 keyed : (seeds : Seeds) (c : ℕ) (o : OutPoint) (p : ProposedTerms) (t : Terms) → AreTermsOf seeds c o p t → HaveKeys seeds c t
 keyed seeds c o p t h A = subst (λ (x : Party). IsSeedOf (seed_in seeds c A) x.bases) (sym h.a_is) (are_seeds (seed_in seeds c A))

@@ -61,11 +61,11 @@ made true big o h = refl
 made false big o h = rw (h) refl
 
 pub funded : (seeds : Seeds) (c : ℕ) (p : ProposedTerms) (script : List ℕ) → script ≡ (funding_output seeds c p).script
-    → result_ok (if nat_lt MAX_VALUE p.capacity then Err ValueTooLarge else if nat_lt MAX_BYTES (length script) then Err OverLimit else Ok (record { value = p.capacity; script = script }))
+    → result_ok (if nat_lt MAX_VALUE p.capacity_sat then Err ValueTooLarge else if nat_lt MAX_BYTES (length script) then Err OverLimit else Ok (record { value = p.capacity_sat; script = script }))
     ≡ funding_if_within seeds c p
 funded seeds c p script e =
-    ap (λ (s : List ℕ). result_ok (if nat_lt MAX_VALUE p.capacity then Err ValueTooLarge else if nat_lt MAX_BYTES (length s) then Err OverLimit else Ok (record { value = p.capacity; script = s }))) e
-    ∙ made (nat_lt MAX_VALUE p.capacity) (nat_lt MAX_BYTES (length (funding_output seeds c p).script)) (funding_output seeds c p) (short _)
+    ap (λ (s : List ℕ). result_ok (if nat_lt MAX_VALUE p.capacity_sat then Err ValueTooLarge else if nat_lt MAX_BYTES (length s) then Err OverLimit else Ok (record { value = p.capacity_sat; script = s }))) e
+    ∙ made (nat_lt MAX_VALUE p.capacity_sat) (nat_lt MAX_BYTES (length (funding_output seeds c p).script)) (funding_output seeds c p) (short _)
 
 -- ---- both sides
 

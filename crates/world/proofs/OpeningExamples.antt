@@ -19,7 +19,7 @@ far = refl
 -- 21,000,000 bitcoins are funded; one satoshi more is not
 module _ (seeds : Seeds) (channel : ℕ) (a b : ProposedParty) where
   abbrev terms : ℕ → ProposedTerms
-  terms capacity = record { capacity = capacity; opener = A; feerate = 1000; a = a; b = b }
+  terms capacity_sat = record { capacity_sat = capacity_sat; opener = A; feerate_per_kw = 1000; a = a; b = b }
 
   limit : (funding_if_within seeds channel (terms 2100000000000000) ≡ Some (funding_output seeds channel (terms 2100000000000000)))
       × (funding_if_within seeds channel (terms 2100000000000001) ≡ None)

@@ -15,7 +15,8 @@ use Rattle.updates.proofs.Accepting.{AllPass, all_pass}
 use Rattle.channel.specs.declared.limits.TheConstants.{LAST_NUMBER}
 use Rattle.channel.specs.declared.commitments.CommitmentState.{CommitmentState}
 use Rattle.channel.specs.declared.messages.Message.{Message}
-use Rattle.channel.specs.declared.messages.Message.TheVariants.{Updated, CommitmentSigned, RevokeAndAck}
+use Rattle.updates.specs.declared.messages.PeerStep.TheVariants.{Update as Updated, CommitmentSigned}
+use Rattle.channel.specs.declared.messages.Message.TheVariants.{Step as StepMessage, RevokeAndAck}
 use Rattle.channel.specs.States.{Signing, State, state_at_opening, sign_tests, receive_tests, receive_refusal, peers_next, after_update, after_sign, after}
 use Rattle.channel.specs.Peers.{World as Pair, Acts, updates, signs, receives, Steps, by_a, by_b, IsReached, at_opening, then, IsLived, starts, updated_once, signed_once, received_once}
 use Rattle.channel.specs.Keeping.{one_if}
@@ -67,8 +68,8 @@ newest_there s r =
     ap (λ (cs : List CommitmentState). slice_get cs s.peer_number) r.signed ∙ ap (λ n. slice_get (r.past ++ peers_newest s ∷ peers_signed s s.awaiting) n) (sym r.past_count)
     ∙ in_the_middle r.past (peers_newest s) (peers_signed s s.awaiting)
 
-limited_revoked : (tokens_of : Signing) (s : State) (secret : List ℕ) (point : Key) → AllPass (receive_tests tokens_of s (RevokeAndAck secret point)) → IsRecorded s → IsLimited s
-    → IsLimited (after s (RevokeAndAck secret point))
+limited_revoked : (tokens_of : Signing) (s : State) (secret : List ℕ) (point : Key) → AllPass (receive_tests tokens_of s (RevokeAndAck (record { secret = secret; next_point = point }))) → IsRecorded s → IsLimited s
+    → IsLimited (after s (RevokeAndAck (record { secret = secret; next_point = point })))
 limited_revoked tokens_of s secret point (t1, (t2, t3)) r l =
     let awaits = not-false s.awaiting t1 in
     let same : point_of secret ≡ s.point.bytes = (bytes_eq-Decides (point_of secret) s.point.bytes).0 (not-false (bytes_eq (point_of secret) s.point.bytes) t2) in
@@ -77,7 +78,7 @@ limited_revoked tokens_of s secret point (t1, (t2, t3)) r l =
     let count = l.count in
     record {
       reveals = λ n x e.
-          ⊎_elim {C = Reveals (after s (RevokeAndAck secret point)) n x}
+          ⊎_elim {C = Reveals (after s (RevokeAndAck (record { secret = secret; next_point = point }))) n x}
           (λ (h : slice_get s.secrets n ≡ Some x). let was = l.reveals n x h in record { commitment = was.commitment; signed = was.signed; point = was.point })
           (λ (h : (n ≡ length s.secrets) × (secret ≡ x)).
           let at : n ≡ s.peer_number = h.0 ∙ l.count in
@@ -88,10 +89,10 @@ limited_revoked tokens_of s secret point (t1, (t2, t3)) r l =
     }
 
 limited_after : (tokens_of : Signing) (s : State) (m : Message) → receive_refusal tokens_of s m ≡ None → IsRecorded s → IsLimited s → IsLimited (after s m)
-limited_after tokens_of s (Updated u) e r l = record { reveals = λ n secret e. let x = l.reveals n secret e in record { commitment = x.commitment; signed = x.signed; point = x.point }; count = l.count; bound = l.bound }
-limited_after tokens_of s (CommitmentSigned tokens) e r l =
+limited_after tokens_of s (StepMessage (Updated u)) e r l = record { reveals = λ n secret e. let x = l.reveals n secret e in record { commitment = x.commitment; signed = x.signed; point = x.point }; count = l.count; bound = l.bound }
+limited_after tokens_of s (StepMessage (CommitmentSigned tokens)) e r l =
     record { reveals = λ n secret e. let x = l.reveals n secret e in record { commitment = x.commitment; signed = x.signed; point = x.point }; count = l.count; bound = l.bound }
-limited_after tokens_of s (RevokeAndAck secret point) e r l = limited_revoked tokens_of s secret point (all_pass (receive_tests tokens_of s (RevokeAndAck secret point)) e) r l
+limited_after tokens_of s (RevokeAndAck revocation) e r l = limited_revoked tokens_of s revocation.secret revocation.next_point (all_pass (receive_tests tokens_of s (RevokeAndAck revocation)) e) r l
 
 pub limited : SidesRecord → (tokens_of : Signing) (s : State) → IsLived tokens_of s → IsLimited s
 limited records tokens_of s (starts terms side seed point next_point) = limited_opened terms side seed point next_point
@@ -102,9 +103,9 @@ limited records tokens_of s (received_once {s = r} m e l) = limited_after tokens
 -- ---- which side is which
 
 side_after : (s : State) (m : Message) → (after s m).held.side ≡ s.held.side
-side_after s (Updated u) = refl
-side_after s (CommitmentSigned tokens) = refl
-side_after s (RevokeAndAck secret point) = refl
+side_after s (StepMessage (Updated u)) = refl
+side_after s (StepMessage (CommitmentSigned tokens)) = refl
+side_after s (RevokeAndAck revocation) = refl
 
 side_act : (tokens_of : Signing) (me new : State) (queue sent rest : List Message) → Acts tokens_of me queue new sent rest → new.held.side ≡ me.held.side
 side_act tokens_of me new queue sent rest (updates u none) = refl

@@ -4,7 +4,8 @@ use Rattle.std.specs.Prelude.{slice_get, nat_le}
 use Rattle.std.proofs.lemmas.Bool.Decides.{nat_tests}
 use Rattle.std.proofs.lemmas.Option.{none-some, same_Some}
 use Rattle.channel.specs.declared.messages.Message.{Message}
-use Rattle.channel.specs.declared.messages.Message.TheVariants.{Updated, CommitmentSigned, RevokeAndAck}
+use Rattle.updates.specs.declared.messages.PeerStep.TheVariants.{Update as Updated, CommitmentSigned}
+use Rattle.channel.specs.declared.messages.Message.TheVariants.{Step as StepMessage, RevokeAndAck}
 use Rattle.book.specs.declared.calls.Call.{Call}
 use Rattle.book.specs.Books.{at_index}
 use Rattle.book.specs.Replies.{if_so}
@@ -40,9 +41,9 @@ not_past n c within = grind (arith, nat_tests)
 
 -- the call that takes it opens no channel
 opens_no_channel : (c : ℕ) (m : Message) → opens_none (call_of c m) ≡ true
-opens_no_channel c (Updated u) = refl
-opens_no_channel c (CommitmentSigned tokens) = refl
-opens_no_channel c (RevokeAndAck secret point) = refl
+opens_no_channel c (StepMessage (Updated u)) = refl
+opens_no_channel c (StepMessage (CommitmentSigned tokens)) = refl
+opens_no_channel c (RevokeAndAck revocation) = refl
 
 pub takes_message : (c : ℕ) (oldest : Result Message EventError) (call : Call) → TakesOldest c oldest call → opens_none call ≡ true
 takes_message c (Ok m) call is = ap opens_none is ∙ opens_no_channel c m

@@ -25,7 +25,8 @@ use Rattle.penalty.specs.Sets.{claimed_by}
 use Rattle.resolve.specs.Due.{owners_due, peers_due}
 use Rattle.channel.specs.declared.commitments.CommitmentState.{CommitmentState}
 use Rattle.channel.specs.declared.messages.Message.{Message}
-use Rattle.channel.specs.declared.messages.Message.TheVariants.{Updated, CommitmentSigned, RevokeAndAck}
+use Rattle.updates.specs.declared.messages.PeerStep.TheVariants.{Update as Updated, CommitmentSigned}
+use Rattle.channel.specs.declared.messages.Message.TheVariants.{Step as StepMessage, RevokeAndAck}
 use Rattle.channel.specs.Tokens.{contents_of, peer_tokens}
 use Rattle.channel.specs.States.{State}
 use Rattle.book.specs.declared.calls.Batch.{Batch}
@@ -149,13 +150,13 @@ keep_due history c n claims d batch e = absurd cc
 close_due : (history : List Entry) (c : ℕ) → ReleasesDue history (calls.Close c)
 close_due history c d batch e = absurd cc
 
-revoke_due : (history : List Entry) (c : ℕ) (secret : List ℕ) (point : Key) → ReleasesDue history (calls.Revoke c secret point)
+revoke_due : (history : List Entry) (c : ℕ) (secret : List ℕ) (point : Key) → ReleasesDue history (calls.Revoke c (record { secret = secret; next_point = point }))
 revoke_due history c secret point d batch e = absurd cc
 
 message_due : (history : List Entry) (c : ℕ) (m : Message) → ReleasesDue history (call_of c m)
-message_due history c (Updated u) = step_due history c _
-message_due history c (CommitmentSigned tokens) = step_due history c _
-message_due history c (RevokeAndAck secret point) = revoke_due history c secret point
+message_due history c (StepMessage (Updated u)) = step_due history c _
+message_due history c (StepMessage (CommitmentSigned tokens)) = step_due history c _
+message_due history c (RevokeAndAck revocation) = revoke_due history c revocation.secret revocation.next_point
 
 delivered_side : (c : ℕ) (o : Result Message EventError) (me : Node) → IsSide me → IsSide (delivered c o me)
 delivered_side c (Err e) me is = is

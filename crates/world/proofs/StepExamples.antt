@@ -7,8 +7,9 @@ use Rattle.keys.specs.declared.compressed.Key.{Key}
 use Rattle.claim.specs.Claims.{ClaimParts}
 use Rattle.publish.specs.Published.{signed_transaction}
 use Rattle.channel.specs.declared.messages.Message.{Message}
-use Rattle.channel.specs.declared.messages.Message.TheVariants.{Updated, CommitmentSigned, RevokeAndAck}
-use Rattle.channel.specs.declared.messages.Tokens.{Tokens}
+use Rattle.updates.specs.declared.messages.PeerStep.TheVariants.{Update as Updated, CommitmentSigned}
+use Rattle.channel.specs.declared.messages.Message.TheVariants.{Step as StepMessage, RevokeAndAck}
+use Rattle.updates.specs.declared.messages.Tokens.{Tokens}
 use Rattle.channel.specs.Points.{point_at}
 use Rattle.channel.specs.Tokens.{contents_of, peer_tokens}
 use Rattle.channel.specs.States.{State, first_of, update_refusal, receive_refusal}
@@ -47,11 +48,11 @@ world_numbers = refl
 -- terms of 1 satoshi, of which side A has 999 millisatoshis and side B has b
 abbrev terms_with : ℕ → ProposedTerms
 terms_with b = record {
-  capacity = 1;
+  capacity_sat = 1;
   opener = A;
-  feerate = 6;
-  a = record { dust = 4; delay = 2; minimum = 7; start = 999 };
-  b = record { dust = 5; delay = 3; minimum = 8; start = b };
+  feerate_per_kw = 6;
+  a = record { dust_sat = 4; delay_blocks = 2; minimum_msat = 7; start_msat = 999 };
+  b = record { dust_sat = 5; delay_blocks = 3; minimum_msat = 8; start_msat = b };
 }
 
 -- 8 channels and 9; the limit is tested before terms, and the first bad terms are named
@@ -239,16 +240,16 @@ module _ (s : State) (kept : List ℕ) (n : ℕ) (history peers : List Entry) (l
   fulfils : (preimage : List ℕ) → slice_get (replay history) 1 ≡ Some was_shut → update_refusal s (Fulfilling 6 preimage) ≡ None → refusal_of (hearing []) (events.Own B 1 (Fulfil 6 preimage)) ≡ None
   fulfils preimage there none = rw (there, none) refl
 
-  hears : (u : Update) → slice_get (replay history) 1 ≡ Some was_shut → receive_refusal peer_tokens s (Updated u) ≡ None → refusal_of (hearing (Updated u ∷ m ∷ [])) (events.Deliver B 1) ≡ None
+  hears : (u : Update) → slice_get (replay history) 1 ≡ Some was_shut → receive_refusal peer_tokens s (StepMessage (Updated u)) ≡ None → refusal_of (hearing (StepMessage (Updated u) ∷ m ∷ [])) (events.Deliver B 1) ≡ None
   hears u there none = rw (there, none) refl
 
-  learns : (secret : List ℕ) (point : Key) → slice_get (replay history) 1 ≡ Some was_shut → receive_refusal peer_tokens s (RevokeAndAck secret point) ≡ None
-      → refusal_of (hearing (RevokeAndAck secret point ∷ m ∷ [])) (events.Deliver B 1) ≡ None
+  learns : (secret : List ℕ) (point : Key) → slice_get (replay history) 1 ≡ Some was_shut → receive_refusal peer_tokens s (RevokeAndAck (record { secret = secret; next_point = point })) ≡ None
+      → refusal_of (hearing (RevokeAndAck (record { secret = secret; next_point = point }) ∷ m ∷ [])) (events.Deliver B 1) ≡ None
   learns secret point there none = rw (there, none) refl
 
   -- a signature is not taken, and stays the oldest message
-  stays : (tokens : Tokens) → slice_get (replay history) 1 ≡ Some was_shut → WorldSteps (hearing (CommitmentSigned tokens ∷ m ∷ [])) (events.Deliver B 1) (hearing (CommitmentSigned tokens ∷ m ∷ [])) (Refused ChannelClosed)
+  stays : (tokens : Tokens) → slice_get (replay history) 1 ≡ Some was_shut → WorldSteps (hearing (StepMessage (CommitmentSigned tokens) ∷ m ∷ [])) (events.Deliver B 1) (hearing (StepMessage (CommitmentSigned tokens) ∷ m ∷ [])) (Refused ChannelClosed)
   stays tokens there = refuses (rw there refl)
 
-  shut_out : (tokens : Tokens) → slice_get (replay history) 1 ≡ Some was_shut → ShutsOut (hearing (CommitmentSigned tokens ∷ m ∷ [])).b 1
-  shut_out tokens there = record { m = CommitmentSigned tokens; rest = m ∷ []; oldest = refl; shut = record { ch = was_shut; tokens = tokens; there = there; closed = refl; signature = refl } }
+  shut_out : (tokens : Tokens) → slice_get (replay history) 1 ≡ Some was_shut → ShutsOut (hearing (StepMessage (CommitmentSigned tokens) ∷ m ∷ [])).b 1
+  shut_out tokens there = record { m = StepMessage (CommitmentSigned tokens); rest = m ∷ []; oldest = refl; shut = record { ch = was_shut; tokens = tokens; there = there; closed = refl; signature = refl } }

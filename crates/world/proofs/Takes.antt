@@ -63,8 +63,8 @@ on_chain blocks height t stands = in_block blocks stands.block t (reversed_in bl
 
 -- ---- strings
 
-abbrev Collision : World → Type 0
-Collision w = StringsCollide (IsHashedIn w) (IsHashedIn w)
+abbrev WorldCollides : World → Type 0
+WorldCollides w = StringsCollide (IsHashedIn w) (IsHashedIn w)
 
 -- what is hashed for a recorded commitment
 for_commitment : (w : World) (c : ℕ) (x y : ChannelBook) → AreBoth w c x y → (side : Side) (k : CommitmentState) → IsIn (recorded x y) side k → (bytes : List ℕ)
@@ -92,7 +92,7 @@ record IsSpot (w : World) (c : ℕ) (o : OutPoint) : Type 0 where
   i : IsIn (recorded x y) side k
   at : IsOutPointOf (contents_of x.state.held.terms k) o
 
-two_spots : Laws → (w : World) (c d : ℕ) → d ≢ c → (o : OutPoint) → IsSpot w c o → IsSpot w d o → Collision w
+two_spots : Laws → (w : World) (c d : ℕ) → d ≢ c → (o : OutPoint) → IsSpot w c o → IsSpot w d o → WorldCollides w
 two_spots laws w c d unlike o a b =
     let first : IsOwn (recorded a.x a.y) a.side a.i.at a.k = own_at laws w c a.x a.y a.both a.side a.i.at a.k a.i.there in
     let second : IsOwn (recorded b.x b.y) b.side b.i.at b.k = own_at laws w d b.x b.y b.both b.side b.i.at b.k b.i.there in
@@ -106,7 +106,7 @@ two_spots laws w c d unlike o a b =
       collide = z.collide;
     }
 
-a_grant : Laws → (w : World) (c d : ℕ) (x y : ChannelBook) → AreBoth w d x y → (o : OutPoint) → IsSpot w c o → o ≡ grant_outpoint d → Collision w
+a_grant : Laws → (w : World) (c d : ℕ) (x y : ChannelBook) → AreBoth w d x y → (o : OutPoint) → IsSpot w c o → o ≡ grant_outpoint d → WorldCollides w
 a_grant laws w c d x y b o a e =
     let z = laws.grants_apart a.x.state.held.terms a.k d (subst (λ (p : OutPoint). IsOutPointOf (contents_of a.x.state.held.terms a.k) p) e a.at) in
     record { first = z.first; second = z.second; of_first = of_grant d b.granted.0 z.of_first; of_second = for_commitment w c a.x a.y a.both a.side a.k a.i z.second z.of_second; collide = z.collide }

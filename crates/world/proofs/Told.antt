@@ -4,7 +4,8 @@ use Rattle.terms.specs.declared.sides.Side.{Side}
 use Rattle.terms.specs.declared.sides.Side.TheVariants.{A, B}
 use Rattle.terms.specs.declared.agreement.Terms.{Terms}
 use Rattle.channel.specs.declared.messages.Message.{Message}
-use Rattle.channel.specs.declared.messages.Message.TheVariants.{Updated, CommitmentSigned, RevokeAndAck}
+use Rattle.updates.specs.declared.messages.PeerStep.TheVariants.{Update as Updated, CommitmentSigned}
+use Rattle.channel.specs.declared.messages.Message.TheVariants.{Step as StepMessage, RevokeAndAck}
 use Rattle.channel.specs.States.{Signing, State, after, answers}
 use Rattle.channel.specs.Peers.{World as Pair, Acts, updates, signs, receives, Steps, by_a, by_b, IsReached, at_opening, then}
 use Rattle.channel.specs.Playing.{placed}
@@ -13,15 +14,15 @@ use Rattle.channel.specs.Agreeing.{IsPaired}
 -- the number of secrets in messages
 abbrev pub reveals : List Message → ℕ
 reveals [] = 0
-reveals (Updated u ∷ ms) = reveals ms
-reveals (CommitmentSigned tokens ∷ ms) = reveals ms
-reveals (RevokeAndAck secret point ∷ ms) = suc (reveals ms)
+reveals (StepMessage (Updated u) ∷ ms) = reveals ms
+reveals (StepMessage (CommitmentSigned tokens) ∷ ms) = reveals ms
+reveals (RevokeAndAck revocation ∷ ms) = suc (reveals ms)
 
 reveals-append : (ms ns : List Message) → reveals (ms ++ ns) ≡ reveals ms + reveals ns
 reveals-append [] ns = sym (zero-add (reveals ns))
-reveals-append (Updated u ∷ ms) ns = reveals-append ms ns
-reveals-append (CommitmentSigned tokens ∷ ms) ns = reveals-append ms ns
-reveals-append (RevokeAndAck secret point ∷ ms) ns = let more = reveals-append ms ns in omega arith
+reveals-append (StepMessage (Updated u) ∷ ms) ns = reveals-append ms ns
+reveals-append (StepMessage (CommitmentSigned tokens) ∷ ms) ns = reveals-append ms ns
+reveals-append (RevokeAndAck revocation ∷ ms) ns = let more = reveals-append ms ns in omega arith
 
 -- a step of one side: it sends a secret for each commitment that it replaces, and takes each secret from its queue
 record Tells (me new : State) (queue sent rest : List Message) : Type 0 where
@@ -29,9 +30,9 @@ record Tells (me new : State) (queue sent rest : List Message) : Type 0 where
   secrets : length new.secrets + reveals rest ≡ length me.secrets + reveals queue
 
 receipt_tells : (me : State) (m : Message) (rest : List Message) → Tells me (after me m) (m ∷ rest) (answers me m) rest
-receipt_tells me (Updated u) rest = record { number = sym (add-zero me.number); secrets = refl }
-receipt_tells me (CommitmentSigned tokens) rest = record { number = refl; secrets = refl }
-receipt_tells me (RevokeAndAck secret point) rest = record { number = sym (add-zero me.number); secrets = omega (arith, length-append me.secrets (secret ∷ [])) }
+receipt_tells me (StepMessage (Updated u)) rest = record { number = sym (add-zero me.number); secrets = refl }
+receipt_tells me (StepMessage (CommitmentSigned tokens)) rest = record { number = refl; secrets = refl }
+receipt_tells me (RevokeAndAck revocation) rest = record { number = sym (add-zero me.number); secrets = omega (arith, length-append me.secrets (revocation.secret ∷ [])) }
 
 act_tells : (tokens_of : Signing) (me new : State) (queue sent rest : List Message) → Acts tokens_of me queue new sent rest → Tells me new queue sent rest
 act_tells tokens_of me new queue sent rest (updates u none) = record { number = sym (add-zero me.number); secrets = refl }

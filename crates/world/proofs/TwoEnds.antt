@@ -13,9 +13,10 @@ use Rattle.scenario.specs.declared.limits.TheConstants.{MAX_CHANNELS}
 use Rattle.safety.specs.Standing.{HavePassed}
 use Rattle.safety.specs.Waiting.{EachInputFits}
 use Rattle.safety.specs.Places.{OwnersPlaces, PeersPlaces, RevokedPlaces}
-use Rattle.safety.specs.Takers.{CommitmentsSpendFundings, HtlcTransactionsSpendOutputs, ChannelsAreApart, GrantsAreApart}
+use Rattle.safety.specs.Takers.{CommitmentsSpendFundings, HtlcTransactionsSpendOutputs, ChannelsAreApart, OutputsAreNoGrants}
 use Rattle.safety.specs.Taken.{NumberedAreOwn, GrantsAreOutPoints, Taken}
 use Rattle.channel.specs.declared.messages.Message.{Message}
+use Rattle.updates.specs.declared.messages.PeerStep.TheVariants.{Update as Updated, CommitmentSigned}
 use Rattle.channel.specs.declared.messages.Message.TheVariants.{RevokeAndAck}
 use Rattle.channel.specs.Tokens.{peer_tokens}
 use Rattle.channel.specs.States.{State, after_sign, after}
@@ -24,7 +25,7 @@ use Rattle.channel.specs.Playing.{placed}
 use Rattle.channel.specs.Recording.{AreByNumber, SidesRecord, SidesNumber}
 use Rattle.channel.specs.Agreeing.{FirstOf, PeersAgree, IsPaired}
 use Rattle.book.specs.declared.calls.Step.{Step}
-use Rattle.book.specs.declared.calls.Step.TheVariants.{Own, Updated, Signed}
+use Rattle.book.specs.declared.calls.Step.TheVariants.{Own, Peer}
 use Rattle.book.specs.declared.calls.Call.{Call}
 use Rattle.book.specs.declared.calls.Call.TheVariants as calls
 use Rattle.book.specs.declared.calls.Entry.{Entry}
@@ -50,14 +51,14 @@ changed_seeded f keeps (suc c) (x ∷ xs) a = (a.0, changed_seeded f keeps c xs 
 
 step_seeded : (step : Step) (ch : ChannelBook) → IsSeeded ch → IsSeeded (with_state (stepped step) ch)
 step_seeded (Own u) ch is = is
-step_seeded (Updated u) ch is = is
-step_seeded (Signed tokens) ch is = is
+step_seeded (Peer (Updated u)) ch is = is
+step_seeded (Peer (CommitmentSigned tokens)) ch is = is
 
 call_seeded : (call : Call) (chs : Channels) → AllByRecursion IsSeeded chs → AllByRecursion IsSeeded (channels_after call chs)
 call_seeded (calls.Open o) chs a = all_append IsSeeded chs (opened_by o ∷ []) a (o.own, tt)
 call_seeded (calls.Step d step) chs a = changed_seeded (with_state (stepped step)) (step_seeded step) d chs a
 call_seeded (calls.Sign d) chs a = changed_seeded (with_state after_sign) (λ ch is. is) d chs a
-call_seeded (calls.Revoke d secret point) chs a = changed_seeded (with_state (λ s. after s (RevokeAndAck secret point))) (λ ch is. is) d chs a
+call_seeded (calls.Revoke d revocation) chs a = changed_seeded (with_state (λ s. after s (RevokeAndAck revocation))) (λ ch is. is) d chs a
 call_seeded (calls.Keep d n claims) chs a = changed_seeded (with_kept n) (λ ch is. is) d chs a
 call_seeded (calls.Release d batch) chs a = a
 call_seeded (calls.Close d) chs a = changed_seeded with_closed (λ ch is. is) d chs a
@@ -143,7 +144,7 @@ pub record Laws : Type 0 where
   pub fundings : CommitmentsSpendFundings
   pub outputs : HtlcTransactionsSpendOutputs
   pub channels_apart : ChannelsAreApart
-  pub grants_apart : GrantsAreApart
+  pub grants_apart : OutputsAreNoGrants
 
 by_side : (P : Side → Type 0) → P A → P B → (s : Side) → P s
 by_side P a b A = a

@@ -23,7 +23,7 @@ use Rattle.world.specs.Opening.{funding_output, AreTermsOf, IsOpeningOf}
 abbrev pub FundingsAreSpent : Type 0
 FundingsAreSpent =
     (seeds : Seeds) (channel : ℕ) (outpoint : OutPoint) (plain : ProposedTerms) (terms : Terms) → AreTermsOf seeds channel outpoint plain terms
-    → funding_output seeds channel plain ≡ record { value = terms.capacity; script = script_hash_program (funding_script terms) }
+    → funding_output seeds channel plain ≡ record { value = terms.capacity_sat; script = script_hash_program (funding_script terms) }
 
 -- the channels that the two sides open are the two ends of one, with no message on its way
 abbrev pub OpeningsArePaired : Type 0

@@ -40,18 +40,18 @@ seed_in seeds channel side = channel_seed (seed_of side seeds) channel
 -- the funding output (BOLT 3): the capacity, for the base keys of both sides
 abbrev pub funding_output : Seeds → ℕ → ProposedTerms → Output
 funding_output seeds channel plain = record {
-  value = plain.capacity;
+  value = plain.capacity_sat;
   script = script_hash_program (spelling (funding (base_key (seed_in seeds channel A) Funding) (base_key (seed_in seeds channel B) Funding)));
 }
 
 -- the funding output, if an output may have the value
 abbrev pub funding_if_within : Seeds → ℕ → ProposedTerms → Option Output
-funding_if_within seeds channel plain = if nat_lt MAX_VALUE plain.capacity then None else Some (funding_output seeds channel plain)
+funding_if_within seeds channel plain = if nat_lt MAX_VALUE plain.capacity_sat then None else Some (funding_output seeds channel plain)
 
 -- the terms are the scenario's, with the funding output's outpoint and the base keys of both sides
 abbrev pub AreTermsOf : Seeds → ℕ → OutPoint → ProposedTerms → Terms → Type 0
 AreTermsOf seeds channel outpoint plain terms =
-    HasFields terms outpoint plain.capacity plain.opener plain.feerate (party_of plain.a (bases_of (seed_in seeds channel A))) (party_of plain.b (bases_of (seed_in seeds channel B)))
+    HasFields terms outpoint plain.capacity_sat plain.opener plain.feerate_per_kw (party_of plain.a (bases_of (seed_in seeds channel A))) (party_of plain.b (bases_of (seed_in seeds channel B)))
 
 -- the base keys of both sides in the terms are those of their signers
 abbrev pub HaveKeys : Seeds → ℕ → Terms → Type 0

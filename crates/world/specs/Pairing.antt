@@ -2,8 +2,9 @@
 use Rattle.std.specs.Prelude.{◌≡◌, ◌⊎◌, ℕ, ◌∷◌, List, [], Option, Some, slice_get, true}
 use Rattle.terms.specs.declared.sides.Side.{Side}
 use Rattle.channel.specs.declared.messages.Message.{Message}
-use Rattle.channel.specs.declared.messages.Message.TheVariants.{CommitmentSigned}
-use Rattle.channel.specs.declared.messages.Tokens.{Tokens}
+use Rattle.updates.specs.declared.messages.PeerStep.TheVariants.{CommitmentSigned}
+use Rattle.channel.specs.declared.messages.Message.TheVariants.{Step as StepMessage}
+use Rattle.updates.specs.declared.messages.Tokens.{Tokens}
 use Rattle.channel.specs.Tokens.{peer_tokens}
 use Rattle.channel.specs.States.{State}
 use Rattle.channel.specs.Playing.{placed}
@@ -30,7 +31,7 @@ pub record IsShutOut (o : Option ChannelBook) (m : Message) : Type 0 where
   pub tokens : Tokens
   pub there : o ≡ Some ch
   pub closed : is_closed ch ≡ true
-  pub signature : m ≡ CommitmentSigned tokens
+  pub signature : m ≡ StepMessage (CommitmentSigned tokens)
 
 -- if two books agree, each takes the oldest message on its way to it, except a signature in a channel that it closed
 abbrev pub DeliveriesAreTaken : Type 0

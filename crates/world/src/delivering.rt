@@ -14,7 +14,6 @@ use crate::nodes::Node;
 use book::{Call, Step};
 use channel::Message;
 use side::call_of;
-use std::alloc::Global;
 use std::collections::VecDeque;
 use updates::OwnUpdate;
 
@@ -92,7 +91,7 @@ pub(crate) fn sign(me: &mut Node, peer: &mut Node, channel: u64) -> Result<(), E
 }
 
 // The call by which a side takes its oldest message. Refused with `NoSuchChannel`, `NoMessage`.
-fn oldest(alloc: Global, me: &Node, channel: u64) -> Result<Call, EventError>
+fn oldest(me: &Node, channel: u64) -> Result<Call, EventError>
     ensures { IsOldest channel (oldest_in (slice_get me.now.lines channel)) result }
 {
     let index = channel as usize;
@@ -101,7 +100,7 @@ fn oldest(alloc: Global, me: &Node, channel: u64) -> Result<Call, EventError>
     }
     let line = &me.lines[index];
     match line.inbox.front() {
-        Some(message) => match call_of(alloc, channel, message) {
+        Some(message) => match call_of(channel, message) {
             Ok(call) => Ok(call),
             Err(_) => Err(EventError::NoMemory),
         },
@@ -129,12 +128,7 @@ fn take_off(me: &mut Node, channel: u64)
 
 /// Delivers a side's oldest message, and puts the answer on its way to the peer. Refused, in this order, with `NoSuchChannel` and `NoMessage`, else as the book
 /// refuses. A refusal leaves both sides as they were.
-pub(crate) fn deliver(
-    alloc: Global,
-    me: &mut Node,
-    peer: &mut Node,
-    channel: u64,
-) -> Result<(), EventError>
+pub(crate) fn deliver(me: &mut Node, peer: &mut Node, channel: u64) -> Result<(), EventError>
     ensures me { let message = oldest_in (slice_get me.old.lines channel) in
         IsEvent (delivery_refusal channel message me.old peer.old) result me.old
         (delivered channel message me.old) me.new }
@@ -142,7 +136,7 @@ pub(crate) fn deliver(
         IsEvent (delivery_refusal channel message me.old peer.old) result peer.old
         (answered channel message me.old peer.old) peer.new }
 {
-    let call = oldest(alloc, me, channel)?;
+    let call = oldest(me, channel)?;
     exchange(me, peer, channel, call)?;
     take_off(me, channel);
     Ok(())

@@ -108,10 +108,7 @@ impl Node {
             Ok(()) => {}
             Err(_) => return Err(OpenError::NoMemory),
         }
-        match self.book.open(SEAT, opening) {
-            Ok(_channel) => {}
-            Err(error) => return Err(error),
-        }
+        self.book.open(SEAT, opening)?;
         let line = Line {
             inbox: VecDeque::new(alloc),
             watch: Watch::new(alloc),

@@ -189,10 +189,9 @@ impl Parts {
     {
         self.quiet_a = false;
         self.quiet_b = false;
-        let alloc = self.alloc;
         match side {
-            Side::A => done(delivering::deliver(alloc, &mut self.a, &mut self.b, channel)),
-            Side::B => done(delivering::deliver(alloc, &mut self.b, &mut self.a, channel)),
+            Side::A => done(delivering::deliver(&mut self.a, &mut self.b, channel)),
+            Side::B => done(delivering::deliver(&mut self.b, &mut self.a, channel)),
         }
     }
 

@@ -18,9 +18,9 @@ pub(crate) const OFFER: Event = Event::Own {
     side: Side::A,
     channel: 0,
     update: OwnUpdate::Offer {
-        amount: 10_000_000,
+        amount_msat: 10_000_000,
         hash: HASH,
-        expiry: 5,
+        expiry_height: 5,
     },
 };
 
@@ -95,7 +95,9 @@ const CLOSE_B_FAR: Event = Event::Close {
 const FEE_A: Event = Event::Own {
     side: Side::A,
     channel: 0,
-    update: OwnUpdate::SetFee { rate: 1500 },
+    update: OwnUpdate::SetFee {
+        feerate_per_kw: 1500,
+    },
 };
 
 const FAIL_B: Event = Event::Own {

@@ -12,37 +12,37 @@ pub(crate) const SEEDS: Seeds = Seeds {
     b: [0x0b; 32],
 };
 
-fn party(start: u64) -> ProposedParty {
+fn party(start_msat: u64) -> ProposedParty {
     ProposedParty {
-        dust: 546,
-        delay: 144,
-        minimum: 1000,
-        start,
+        dust_sat: 546,
+        delay_blocks: 144,
+        minimum_msat: 1000,
+        start_msat,
     }
 }
 
 // Terms of 100,000 satoshis, with the millisatoshis that the two sides begin with.
 pub(crate) fn terms(a: u64, b: u64) -> ProposedTerms {
     ProposedTerms {
-        capacity: 100_000,
+        capacity_sat: 100_000,
         opener: Side::A,
-        feerate: 1000,
+        feerate_per_kw: 1000,
         a: party(a),
         b: party(b),
     }
 }
 
 // A world of `channels` equal channels, in which B begins with
-// `start` millisatoshis. The sides can agree if these are 20,000,000.
+// `start_msat` millisatoshis. The sides can agree if these are 20,000,000.
 pub(crate) fn begin(
     rt: &impl Abort,
     alloc: Global,
     channels: usize,
-    start: u64,
+    start_msat: u64,
 ) -> Result<World, WorldError> {
     let mut all = Vec::new(alloc);
     for _channel in 0..channels {
-        all.push(terms(80_000_000, start)).expect(rt, "memory");
+        all.push(terms(80_000_000, start_msat)).expect(rt, "memory");
     }
     World::new(alloc, &SEEDS, &all)
 }

@@ -84,7 +84,7 @@ fn act_of(number: u64) -> Act {
             preimage: PREIMAGE,
         }),
         4 => Act::Update(OwnUpdate::SetFee {
-            rate: 1000 + (rest % 1000) as u32,
+            feerate_per_kw: 1000 + (rest % 1000) as u32,
         }),
         5..8 => Act::Sign,
         _ => Act::Deliver,

@@ -13,6 +13,7 @@ use resolve::{
 use sighash::Token;
 use std::alloc::Global;
 use terms::{Side, Terms};
+use updates::Tokens;
 
 /// The commitment of a number.
 fn commitment(
@@ -23,13 +24,6 @@ fn commitment(
 ) -> Option<KnownCommitment> {
     let point = point_of(alloc, owner, number);
     KnownCommitment::new(alloc, &setting.terms, &setting.view, owner, number, &point).ok()
-}
-
-/// The peer's tokens on a commitment.
-#[derive(Drop)]
-struct Tokens {
-    commitment: Token,
-    htlcs: List<Token>,
 }
 
 /// The tokens of a key over digests.

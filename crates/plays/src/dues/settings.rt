@@ -9,7 +9,7 @@ use std::alloc::Global;
 use terms::{Htlc, Share, Side, Terms, View};
 
 /// The satoshis of the channel, of which A has 80,000 at the start.
-const CAPACITY: u64 = 100_000;
+const CAPACITY_SAT: u64 = 100_000;
 
 /// The preimage of every HTLC.
 pub const PREIMAGE: [u8; 32] = [0; 32];
@@ -28,40 +28,40 @@ pub type Delays = [u16; 2];
 #[derive(Clone, Copy)]
 pub struct Offer {
     pub satoshis: u64,
-    pub expiry: u32,
+    pub expiry_height: u32,
 }
 
 /// The terms of a channel whose funding output is granted on a chain. A opened it, at 1,000 satoshis per 1,000 units of weight.
 fn open(alloc: Global, delays: Delays, chain: &mut Chain) -> Option<Terms> {
     let a = party(alloc, Side::A, 80_000_000, delays[0]);
     let b = party(alloc, Side::B, 20_000_000, delays[1]);
-    let output = funding_output(alloc, &a.bases.funding, &b.bases.funding, CAPACITY)?;
+    let output = funding_output(alloc, &a.bases.funding, &b.bases.funding, CAPACITY_SAT)?;
     let funding = chain.grant(output).ok()?;
-    Terms::new(funding, CAPACITY, Side::A, 1000, a, b).ok()
+    Terms::new(funding, CAPACITY_SAT, Side::A, 1000, a, b).ok()
 }
 
 /// Appends an HTLC. Returns whether there was memory.
 fn push(offered: &mut Vec<Htlc>, offer: &Offer) -> bool {
     let htlc = Htlc {
         id: offered.len() as u64,
-        amount: offer.satoshis.saturating_mul(1000),
+        amount_msat: offer.satoshis.saturating_mul(1000),
         hash: sha256(&PREIMAGE),
-        expiry: offer.expiry,
+        expiry_height: offer.expiry_height,
     };
     offered.push(htlc).is_ok()
 }
 
 /// The balance that is left to a side after its offers.
-fn balance(start: u64, offers: &[Offer]) -> u64 {
-    let mut balance = start;
+fn balance_msat(start_msat: u64, offers: &[Offer]) -> u64 {
+    let mut balance_msat = start_msat;
     for offer in offers {
-        balance = balance.saturating_sub(offer.satoshis.saturating_mul(1000));
+        balance_msat = balance_msat.saturating_sub(offer.satoshis.saturating_mul(1000));
     }
-    balance
+    balance_msat
 }
 
 /// The balance that is left to a side after its offers, and the HTLCs that it offered.
-fn share(alloc: Global, start: u64, offers: &[Offer]) -> Option<Share> {
+fn share(alloc: Global, start_msat: u64, offers: &[Offer]) -> Option<Share> {
     let mut offered = Vec::new(alloc);
     for offer in offers {
         if !push(&mut offered, offer) {
@@ -69,7 +69,7 @@ fn share(alloc: Global, start: u64, offers: &[Offer]) -> Option<Share> {
         }
     }
     Some(Share {
-        balance: balance(start, offers),
+        balance_msat: balance_msat(start_msat, offers),
         offered: List::from_vec(offered),
     })
 }
@@ -81,7 +81,7 @@ fn view(alloc: Global, of_a: &[Offer], of_b: &[Offer]) -> Option<View> {
     Some(View {
         a,
         b,
-        feerate: 1000,
+        feerate_per_kw: 1000,
     })
 }
 

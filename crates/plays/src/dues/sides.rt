@@ -77,9 +77,9 @@ pub fn informed_signer(alloc: Global, side: Side, revoked: u64) -> Option<Signer
 }
 
 /// What a side brings to the terms: the millisatoshis that it begins with, and the delay of its to_local outputs, in blocks.
-pub fn party(alloc: Global, side: Side, start: u64, delay: u16) -> Party {
+pub fn party(alloc: Global, side: Side, start_msat: u64, delay_blocks: u16) -> Party {
     Party {
-        delay,
-        ..parties::party(&signer_of(alloc, side), start)
+        delay_blocks,
+        ..parties::party(&signer_of(alloc, side), start_msat)
     }
 }

@@ -85,13 +85,13 @@ fn local_claim(close: Close, to_local: Option<u64>) -> Option<Claimable>
 {
     match close {
         Close::Newest => None,
-        Close::Revoked(delay) => match to_local {
+        Close::Revoked(delay_blocks) => match to_local {
             None => None,
             Some(value) => Some(Claimable {
                 output: OutputName::ToLocal,
                 value,
                 way: Way::Penalty,
-                alone: Alone::Blocks(delay),
+                alone: Alone::Blocks(delay_blocks),
             }),
         },
     }
@@ -119,7 +119,7 @@ fn htlc_way(close: Close, hashes: &[[u8; 32]], direction: Direction, htlc: &Htlc
     match close {
         Close::Revoked(_) => Some(Way::Penalty),
         Close::Newest => match direction {
-            Direction::Received => Some(Way::Timeout(htlc.expiry)),
+            Direction::Received => Some(Way::Timeout(htlc.expiry_height)),
             Direction::Offered => {
                 if hashes.contains(&htlc.hash) {
                     Some(Way::Preimage)
@@ -145,12 +145,15 @@ fn htlc_claim(
         None => return None,
     };
     let (output, alone) = match direction {
-        Direction::Offered => (OutputName::Received(htlc.id), Alone::Until(htlc.expiry)),
+        Direction::Offered => (
+            OutputName::Received(htlc.id),
+            Alone::Until(htlc.expiry_height),
+        ),
         Direction::Received => (OutputName::Offered(htlc.id), Alone::NoPreimage),
     };
     Some(Claimable {
         output,
-        value: satoshis(htlc.amount),
+        value: satoshis(htlc.amount_msat),
         way,
         alone,
     })

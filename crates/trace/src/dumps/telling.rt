@@ -20,9 +20,9 @@ fn tell_source(line: &mut Page, channel: &Channel, before: &'static str, source:
             r#"{"number":%,"balance":%,"peer_balance":%,"feerate":%}"#,
             &[
                 Count(state.number),
-                Count(state.view.share(side).balance),
-                Count(state.view.share(side.other()).balance),
-                Count(u64::from(state.view.feerate)),
+                Count(state.view.share(side).balance_msat),
+                Count(state.view.share(side.other()).balance_msat),
+                Count(u64::from(state.view.feerate_per_kw)),
             ],
         ),
         None => line.push("null"),
@@ -47,9 +47,9 @@ fn tell_htlc(
         &[
             Text(direction),
             Count(htlc.id),
-            Count(htlc.amount),
+            Count(htlc.amount_msat),
             Hash(hash),
-            Count(u64::from(htlc.expiry)),
+            Count(u64::from(htlc.expiry_height)),
             Piece::flag(stands(channel, Source::Ours, offerer, htlc.id)),
             Piece::flag(stands(channel, Source::Theirs, offerer, htlc.id)),
             in_next,
@@ -170,7 +170,7 @@ fn tell_unrevoked(alloc: Global, line: &mut Page, channel: &Channel, hashes: &[[
 // Writes the revoked commitments of the peer, and whether their penalties are kept.
 fn tell_revoked(alloc: Global, line: &mut Page, book: &Book, index: u64, channel: &Channel) {
     let owner = channel.side().other();
-    let close = Close::Revoked(channel.terms().party(owner).delay);
+    let close = Close::Revoked(channel.terms().party(owner).delay_blocks);
     for number in 0..channel.peer_number() {
         if let Some(state) = channel.peers_commitment(number) {
             let kept = match book.keeps(index, state.number) {
@@ -194,8 +194,8 @@ fn tell_terms(line: &mut Page, book: &Book, index: u64, channel: &Channel) {
             Count(u64::from(terms.funding.index)),
             side_name(side),
             side_name(terms.opener),
-            Count(terms.capacity),
-            Count(u64::from(terms.party(side.other()).delay)),
+            Count(terms.capacity_sat),
+            Count(u64::from(terms.party(side.other()).delay_blocks)),
         ],
     );
     if let Some(number) = closed_with(book, index, channel) {

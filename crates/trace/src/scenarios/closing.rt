@@ -28,7 +28,7 @@ fn output_coin(to_local: &Coin, output: &CommitmentOutput) -> Coin {
             if *direction == Direction::Received {
                 coin.owner = to_local.holder.other();
             }
-            coin.due = u64::from(htlc.expiry)
+            coin.due = u64::from(htlc.expiry_height)
                 .saturating_add(1)
                 .max(to_local.height);
         }
@@ -65,7 +65,11 @@ fn tell_closing(
         if let OutputKind::ToHtlc(_, htlc) = &output.kind {
             line.write(
                 r#","id":%,"expiry":%,"index":%"#,
-                &[Count(htlc.id), Count(u64::from(htlc.expiry)), Count(k)],
+                &[
+                    Count(htlc.id),
+                    Count(u64::from(htlc.expiry_height)),
+                    Count(k),
+                ],
             );
             k = k.saturating_add(1);
         }
@@ -107,7 +111,7 @@ fn tell_if_of(
         holder,
         is_revoked,
         height,
-        due: height.saturating_add(u64::from(terms.party(holder).delay)),
+        due: height.saturating_add(u64::from(terms.party(holder).delay_blocks)),
     };
     tell_if_built(alloc, told, line, &to_local, terms, state, confirmed)
 }

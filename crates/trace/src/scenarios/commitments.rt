@@ -44,9 +44,9 @@ pub fn tell_held(line: &mut Page, world: &World, side: Side, channel: u64) {
             Count(channel),
             side_name(now.owner),
             Count(now.number),
-            Count(u64::from(now.view.feerate)),
-            Count(a.balance),
-            Count(b.balance),
+            Count(u64::from(now.view.feerate_per_kw)),
+            Count(a.balance_msat),
+            Count(b.balance_msat),
         ],
     );
     tell_without(line, Side::A, new_a, old_a);

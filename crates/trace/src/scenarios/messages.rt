@@ -7,7 +7,7 @@ use channel::Message;
 use page::Page;
 use page::Piece::{Count, Hash, Text};
 use terms::Side;
-use updates::Update;
+use updates::{PeerStep, Update};
 use world::World;
 
 // The templates of a message on its way to a side, and of one that was delivered to it.
@@ -47,9 +47,9 @@ fn tell_htlc(line: &mut Page, to: Side, channel: u64, stage: &'static str, updat
                     side_name(to.other()),
                     Count(htlc.id),
                     stage,
-                    Count(htlc.amount),
+                    Count(htlc.amount_msat),
                     Hash(hash),
-                    Count(u64::from(htlc.expiry)),
+                    Count(u64::from(htlc.expiry_height)),
                 ],
             );
         }
@@ -93,7 +93,7 @@ fn tell_update(
 pub fn tell_own(line: &mut Page, world: &World, side: Side, channel: u64) {
     let to = side.other();
     if let Some(inbox) = world.inbox(to, channel) {
-        if let Some(Message::Updated(update)) = inbox.back() {
+        if let Some(Message::Step(PeerStep::Update(update))) = inbox.back() {
             tell_update(line, world, false, to, channel, update);
         }
     }
@@ -132,7 +132,7 @@ pub fn tell_delivered(line: &mut Page, world: &World, side: Side, channel: u64) 
     };
     match &entry.call {
         Call::Step {
-            step: Step::Updated(update),
+            step: Step::Peer(PeerStep::Update(update)),
             ..
         } => tell_update(line, world, true, side, channel, update),
         Call::Step { .. } => {

@@ -51,8 +51,8 @@ fn output_coin(
         coin.kind = Kind::SecondStage;
         coin.owner = spent.holder;
         if let Some(own) = world.book(spent.holder).channel(spent.channel) {
-            let delay = own.terms().party(spent.holder).delay;
-            coin.due = height.saturating_add(u64::from(delay));
+            let delay_blocks = own.terms().party(spent.holder).delay_blocks;
+            coin.due = height.saturating_add(u64::from(delay_blocks));
         }
     } else {
         coin.kind = Kind::Wallet;

@@ -28,15 +28,15 @@ pub fn signer_of(alloc: Global, side: Side) -> Signer {
 }
 
 /// A side with this starting balance in millisatoshis.
-fn party_of(alloc: Global, side: Side, start: u64) -> Party {
-    party(&signer_of(alloc, side), start)
+fn party_of(alloc: Global, side: Side, start_msat: u64) -> Party {
+    party(&signer_of(alloc, side), start_msat)
 }
 
 /// The terms of a channel of 100,000 satoshis. A opened it, and begins with 80,000.
 pub fn terms(alloc: Global) -> Option<Terms> {
     let a = party_of(alloc, Side::A, 80_000_000);
     let b = Party {
-        delay: 72,
+        delay_blocks: 72,
         ..party_of(alloc, Side::B, 20_000_000)
     };
     terms_of(FUNDING, 100_000, a, b).ok()
@@ -57,14 +57,14 @@ fn side_of(word: &str) -> Option<Side> {
 fn htlc_of(word: &str) -> Option<(Side, Htlc)> {
     let mut parts = word.split(':');
     let side = side_of(parts.next()?)?;
-    let amount = number(parts.next());
-    let expiry = short_number(parts.next());
+    let amount_msat = number(parts.next());
+    let expiry_height = short_number(parts.next());
     let byte = u8::try_from(number(Some(parts.next()?))).unwrap_or(0);
     let htlc = Htlc {
         id: 0,
-        amount,
+        amount_msat,
         hash: sha256(&[byte; 32]),
-        expiry,
+        expiry_height,
     };
     Some((side, htlc))
 }
@@ -74,7 +74,7 @@ fn htlc_of(word: &str) -> Option<(Side, Htlc)> {
 pub struct Head {
     owner: Side,
     number: u64,
-    feerate: u32,
+    feerate_per_kw: u32,
     a: u64,
     b: u64,
 }
@@ -84,7 +84,7 @@ fn head_of(words: &mut SplitWhitespace<'_>) -> Option<Head> {
     Some(Head {
         owner: side_of(words.next()?)?,
         number: number(words.next()),
-        feerate: short_number(words.next()),
+        feerate_per_kw: short_number(words.next()),
         a: number(words.next()),
         b: number(words.next()),
     })
@@ -144,14 +144,14 @@ pub fn state_of(terms: &Terms, head: &Head, offers: Offers) -> Result<RevokedSta
     let secret = secret_of(&signer_of(*offers.a.allocator(), head.owner), head.number);
     let view = View {
         a: Share {
-            balance: head.a,
+            balance_msat: head.a,
             offered: List::from_vec(offers.a),
         },
         b: Share {
-            balance: head.b,
+            balance_msat: head.b,
             offered: List::from_vec(offers.b),
         },
-        feerate: head.feerate,
+        feerate_per_kw: head.feerate_per_kw,
     };
     RevokedState::new(*terms, view, head.owner, head.number, secret)
 }

@@ -83,9 +83,9 @@ fn count(number: &mut u64) {
 fn action_of(number: u64, rest: u64, id: u64) -> Action {
     match number % 16 {
         0 | 1 => Action::Own(OwnUpdate::Offer {
-            amount: rest,
+            amount_msat: rest,
             hash: sha256(&PREIMAGE),
-            expiry: 500,
+            expiry_height: 500,
         }),
         2 => Action::Own(OwnUpdate::Fail { id }),
         3 => Action::Own(OwnUpdate::Fulfil {
@@ -93,7 +93,7 @@ fn action_of(number: u64, rest: u64, id: u64) -> Action {
             preimage: PREIMAGE,
         }),
         4 => Action::Own(OwnUpdate::SetFee {
-            rate: 1000 + (rest % 1000) as u32,
+            feerate_per_kw: 1000 + (rest % 1000) as u32,
         }),
         5 | 6 => Action::Sign,
         _ => Action::Deliver,

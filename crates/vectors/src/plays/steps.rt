@@ -8,11 +8,11 @@ use updates::OwnUpdate;
 
 /// An offer of an amount in millisatoshis, up to an expiry.
 fn offer_of(words: &str, preimage: &[u8; 32]) -> OwnUpdate {
-    let (amount, expiry) = words.split_once(' ').unwrap_or((words, ""));
+    let (amount_msat, expiry_height) = words.split_once(' ').unwrap_or((words, ""));
     OwnUpdate::Offer {
-        amount: number(Some(amount)),
+        amount_msat: number(Some(amount_msat)),
         hash: sha256(preimage),
-        expiry: short_number(Some(expiry)),
+        expiry_height: short_number(Some(expiry_height)),
     }
 }
 
@@ -31,7 +31,7 @@ fn update_of(name: &str, words: &str, preimage: &[u8; 32]) -> Option<OwnUpdate> 
         })
     } else if name == "fee" {
         Some(OwnUpdate::SetFee {
-            rate: short_number(Some(words)),
+            feerate_per_kw: short_number(Some(words)),
         })
     } else {
         None

@@ -38,5 +38,5 @@ pub fn funding_output(
     let a = bases_in(alloc, &seeds.a, channel);
     let b = bases_in(alloc, &seeds.b, channel);
     let program = funding_program(alloc, &a.funding, &b.funding)?;
-    Ok(TxOut::new(plain.capacity, program).ok())
+    Ok(TxOut::new(plain.capacity_sat, program).ok())
 }

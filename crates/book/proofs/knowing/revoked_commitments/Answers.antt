@@ -8,8 +8,8 @@ loop-number-preserved c =
     let at = revoked_at c.args.channel.now (flag_at c.args.flags.now) in
     let before = c.loop-number in
     let one = c.in_ok-commitment in (
-      one_later revoked_parts at before.number before.revoked c.push_next.new.revoked one.commitment c.in-Ok.ensures before.invariant.0 one.ensures.value,
-      one_longer before.number before.revoked c.push_next.new.revoked one.commitment c.in-Ok.ensures before.invariant.1,
+      one_later revoked_parts at before.number before.revoked c.push_next.new.revoked one.commitment c.in_ok-push_next.ensures before.invariant.0 one.ensures.value,
+      one_longer before.number before.revoked c.push_next.new.revoked one.commitment c.in_ok-push_next.ensures before.invariant.1,
       search rules,
       before.invariant.3,
     )

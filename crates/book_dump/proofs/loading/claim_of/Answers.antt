@@ -1,13 +1,16 @@
+use Rattle.std.proofs.lemmas.Result.{err_from_is_err_and}
 use Rattle.book_dump.proofs.Taking.{script_refused, is_taken, none_accepted}
 use Rattle.book_dump.proofs.loading.claim_of.Goals as goal
 
-pub returns-in-Err : goal.returns-in-Err
-returns-in-Err c = script_refused c.args.plain c.in-Err.error (rw c.bytes.ensures at c.in-Err.ensures)
+pub returns-in_err-checked : goal.returns-in_err-checked
+returns-in_err-checked c =
+    let p = err_from_is_err_and c.from_residual.result c.from_residual.ensures.1 in
+    rw (p.1, p.2) (script_refused c.args.plain c.in_err-checked.field-0.0 (rw c.bytes.ensures at c.in_err-checked.ensures))
 
-pub returns-in-Ok-accept : goal.returns-in-Ok-accept
-returns-in-Ok-accept c =
-    is_taken c.args.plain c.in-Ok.checked c.in-Ok-accept.claim (rw c.bytes.ensures at c.in-Ok.ensures) (rw c.into_vec.ensures at c.in-Ok-accept.ensures.accepted)
+pub returns-in-Ok : goal.returns-in-Ok
+returns-in-Ok c =
+    is_taken c.args.plain c.in_ok-checked.checked c.in-Ok.claim (rw c.bytes.ensures at c.in_ok-checked.ensures) (rw c.into_vec.ensures at c.in-Ok.ensures.accepted)
 
 pub returns : goal.returns
 returns c =
-    none_accepted c.args.plain c.in-Ok.checked c.in-Err-accept.error (rw c.bytes.ensures at c.in-Ok.ensures) (rw c.into_vec.ensures at c.in-Err-accept.ensures.accepted) c.in_default.not-NoMemory
+    none_accepted c.args.plain c.in_ok-checked.checked c.in-Err.error (rw c.bytes.ensures at c.in_ok-checked.ensures) (rw c.into_vec.ensures at c.in-Err.ensures.accepted) c.in_default.not-NoMemory

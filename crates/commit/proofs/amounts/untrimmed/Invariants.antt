@@ -4,4 +4,4 @@ use Rattle.commit.proofs.amounts.untrimmed.Given as goal
 
 -- what is left adds the rest
 abbrev pub invariant-loop-htlc : goal.invariant-loop-htlc
-invariant-loop-htlc l = l.kept.items ++ untrimmed l.dust l.feerate l.direction (drop l.htlc-index l.htlcs) ≡ untrimmed l.dust l.feerate l.direction l.htlcs
+invariant-loop-htlc l = l.kept.items ++ untrimmed l.dust_sat l.feerate_per_kw l.direction (drop l.htlc-index l.htlcs) ≡ untrimmed l.dust_sat l.feerate_per_kw l.direction l.htlcs

@@ -1,4 +1,5 @@
 use Rattle.std.proofs.Common.{◌≡◌, sym, ap, subst, ◌∙◌, arith}
+use Rattle.std.proofs.lemmas.Result.{err_from_is_err_and}
 use Rattle.std.specs.Prelude.{slice_get}
 use Rattle.tx.specs.Fields.{unsigned_transaction}
 use Rattle.filling.specs.Filling.{filled_input}
@@ -22,12 +23,14 @@ filled_input-requires-clause-stands c =
 
 pub loop-i-preserved : goal.loop-i-preserved
 loop-i-preserved c = record {
-  inputs = grown (filled_input c.args.tx.now c.args.preimages.now) c.args.claims.now c.loop-i.i _ c.index-claims-i.result c.loop-i.inputs c.push_within_limit.new.self c.in-Ok.input (omega arith) c.index-claims-i.is c.loop-i.invariant.inputs
-      (c.in-Ok.ensures.value.0 ∙ ap (λ t. filled_input t c.args.preimages.now c.index-claims-i.result.now) c.new-cache.ensures) c.in_ok-push_within_limit-in-Ok.ensures.ok;
-  fillable = fillable-next c.args.signer.now c.args.preimages.now c.args.claims.now c.loop-i.i _ c.index-claims-i.result (omega arith) c.index-claims-i.is c.in-Ok.ensures.value.1 c.loop-i.invariant.fillable;
-  lacks = lacks-next c.args.signer.now c.args.preimages.now c.args.claims.now c.loop-i.i _ c.index-claims-i.result (omega arith) c.index-claims-i.is c.in-Ok.ensures.value.1 c.loop-i.invariant.lacks;
-  opening = opening-next c.args.claims.now c.loop-i.i _ c.index-claims-i.result (omega arith) c.index-claims-i.is c.in-Ok.ensures.can_spend c.loop-i.invariant.opening;
+  inputs = grown (filled_input c.args.tx.now c.args.preimages.now) c.args.claims.now c.loop-i.i _ c.index-claims-i.result c.loop-i.inputs c.push_within_limit.new.self c.in_ok-input.input (omega arith) c.index-claims-i.is c.loop-i.invariant.inputs
+      (c.in_ok-input.ensures.value.0 ∙ ap (λ t. filled_input t c.args.preimages.now c.index-claims-i.result.now) c.new-cache.ensures) c.in_ok-push_within_limit.ensures.ok;
+  fillable = fillable-next c.args.signer.now c.args.preimages.now c.args.claims.now c.loop-i.i _ c.index-claims-i.result (omega arith) c.index-claims-i.is c.in_ok-input.ensures.value.1 c.loop-i.invariant.fillable;
+  lacks = lacks-next c.args.signer.now c.args.preimages.now c.args.claims.now c.loop-i.i _ c.index-claims-i.result (omega arith) c.index-claims-i.is c.in_ok-input.ensures.value.1 c.loop-i.invariant.lacks;
+  opening = opening-next c.args.claims.now c.loop-i.i _ c.index-claims-i.result (omega arith) c.index-claims-i.is c.in_ok-input.ensures.can_spend c.loop-i.invariant.opening;
 }
 
-pub returns-in-Err-clause-value : goal.returns-in-Err-clause-value
-returns-in-Err-clause-value c = lacks-at c.args.signer.now c.args.preimages.now c.args.claims.now c.loop-i.i _ c.index-claims-i.result (omega arith) c.index-claims-i.is c.loop-i.invariant.lacks c.in-Err.refusal c.in-Err.ensures.value
+pub returns-in_err-input-clause-value : goal.returns-in_err-input-clause-value
+returns-in_err-input-clause-value c =
+    let p = err_from_is_err_and c.from_residual.result c.from_residual.ensures.1 in
+    rw (p.1, p.2) (lacks-at c.args.signer.now c.args.preimages.now c.args.claims.now c.loop-i.i _ c.index-claims-i.result (omega arith) c.index-claims-i.is c.loop-i.invariant.lacks c.in_err-input.field-0.0 c.in_err-input.ensures.value)

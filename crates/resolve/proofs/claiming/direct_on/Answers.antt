@@ -1,4 +1,4 @@
-use Rattle.std.proofs.Common.{◌≡◌, subst, sym}
+use Rattle.std.proofs.Common.{subst, sym}
 use Rattle.std.proofs.lemmas.Result.{IfOk-weaker}
 use Rattle.claim.specs.declared.parts.Shell.TheVariants.{Open}
 use Rattle.forms.specs.declared.kinds.ClaimKind.{ClaimKind}

@@ -1,4 +1,4 @@
-use Rattle.std.proofs.Common.{◌≡◌, ap, ◌∙◌}
+use Rattle.std.proofs.Common.{ap}
 use Rattle.std.proofs.lemmas.Result.{IfOk-weaker}
 use Rattle.claim.specs.declared.parts.Shell.TheVariants.{Fixed}
 use Rattle.commit.specs.Keys.{bytes_of}

@@ -1,4 +1,4 @@
-use Rattle.std.proofs.Common.{◌≡◌, sym, ap, ◌∙◌}
+use Rattle.std.proofs.Common.{sym, ap, ◌∙◌}
 use Rattle.commit.specs.Commitments.{transaction_of, tx_output}
 use Rattle.penalty.specs.Claimable.{place_in, payment_on}
 use Rattle.penalty.proofs.Pushed.{push_one}

@@ -2,7 +2,7 @@ use Rattle.std.proofs.Common.{◌≡◌, ◌++◌, ◌∷◌, [], List, All, sym
 use Rattle.std.proofs.lemmas.List.Elements.{All-push}
 use Rattle.running.specs.declared.lines.Line.{Line}
 use Rattle.running.specs.Crews.{IsLine}
-use Rattle.running.specs.Playing.{IsFirstIn}
+use Rattle.running.specs.Playing.{IsFirstLineIn}
 use Rattle.running.proofs.Seating.{channels_more}
 use Rattle.running.proofs.crews.lines_of.Goals as goal
 
@@ -15,7 +15,7 @@ loop-channel-preserved c =
     let was = c.loop-channel.invariant in
     record {
       lines = subst (λ (ls : List Line). All (IsLine c.args.house.now) ls) (sym pushed) (All-push (IsLine c.args.house.now) before line was.lines is.line.0);
-      first = subst (λ (ls : List Line). All (IsFirstIn c.args.closers.now) ls) (sym pushed) (All-push (IsFirstIn c.args.closers.now) before line was.first is.line.2);
+      first = subst (λ (ls : List Line). All (IsFirstLineIn c.args.closers.now) ls) (sym pushed) (All-push (IsFirstLineIn c.args.closers.now) before line was.first is.line.2);
       channels = channels_more before c.push.new.self.items c.loop-channel.channel line pushed was.channels (is.line.1 ∙ c.from.ensures);
       a = is.a;
       b = is.b;

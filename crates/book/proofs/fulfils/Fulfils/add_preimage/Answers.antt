@@ -1,6 +1,6 @@
-use Rattle.std.proofs.Common.{◌≡◌, ◌∷◌, ◌++◌, [], List, ℕ, Option, Some, None, sym, ap, ◌∙◌}
+use Rattle.std.proofs.Common.{◌++◌, [], List, ℕ, Option, sym, ap, ◌∙◌}
 use Rattle.std.specs.List.{cons_option}
-use Rattle.book.proofs.Fulfilled.{pushed, written, has_room, nothing_more}
+use Rattle.book.proofs.Fulfilled.{pushed, written, nothing_more}
 use Rattle.book.specs.Books.{at_index}
 use Rattle.book.specs.Knowing.{preimage_in}
 use Rattle.book.specs.Fulfilled.{kept_by}

@@ -1,4 +1,5 @@
 use Rattle.std.proofs.Common.{◌≡◌, List, None, subst, Err, Ok, refl}
+use Rattle.std.proofs.lemmas.Result.{err_from_is_err_and}
 use Rattle.book.specs.declared.calls.Call.TheVariants.{Keep}
 use Rattle.book.specs.declared.calls.Entry.{Entry}
 use Rattle.book.specs.declared.errors.KeepError.TheVariants.{NoMemory}
@@ -19,39 +20,40 @@ pub invariant_of-self-2 : goal.invariant_of-self-2
 invariant_of-self-2 c =
     let i = c.self.inside in
     let is = grown c.push.result c.unwrap.result c.push.new.self.items c.reserve.new.self.items i.entries.items _ _ c.unwrap.ensures c.push.ensures.items c.in-Ok.ensures.items refl in
-    let tested = subst (λ (cs : List ClaimParts). keep_refusal c.index_mut-open.result.now c.args.number cs ≡ None) c.values.ensures c.in-Ok-keep.ensures.tested in
+    let tested = subst (λ (cs : List ClaimParts). keep_refusal c.index_mut-open.result.now c.args.number cs ≡ None) c.values.ensures c.in_ok-keep.ensures.tested in
     let whole = subst (λ (cs : List ClaimParts). AllByRecursion IsWhole cs) c.values-2.ensures c.hold_whole.ensures in
     called i.entries.items i.channels.entries _ c.self.invariant _ _ _ _ is refl
-    (keep_done i.entries.items c.push.new.self.items i.channels.entries c.args.seat c.args.channel c.args.number c.index_mut-open.result.now c.keep.new.self c.args.claims (kept (Err NoMemory)) c.self.invariant.left c.index_mut-open.ensures.value tested c.in-Ok-keep.ensures.ok is whole).keeps
+    (keep_done i.entries.items c.push.new.self.items i.channels.entries c.args.seat c.args.channel c.args.number c.index_mut-open.result.now c.keep.new.self c.args.claims (kept (Err NoMemory)) c.self.invariant.left c.index_mut-open.ensures.value tested c.in_ok-keep.ensures.ok is whole).keeps
 
 pub returns-clause-call : goal.returns-clause-call
 returns-clause-call c =
     let i = c.self.inside in
     let is = grown c.push.result c.unwrap.result c.push.new.self.items c.reserve.new.self.items i.entries.items _ _ c.unwrap.ensures c.push.ensures.items c.in-Ok.ensures.items refl in
-    let tested = subst (λ (cs : List ClaimParts). keep_refusal c.index_mut-open.result.now c.args.number cs ≡ None) c.values.ensures c.in-Ok-keep.ensures.tested in
+    let tested = subst (λ (cs : List ClaimParts). keep_refusal c.index_mut-open.result.now c.args.number cs ≡ None) c.values.ensures c.in_ok-keep.ensures.tested in
     let whole = subst (λ (cs : List ClaimParts). AllByRecursion IsWhole cs) c.values-2.ensures c.hold_whole.ensures in
-    let done = keep_done i.entries.items c.push.new.self.items i.channels.entries c.args.seat c.args.channel c.args.number c.index_mut-open.result.now c.keep.new.self c.args.claims (kept (Err NoMemory)) c.self.invariant.left c.index_mut-open.ensures.value tested c.in-Ok-keep.ensures.ok is whole in
+    let done = keep_done i.entries.items c.push.new.self.items i.channels.entries c.args.seat c.args.channel c.args.number c.index_mut-open.result.now c.keep.new.self c.args.claims (kept (Err NoMemory)) c.self.invariant.left c.index_mut-open.ensures.value tested c.in_ok-keep.ensures.ok is whole in
     subst (λ (h : List Entry). IsCall (kept (Err NoMemory)) (kept (Ok tt)) h c.push.new.self.items c.args.seat (Keep c.args.channel c.args.number c.args.claims)) c.self.view_is done.called
 
 pub returns-clause-exact : goal.returns-clause-exact
 returns-clause-exact c =
     let i = c.self.inside in
     let is = grown c.push.result c.unwrap.result c.push.new.self.items c.reserve.new.self.items i.entries.items _ _ c.unwrap.ensures c.push.ensures.items c.in-Ok.ensures.items refl in
-    let tested = subst (λ (cs : List ClaimParts). keep_refusal c.index_mut-open.result.now c.args.number cs ≡ None) c.values.ensures c.in-Ok-keep.ensures.tested in
+    let tested = subst (λ (cs : List ClaimParts). keep_refusal c.index_mut-open.result.now c.args.number cs ≡ None) c.values.ensures c.in_ok-keep.ensures.tested in
     let whole = subst (λ (cs : List ClaimParts). AllByRecursion IsWhole cs) c.values-2.ensures c.hold_whole.ensures in
-    let done = keep_done i.entries.items c.push.new.self.items i.channels.entries c.args.seat c.args.channel c.args.number c.index_mut-open.result.now c.keep.new.self c.args.claims (kept (Err NoMemory)) c.self.invariant.left c.index_mut-open.ensures.value tested c.in-Ok-keep.ensures.ok is whole in
+    let done = keep_done i.entries.items c.push.new.self.items i.channels.entries c.args.seat c.args.channel c.args.number c.index_mut-open.result.now c.keep.new.self c.args.claims (kept (Err NoMemory)) c.self.invariant.left c.index_mut-open.ensures.value tested c.in_ok-keep.ensures.ok is whole in
     subst (λ (h : List Entry). ArePenaltiesIn c.args.channel c.args.number (replay h) c.args.claims) c.self.view_is
     (kept_by_call c.sides_are_sound.ensures.numbered i.entries.items c.push.new.self.items c.args.seat c.args.channel c.args.number c.args.claims c.self.invariant.left.accepted whole done.called)
 
-pub invariant_of-self-in-Err-keep : goal.invariant_of-self-in-Err-keep
-invariant_of-self-in-Err-keep c =
+pub invariant_of-self-in_err-keep : goal.invariant_of-self-in_err-keep
+invariant_of-self-in_err-keep c =
     let i = c.self.inside in
     uncalled i.entries.items i.channels.entries _ c.self.invariant _ _ _ c.in-Ok.ensures.items refl
-    (left_alone i.entries.items i.channels.entries c.self.invariant.left c.reserve.new.self.items c.in-Ok.ensures.items c.args.channel c.index_mut-open.result.now c.keep.new.self c.index_mut-open.ensures.value c.in-Err-keep.ensures.err)
+    (left_alone i.entries.items i.channels.entries c.self.invariant.left c.reserve.new.self.items c.in-Ok.ensures.items c.args.channel c.index_mut-open.result.now c.keep.new.self c.index_mut-open.ensures.value c.in_err-keep.ensures.err)
 
-pub returns-in-Err-keep-clause-call : goal.returns-in-Err-keep-clause-call
-returns-in-Err-keep-clause-call c =
+pub returns-in_err-keep-clause-call : goal.returns-in_err-keep-clause-call
+returns-in_err-keep-clause-call c =
     let i = c.self.inside in
-    let tested = subst (λ (cs : List ClaimParts). IsKeepRefusal (keep_refusal c.index_mut-open.result.now c.args.number cs) c.in-Err-keep.error) c.values.ensures c.in-Err-keep.ensures.tested in
-    let refused = keep_refused i.entries.items c.reserve.new.self.items i.channels.entries c.self.invariant.left c.in-Ok.ensures.items c.args.seat c.args.channel c.index_mut-open.result.now c.index_mut-open.ensures.value c.args.number c.args.claims c.in-Err-keep.error tested in
-    subst (λ (h : List Entry). IsCall (kept (Err NoMemory)) (kept (Err c.in-Err-keep.error)) h c.reserve.new.self.items c.args.seat (Keep c.args.channel c.args.number c.args.claims)) c.self.view_is refused
+    let tested = subst (λ (cs : List ClaimParts). IsKeepRefusal (keep_refusal c.index_mut-open.result.now c.args.number cs) c.in_err-keep.field-0.0) c.values.ensures c.in_err-keep.ensures.tested in
+    let refused = keep_refused i.entries.items c.reserve.new.self.items i.channels.entries c.self.invariant.left c.in-Ok.ensures.items c.args.seat c.args.channel c.index_mut-open.result.now c.index_mut-open.ensures.value c.args.number c.args.claims c.in_err-keep.field-0.0 tested in
+    let p = err_from_is_err_and c.from_residual.result c.from_residual.ensures.1 in
+    rw (p.1, p.2) (subst (λ (h : List Entry). IsCall (kept (Err NoMemory)) (kept (Err c.in_err-keep.field-0.0)) h c.reserve.new.self.items c.args.seat (Keep c.args.channel c.args.number c.args.claims)) c.self.view_is refused)

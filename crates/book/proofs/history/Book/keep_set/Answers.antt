@@ -1,4 +1,5 @@
 use Rattle.std.proofs.Common.{◌≡◌, List, None, Bor, subst, Err, Ok, sym, ap, ◌∙◌, refl}
+use Rattle.std.proofs.lemmas.Result.{err_from_is_err_and}
 use Rattle.std.proofs.lemmas.Option.{same_Some}
 use Rattle.std.specs.List.{AllByRecursion}
 use Rattle.claim.specs.Claims.{ClaimParts, IsWhole}
@@ -31,10 +32,10 @@ invariant_of-self-2 c =
     let claims = c.args.set.claims in
     let named = ap (λ (cs : List ClaimParts). entry c.args.seat (Keep c.args.channel c.args.number cs)) (c.from_vec.ensures ∙ c.into_claims.ensures.value) in
     let is = grown c.push.result c.unwrap.result c.push.new.self.items c.reserve.new.self.items i.entries.items _ _ c.unwrap.ensures c.push.ensures.items c.in-Ok.ensures.items named in
-    let tested = subst (λ (cs : List ClaimParts). keep_refusal c.index_mut-open.result.now c.args.number cs ≡ None) c.claims.ensures.value c.in-Ok-keep.ensures.tested in
+    let tested = subst (λ (cs : List ClaimParts). keep_refusal c.index_mut-open.result.now c.args.number cs ≡ None) c.claims.ensures.value c.in_ok-keep.ensures.tested in
     let whole = subst (λ (cs : List ClaimParts). AllByRecursion IsWhole cs) c.claims-2.ensures.value c.hold_whole.ensures in
     called i.entries.items i.channels.entries _ c.self.invariant _ _ _ _ is refl
-    (keep_done i.entries.items c.push.new.self.items i.channels.entries c.args.seat c.args.channel c.args.number c.index_mut-open.result.now c.keep.new.self claims (kept (Err NoMemory)) c.self.invariant.left c.index_mut-open.ensures.value tested c.in-Ok-keep.ensures.ok is whole).keeps
+    (keep_done i.entries.items c.push.new.self.items i.channels.entries c.args.seat c.args.channel c.args.number c.index_mut-open.result.now c.keep.new.self claims (kept (Err NoMemory)) c.self.invariant.left c.index_mut-open.ensures.value tested c.in_ok-keep.ensures.ok is whole).keeps
 
 pub returns-clause-call : goal.returns-clause-call
 returns-clause-call c =
@@ -42,9 +43,9 @@ returns-clause-call c =
     let claims = c.args.set.claims in
     let named = ap (λ (cs : List ClaimParts). entry c.args.seat (Keep c.args.channel c.args.number cs)) (c.from_vec.ensures ∙ c.into_claims.ensures.value) in
     let is = grown c.push.result c.unwrap.result c.push.new.self.items c.reserve.new.self.items i.entries.items _ _ c.unwrap.ensures c.push.ensures.items c.in-Ok.ensures.items named in
-    let tested = subst (λ (cs : List ClaimParts). keep_refusal c.index_mut-open.result.now c.args.number cs ≡ None) c.claims.ensures.value c.in-Ok-keep.ensures.tested in
+    let tested = subst (λ (cs : List ClaimParts). keep_refusal c.index_mut-open.result.now c.args.number cs ≡ None) c.claims.ensures.value c.in_ok-keep.ensures.tested in
     let whole = subst (λ (cs : List ClaimParts). AllByRecursion IsWhole cs) c.claims-2.ensures.value c.hold_whole.ensures in
-    let done = keep_done i.entries.items c.push.new.self.items i.channels.entries c.args.seat c.args.channel c.args.number c.index_mut-open.result.now c.keep.new.self claims (kept (Err NoMemory)) c.self.invariant.left c.index_mut-open.ensures.value tested c.in-Ok-keep.ensures.ok is whole in
+    let done = keep_done i.entries.items c.push.new.self.items i.channels.entries c.args.seat c.args.channel c.args.number c.index_mut-open.result.now c.keep.new.self claims (kept (Err NoMemory)) c.self.invariant.left c.index_mut-open.ensures.value tested c.in_ok-keep.ensures.ok is whole in
     subst (λ (h : List Entry). IsCall (kept (Err NoMemory)) (kept (Ok tt)) h c.push.new.self.items c.args.seat (Keep c.args.channel c.args.number claims)) c.self.view_is done.called
 
 pub returns-clause-exact : goal.returns-clause-exact
@@ -53,22 +54,23 @@ returns-clause-exact c =
     let claims = c.args.set.claims in
     let named = ap (λ (cs : List ClaimParts). entry c.args.seat (Keep c.args.channel c.args.number cs)) (c.from_vec.ensures ∙ c.into_claims.ensures.value) in
     let is = grown c.push.result c.unwrap.result c.push.new.self.items c.reserve.new.self.items i.entries.items _ _ c.unwrap.ensures c.push.ensures.items c.in-Ok.ensures.items named in
-    let tested = subst (λ (cs : List ClaimParts). keep_refusal c.index_mut-open.result.now c.args.number cs ≡ None) c.claims.ensures.value c.in-Ok-keep.ensures.tested in
+    let tested = subst (λ (cs : List ClaimParts). keep_refusal c.index_mut-open.result.now c.args.number cs ≡ None) c.claims.ensures.value c.in_ok-keep.ensures.tested in
     let whole = subst (λ (cs : List ClaimParts). AllByRecursion IsWhole cs) c.claims-2.ensures.value c.hold_whole.ensures in
-    let done = keep_done i.entries.items c.push.new.self.items i.channels.entries c.args.seat c.args.channel c.args.number c.index_mut-open.result.now c.keep.new.self claims (kept (Err NoMemory)) c.self.invariant.left c.index_mut-open.ensures.value tested c.in-Ok-keep.ensures.ok is whole in
+    let done = keep_done i.entries.items c.push.new.self.items i.channels.entries c.args.seat c.args.channel c.args.number c.index_mut-open.result.now c.keep.new.self claims (kept (Err NoMemory)) c.self.invariant.left c.index_mut-open.ensures.value tested c.in_ok-keep.ensures.ok is whole in
     subst (λ (h : List Entry). ArePenaltiesIn c.args.channel c.args.number (replay h) claims) c.self.view_is
     (kept_by_call c.sides_are_sound.ensures.numbered i.entries.items c.push.new.self.items c.args.seat c.args.channel c.args.number claims c.self.invariant.left.accepted whole done.called)
 
-pub invariant_of-self-in-Err-keep : goal.invariant_of-self-in-Err-keep
-invariant_of-self-in-Err-keep c =
+pub invariant_of-self-in_err-keep : goal.invariant_of-self-in_err-keep
+invariant_of-self-in_err-keep c =
     let i = c.self.inside in
     uncalled i.entries.items i.channels.entries _ c.self.invariant _ _ _ c.in-Ok.ensures.items refl
-    (left_alone i.entries.items i.channels.entries c.self.invariant.left c.reserve.new.self.items c.in-Ok.ensures.items c.args.channel c.index_mut-open.result.now c.keep.new.self c.index_mut-open.ensures.value c.in-Err-keep.ensures.err)
+    (left_alone i.entries.items i.channels.entries c.self.invariant.left c.reserve.new.self.items c.in-Ok.ensures.items c.args.channel c.index_mut-open.result.now c.keep.new.self c.index_mut-open.ensures.value c.in_err-keep.ensures.err)
 
-pub returns-in-Err-keep-clause-call : goal.returns-in-Err-keep-clause-call
-returns-in-Err-keep-clause-call c =
+pub returns-in_err-keep-clause-call : goal.returns-in_err-keep-clause-call
+returns-in_err-keep-clause-call c =
     let i = c.self.inside in
     let claims = c.args.set.claims in
-    let tested = subst (λ (cs : List ClaimParts). IsKeepRefusal (keep_refusal c.index_mut-open.result.now c.args.number cs) c.in-Err-keep.error) c.claims.ensures.value c.in-Err-keep.ensures.tested in
-    let refused = keep_refused i.entries.items c.reserve.new.self.items i.channels.entries c.self.invariant.left c.in-Ok.ensures.items c.args.seat c.args.channel c.index_mut-open.result.now c.index_mut-open.ensures.value c.args.number claims c.in-Err-keep.error tested in
-    subst (λ (h : List Entry). IsCall (kept (Err NoMemory)) (kept (Err c.in-Err-keep.error)) h c.reserve.new.self.items c.args.seat (Keep c.args.channel c.args.number claims)) c.self.view_is refused
+    let tested = subst (λ (cs : List ClaimParts). IsKeepRefusal (keep_refusal c.index_mut-open.result.now c.args.number cs) c.in_err-keep.field-0.0) c.claims.ensures.value c.in_err-keep.ensures.tested in
+    let refused = keep_refused i.entries.items c.reserve.new.self.items i.channels.entries c.self.invariant.left c.in-Ok.ensures.items c.args.seat c.args.channel c.index_mut-open.result.now c.index_mut-open.ensures.value c.args.number claims c.in_err-keep.field-0.0 tested in
+    let p = err_from_is_err_and c.from_residual.result c.from_residual.ensures.1 in
+    rw (p.1, p.2) (subst (λ (h : List Entry). IsCall (kept (Err NoMemory)) (kept (Err c.in_err-keep.field-0.0)) h c.reserve.new.self.items c.args.seat (Keep c.args.channel c.args.number claims)) c.self.view_is refused)

@@ -1,4 +1,5 @@
 use Rattle.std.proofs.Common.{◌≡◌, ◌<◌, List, [], ◌∷◌, ◌++◌, length, None, Err, Ok, refl, sym, ap, ◌∙◌, subst, rules}
+use Rattle.std.proofs.lemmas.Result.{err_from_is_err_and}
 use Rattle.tx.specs.Fields.{same_outpoint}
 use Rattle.indexmap.specs.IndexMap.{get}
 use Rattle.indexmap.proofs.CallerLemmas.{insert_entry-new}
@@ -21,13 +22,14 @@ returns-then-contains_key c =
     subst (λ (h : List Entry). IsCall (opened (Err NoMemory)) (opened (Err SameFunding)) h h c.args.seat (Open c.args.opening)) c.self.view_is
     (same_funding i.entries.items i.channels.entries c.args.seat c.args.opening (opened (Err NoMemory)) c.self.invariant.left (no_room MAX_CHANNELS (length i.channels.entries) few) (sym c.contains_key.ensures ∙ c.if-contains_key.true))
 
-pub returns-in-Err-open : goal.returns-in-Err-open
-returns-in-Err-open c =
+pub returns-in_err-open : goal.returns-in_err-open
+returns-in_err-open c =
     let i = c.self.inside in
     let few : length i.channels.entries < MAX_CHANNELS = search rules in
-    let refused = no_token i.entries.items i.channels.entries c.args.seat c.args.opening c.in-Err-open.error c.self.invariant.left (no_room MAX_CHANNELS (length i.channels.entries) few) (sym c.contains_key.ensures ∙ c.if-contains_key.false) c.in-Err-open.ensures.tested in
-    subst (λ (h : List Entry). IsCall (opened (Err NoMemory)) (opened (Err c.in-Err-open.error)) h c.reserve.new.self.items c.args.seat (Open c.args.opening)) c.self.view_is
-    (subst (λ (h : List Entry). IsCall (opened (Err NoMemory)) (opened (Err c.in-Err-open.error)) i.entries.items h c.args.seat (Open c.args.opening)) (sym c.in-Ok.ensures.items) refused)
+    let refused = no_token i.entries.items i.channels.entries c.args.seat c.args.opening c.in_err-open.field-0.0 c.self.invariant.left (no_room MAX_CHANNELS (length i.channels.entries) few) (sym c.contains_key.ensures ∙ c.if-contains_key.false) c.in_err-open.ensures.tested in
+    let p = err_from_is_err_and c.from_residual.result c.from_residual.ensures.1 in
+    rw (p.1, p.2) (subst (λ (h : List Entry). IsCall (opened (Err NoMemory)) (opened (Err c.in_err-open.field-0.0)) h c.reserve.new.self.items c.args.seat (Open c.args.opening)) c.self.view_is
+    (subst (λ (h : List Entry). IsCall (opened (Err NoMemory)) (opened (Err c.in_err-open.field-0.0)) i.entries.items h c.args.seat (Open c.args.opening)) (sym c.in-Ok.ensures.items) refused))
 
 pub invariant_of-self-2 : goal.invariant_of-self-2
 invariant_of-self-2 c =
@@ -38,10 +40,10 @@ invariant_of-self-2 c =
     let index : c.len-index.result ≡ length i.channels.entries = search rules in
     let absent = sym c.contains_key.ensures ∙ c.if-contains_key.false in
     let none : get same_outpoint i.channels f ≡ None = search rules in
-    let more = c.in-Ok-insert.ensures.entries ∙ insert_entry-new same_outpoint i.channels f c.in-Ok-open.open none ∙ ap (λ (x : ChannelBook). i.channels.entries ++ (f, x) ∷ []) c.in-Ok-open.ensures.ok in
+    let more = c.in-Ok-insert.ensures.entries ∙ insert_entry-new same_outpoint i.channels f c.in_ok-open.open none ∙ ap (λ (x : ChannelBook). i.channels.entries ++ (f, x) ∷ []) c.in_ok-open.ensures.ok in
     let is = grown c.push.result c.unwrap.result c.push.new.self.items c.reserve.new.self.items i.entries.items _ _ c.unwrap.ensures c.push.ensures.items c.in-Ok.ensures.items refl in
     called i.entries.items i.channels.entries _ c.self.invariant _ _ _ _ is (c.add_channel.ensures ∙ ap (λ (ps : Preimages). ps ++ [] ∷ []) c.reserve_channel.ensures.same)
-    (open_done i.entries.items c.push.new.self.items i.channels.entries c.insert.new.self.entries c.args.seat c.len-index.result o (opened (Err NoMemory)) c.self.invariant.left (no_room MAX_CHANNELS (length i.channels.entries) few) absent c.in-Ok-open.ensures.tested index more is).keeps
+    (open_done i.entries.items c.push.new.self.items i.channels.entries c.insert.new.self.entries c.args.seat c.len-index.result o (opened (Err NoMemory)) c.self.invariant.left (no_room MAX_CHANNELS (length i.channels.entries) few) absent c.in_ok-open.ensures.tested index more is).keeps
 
 pub returns : goal.returns
 returns c =
@@ -52,7 +54,7 @@ returns c =
     let index : c.len-index.result ≡ length i.channels.entries = search rules in
     let absent = sym c.contains_key.ensures ∙ c.if-contains_key.false in
     let none : get same_outpoint i.channels f ≡ None = search rules in
-    let more = c.in-Ok-insert.ensures.entries ∙ insert_entry-new same_outpoint i.channels f c.in-Ok-open.open none ∙ ap (λ (x : ChannelBook). i.channels.entries ++ (f, x) ∷ []) c.in-Ok-open.ensures.ok in
+    let more = c.in-Ok-insert.ensures.entries ∙ insert_entry-new same_outpoint i.channels f c.in_ok-open.open none ∙ ap (λ (x : ChannelBook). i.channels.entries ++ (f, x) ∷ []) c.in_ok-open.ensures.ok in
     let is = grown c.push.result c.unwrap.result c.push.new.self.items c.reserve.new.self.items i.entries.items _ _ c.unwrap.ensures c.push.ensures.items c.in-Ok.ensures.items refl in
-    let done = open_done i.entries.items c.push.new.self.items i.channels.entries c.insert.new.self.entries c.args.seat c.len-index.result o (opened (Err NoMemory)) c.self.invariant.left (no_room MAX_CHANNELS (length i.channels.entries) few) absent c.in-Ok-open.ensures.tested index more is in
+    let done = open_done i.entries.items c.push.new.self.items i.channels.entries c.insert.new.self.entries c.args.seat c.len-index.result o (opened (Err NoMemory)) c.self.invariant.left (no_room MAX_CHANNELS (length i.channels.entries) few) absent c.in_ok-open.ensures.tested index more is in
     subst (λ (h : List Entry). IsCall (opened (Err NoMemory)) (opened (Ok c.len-index.result)) h c.push.new.self.items c.args.seat (Open c.args.opening)) c.self.view_is done.called

@@ -1,4 +1,5 @@
 use Rattle.std.proofs.Common.{List, subst, Err, Ok, refl}
+use Rattle.std.proofs.lemmas.Result.{err_from_is_err_and}
 use Rattle.book.specs.declared.calls.Call.TheVariants.{Sign}
 use Rattle.book.specs.declared.calls.Entry.{Entry}
 use Rattle.book.specs.declared.errors.SignError.TheVariants.{NoMemory}
@@ -15,23 +16,24 @@ invariant_of-self-2 c =
     let i = c.self.inside in
     let is = grown c.push.result c.unwrap.result c.push.new.self.items c.reserve.new.self.items i.entries.items _ _ c.unwrap.ensures c.push.ensures.items c.in-Ok.ensures.items refl in
     called i.entries.items i.channels.entries _ c.self.invariant _ _ _ _ is refl
-    (sign_done i.entries.items c.push.new.self.items i.channels.entries c.args.seat c.args.channel c.index_mut-open.result.now c.sign.new.self c.in-Ok-sign.message (signed (Err NoMemory)) c.self.invariant.left c.index_mut-open.ensures.value c.in-Ok-sign.ensures.tested c.in-Ok-sign.ensures.message c.in-Ok-sign.ensures.ok is).keeps
+    (sign_done i.entries.items c.push.new.self.items i.channels.entries c.args.seat c.args.channel c.index_mut-open.result.now c.sign.new.self c.in_ok-message.message (signed (Err NoMemory)) c.self.invariant.left c.index_mut-open.ensures.value c.in_ok-message.ensures.tested c.in_ok-message.ensures.message c.in_ok-message.ensures.ok is).keeps
 
 pub returns : goal.returns
 returns c =
     let i = c.self.inside in
     let is = grown c.push.result c.unwrap.result c.push.new.self.items c.reserve.new.self.items i.entries.items _ _ c.unwrap.ensures c.push.ensures.items c.in-Ok.ensures.items refl in
-    let done = sign_done i.entries.items c.push.new.self.items i.channels.entries c.args.seat c.args.channel c.index_mut-open.result.now c.sign.new.self c.in-Ok-sign.message (signed (Err NoMemory)) c.self.invariant.left c.index_mut-open.ensures.value c.in-Ok-sign.ensures.tested c.in-Ok-sign.ensures.message c.in-Ok-sign.ensures.ok is in
-    subst (λ (h : List Entry). IsCall (signed (Err NoMemory)) (signed (Ok c.in-Ok-sign.message)) h c.push.new.self.items c.args.seat (Sign c.args.channel)) c.self.view_is done.called
+    let done = sign_done i.entries.items c.push.new.self.items i.channels.entries c.args.seat c.args.channel c.index_mut-open.result.now c.sign.new.self c.in_ok-message.message (signed (Err NoMemory)) c.self.invariant.left c.index_mut-open.ensures.value c.in_ok-message.ensures.tested c.in_ok-message.ensures.message c.in_ok-message.ensures.ok is in
+    subst (λ (h : List Entry). IsCall (signed (Err NoMemory)) (signed (Ok c.in_ok-message.message)) h c.push.new.self.items c.args.seat (Sign c.args.channel)) c.self.view_is done.called
 
-pub invariant_of-self-in-Err-sign : goal.invariant_of-self-in-Err-sign
-invariant_of-self-in-Err-sign c =
+pub invariant_of-self-in_err-message : goal.invariant_of-self-in_err-message
+invariant_of-self-in_err-message c =
     let i = c.self.inside in
     uncalled i.entries.items i.channels.entries _ c.self.invariant _ _ _ c.in-Ok.ensures.items refl
-    (left_alone i.entries.items i.channels.entries c.self.invariant.left c.reserve.new.self.items c.in-Ok.ensures.items c.args.channel c.index_mut-open.result.now c.sign.new.self c.index_mut-open.ensures.value c.in-Err-sign.ensures.err)
+    (left_alone i.entries.items i.channels.entries c.self.invariant.left c.reserve.new.self.items c.in-Ok.ensures.items c.args.channel c.index_mut-open.result.now c.sign.new.self c.index_mut-open.ensures.value c.in_err-message.ensures.err)
 
-pub returns-in-Err-sign : goal.returns-in-Err-sign
-returns-in-Err-sign c =
+pub returns-in_err-message : goal.returns-in_err-message
+returns-in_err-message c =
     let i = c.self.inside in
-    let refused = sign_refused i.entries.items c.reserve.new.self.items i.channels.entries c.self.invariant.left c.in-Ok.ensures.items c.args.seat c.args.channel c.index_mut-open.result.now c.index_mut-open.ensures.value c.in-Err-sign.error c.in-Err-sign.ensures.tested in
-    subst (λ (h : List Entry). IsCall (signed (Err NoMemory)) (signed (Err c.in-Err-sign.error)) h c.reserve.new.self.items c.args.seat (Sign c.args.channel)) c.self.view_is refused
+    let refused = sign_refused i.entries.items c.reserve.new.self.items i.channels.entries c.self.invariant.left c.in-Ok.ensures.items c.args.seat c.args.channel c.index_mut-open.result.now c.index_mut-open.ensures.value c.in_err-message.field-0.0 c.in_err-message.ensures.tested in
+    let p = err_from_is_err_and c.from_residual.result c.from_residual.ensures.1 in
+    rw (p.1, p.2) (subst (λ (h : List Entry). IsCall (signed (Err NoMemory)) (signed (Err c.in_err-message.field-0.0)) h c.reserve.new.self.items c.args.seat (Sign c.args.channel)) c.self.view_is refused)

@@ -1,4 +1,5 @@
 use Rattle.std.proofs.Common.{◌<◌, List, ◌++◌, length, ap, sym, ◌∙◌, subst, Err, Ok, [], rules}
+use Rattle.std.proofs.lemmas.Result.{err_from_is_err_and}
 use Rattle.std.specs.List.{cons_option}
 use Rattle.updates.specs.declared.errors.ChannelError.TheVariants.{NoMemory}
 use Rattle.book.specs.declared.calls.Step.{Step}
@@ -19,34 +20,35 @@ use Rattle.book.proofs.history.Book.step.Goals as goal
 pub invariant_of-self-2 : goal.invariant_of-self-2
 invariant_of-self-2 c =
     let i = c.self.inside in
-    let t = c.in-Ok-step.taken in
-    let named = ap (λ (s : Step). entry c.args.seat (Stepping c.args.channel s)) c.in-Ok-step.ensures.step in
+    let t = c.in_ok-taken.taken in
+    let named = ap (λ (s : Step). entry c.args.seat (Stepping c.args.channel s)) c.in_ok-taken.ensures.step in
     let is = grown c.push.result c.unwrap.result c.push.new.self.items c.reserve.new.self.items i.entries.items _ _ c.unwrap.ensures c.push.ensures.items c.in-Ok.ensures.items named in
-    let after = c.add_preimage.ensures ∙ ap (λ (x : Step). at_index (λ own. own ++ cons_option (preimage_in x) []) c.args.channel (kept_by c.reserve_preimage.new.self)) c.in-Ok-step.ensures.step
+    let after = c.add_preimage.ensures ∙ ap (λ (x : Step). at_index (λ own. own ++ cons_option (preimage_in x) []) c.args.channel (kept_by c.reserve_preimage.new.self)) c.in_ok-taken.ensures.step
     ∙ ap (λ (ps : Preimages). at_index (λ own. own ++ cons_option (preimage_in c.args.step) []) c.args.channel ps) c.reserve_preimage.ensures.same in
     called i.entries.items i.channels.entries _ c.self.invariant _ _ _ _ is after
-    (step_done i.entries.items c.push.new.self.items i.channels.entries c.args.seat c.args.channel c.index_mut-open.result.now c.step.new.self c.args.step t.message (stepped (Err (Refused NoMemory))) c.self.invariant.left c.index_mut-open.ensures.value c.in-Ok-step.ensures.tested c.in-Ok-step.ensures.message c.in-Ok-step.ensures.ok is).keeps
+    (step_done i.entries.items c.push.new.self.items i.channels.entries c.args.seat c.args.channel c.index_mut-open.result.now c.step.new.self c.args.step t.message (stepped (Err (Refused NoMemory))) c.self.invariant.left c.index_mut-open.ensures.value c.in_ok-taken.ensures.tested c.in_ok-taken.ensures.message c.in_ok-taken.ensures.ok is).keeps
 
 pub returns : goal.returns
 returns c =
     let i = c.self.inside in
-    let t = c.in-Ok-step.taken in
-    let named = ap (λ (s : Step). entry c.args.seat (Stepping c.args.channel s)) c.in-Ok-step.ensures.step in
+    let t = c.in_ok-taken.taken in
+    let named = ap (λ (s : Step). entry c.args.seat (Stepping c.args.channel s)) c.in_ok-taken.ensures.step in
     let is = grown c.push.result c.unwrap.result c.push.new.self.items c.reserve.new.self.items i.entries.items _ _ c.unwrap.ensures c.push.ensures.items c.in-Ok.ensures.items named in
-    let done = step_done i.entries.items c.push.new.self.items i.channels.entries c.args.seat c.args.channel c.index_mut-open.result.now c.step.new.self c.args.step t.message (stepped (Err (Refused NoMemory))) c.self.invariant.left c.index_mut-open.ensures.value c.in-Ok-step.ensures.tested c.in-Ok-step.ensures.message c.in-Ok-step.ensures.ok is in
+    let done = step_done i.entries.items c.push.new.self.items i.channels.entries c.args.seat c.args.channel c.index_mut-open.result.now c.step.new.self c.args.step t.message (stepped (Err (Refused NoMemory))) c.self.invariant.left c.index_mut-open.ensures.value c.in_ok-taken.ensures.tested c.in_ok-taken.ensures.message c.in_ok-taken.ensures.ok is in
     subst (λ (h : List Entry). IsCall (stepped (Err (Refused NoMemory))) (stepped (Ok (cons_option t.message []))) h c.push.new.self.items c.args.seat (Stepping c.args.channel c.args.step)) c.self.view_is done.called
 
-pub invariant_of-self-in-Err-step : goal.invariant_of-self-in-Err-step
-invariant_of-self-in-Err-step c =
+pub invariant_of-self-in_err-taken : goal.invariant_of-self-in_err-taken
+invariant_of-self-in_err-taken c =
     let i = c.self.inside in
     uncalled i.entries.items i.channels.entries _ c.self.invariant _ _ _ c.in-Ok.ensures.items c.reserve_preimage.ensures.same
-    (left_alone i.entries.items i.channels.entries c.self.invariant.left c.reserve.new.self.items c.in-Ok.ensures.items c.args.channel c.index_mut-open.result.now c.step.new.self c.index_mut-open.ensures.value c.in-Err-step.ensures.err)
+    (left_alone i.entries.items i.channels.entries c.self.invariant.left c.reserve.new.self.items c.in-Ok.ensures.items c.args.channel c.index_mut-open.result.now c.step.new.self c.index_mut-open.ensures.value c.in_err-taken.ensures.err)
 
-pub returns-in-Err-step : goal.returns-in-Err-step
-returns-in-Err-step c =
+pub returns-in_err-taken : goal.returns-in_err-taken
+returns-in_err-taken c =
     let i = c.self.inside in
-    let refused = step_refused i.entries.items c.reserve.new.self.items i.channels.entries c.self.invariant.left c.in-Ok.ensures.items c.args.seat c.args.channel c.index_mut-open.result.now c.index_mut-open.ensures.value c.args.step c.in-Err-step.error c.in-Err-step.ensures.tested in
-    subst (λ (h : List Entry). IsCall (stepped (Err (Refused NoMemory))) (stepped (Err c.in-Err-step.error)) h c.reserve.new.self.items c.args.seat (Stepping c.args.channel c.args.step)) c.self.view_is refused
+    let refused = step_refused i.entries.items c.reserve.new.self.items i.channels.entries c.self.invariant.left c.in-Ok.ensures.items c.args.seat c.args.channel c.index_mut-open.result.now c.index_mut-open.ensures.value c.args.step c.in_err-taken.field-0.0 c.in_err-taken.ensures.tested in
+    let p = err_from_is_err_and c.from_residual.result c.from_residual.ensures.1 in
+    rw (p.1, p.2) (subst (λ (h : List Entry). IsCall (stepped (Err (Refused NoMemory))) (stepped (Err c.in_err-taken.field-0.0)) h c.reserve.new.self.items c.args.seat (Stepping c.args.channel c.args.step)) c.self.view_is refused)
 
 pub reserve_preimage-requires : goal.reserve_preimage-requires
 reserve_preimage-requires c =

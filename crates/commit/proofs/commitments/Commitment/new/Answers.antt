@@ -7,7 +7,7 @@ use Rattle.commit.proofs.commitments.Commitment.new.Goals as goal
 
 pub invariant_of-result : goal.invariant_of-result
 invariant_of-result c =
-    let t = transaction_is (record { funding = c.args.funding; hidden = c.args.hidden; keys = bytes_of c.args.keys; delay = c.args.delay; feerate = c.args.feerate; outputs = c.args.outputs })
+    let t = transaction_is (record { funding = c.args.funding; hidden = c.args.hidden; keys = bytes_of c.args.keys; delay_blocks = c.args.delay_blocks; feerate_per_kw = c.args.feerate_per_kw; outputs = c.args.outputs })
     c.in_ok-tx.tx (map tx_output c.values.result.now) c.in_ok-tx.ensures (ap (map tx_output) c.values.ensures) in
     record {
       transaction_is = t;

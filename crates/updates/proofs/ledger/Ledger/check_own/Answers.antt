@@ -1,7 +1,6 @@
-use Rattle.std.proofs.Common.{List, subst, sym, None, Some, ◌≡◌}
+use Rattle.std.proofs.Common.{List, subst, None, Some, ◌≡◌}
 use Rattle.std.specs.Prelude.{MatchResult}
 use Rattle.updates.specs.Refusals.{Test, first_refusal, IsRefusal}
-use Rattle.updates.specs.Pending.{kept_tests}
 use Rattle.updates.specs.Steady.{Held, own_tests}
 use Rattle.updates.proofs.Accepting.{answered}
 use Rattle.updates.proofs.Ledgers.{ledger_tests}

@@ -22,4 +22,4 @@ returns c =
     let Q : Held → Type 0 = λ h. IsPartAt h.theirs c.args.theirs in
     let R : Held → Type 0 = λ h. c.view_from.result ≡ view_in h (take c.args.own.count h.own.known) (take c.args.theirs.count h.theirs.known) in
     let e = ledger_view _ _ _ _ _ c.self.invariant (subst P (sym c.self.view_is) c.requires.own) (subst Q (sym c.self.view_is) c.requires.theirs) in
-    subst R c.self.view_is (c.view_from.ensures ∙ rw (c.in_ok-mine.ensures, c.in_ok-others.ensures, c.rate_at-rate.ensures, c.party.ensures, c.party-2.ensures, c.other.ensures) e)
+    subst R c.self.view_is (c.view_from.ensures ∙ rw (c.in_ok-mine.ensures, c.in_ok-others.ensures, c.feerate_per_kw_at-feerate_per_kw.ensures, c.party.ensures, c.party-2.ensures, c.other.ensures) e)

@@ -1,4 +1,4 @@
-use Rattle.std.proofs.Common.{◌≡◌, ◌+◌, ◌*◌, ◌^◌, ◌≤◌, ◌++◌, length, filter, take, drop}
+use Rattle.std.proofs.Common.{◌≡◌, ◌+◌, ◌*◌, ◌^◌, ◌≤◌, length, filter, drop}
 use Rattle.updates.specs.Pending.{fulfilled_at, is_left}
 use Rattle.updates.proofs.pending.Pending.fulfilled_at.Given as goal
 

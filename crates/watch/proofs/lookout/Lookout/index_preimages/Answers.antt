@@ -1,5 +1,4 @@
 use Rattle.std.proofs.Common.{◌≡◌, List, ℕ, ap, ◌∙◌}
-use Rattle.resolve.specs.declared.known.Known.{Known}
 use Rattle.watch.proofs.Learnt.{kept_known}
 use Rattle.watch.proofs.lookout.Lookout.index_preimages.Goals as goal
 
