@@ -1,0 +1,95 @@
+"""Makes a partially signed transaction of a plan, and puts its signatures into the places that the plan has for them. Tested, not proved."""
+import partial
+import scripts
+import signatures
+from errors import Refused
+from partial import Partial, key_of
+from transaction import hash160, read_transaction
+
+# signatures of final witnesses times those that are wanted of their input, in all
+MAX_CHECKS = 100_000
+
+
+def input_fields(index, spent, outpoint):
+    """The fields of an input: what it spends, the hash type, the script, the keys' derivations, and preimages whose hash the script has."""
+    fields = {key_of(partial.WITNESS_UTXO): partial.output_field(spent.output), key_of(partial.SIGHASH_TYPE): signatures.ALL.to_bytes(4, "little")}
+    if spent.previous is not None:
+        before = read_transaction(spent.previous)
+        place = int.from_bytes(outpoint[32:], "little")
+        if bytes.fromhex(before.txid())[::-1] != outpoint[:32] or before.outputs[place : place + 1] != [spent.output]:
+            raise Refused(f"OtherTransaction {index}")
+        fields[key_of(partial.NON_WITNESS_UTXO)] = spent.previous
+    if scripts.is_script_hash(spent.output.program):
+        fields[key_of(partial.WITNESS_SCRIPT)] = spent.script
+    for key, path in spent.derivations.items():
+        fields[key_of(partial.BIP32_DERIVATION, key)] = path
+    pushes = scripts.pushes(spent.script)
+    if pushes is None:
+        raise Refused(f"BadScript {index}")
+    for it in spent.preimages():
+        if hash160(it) in pushes:
+            fields[key_of(partial.HASH160, hash160(it))] = it
+    return fields
+
+
+def make(plan):
+    """The partially signed transaction of a plan, without a signature."""
+    inputs = [input_fields(index, it, given.outpoint) for index, (it, given) in enumerate(zip(plan.inputs, plan.transaction.inputs))]
+    return Partial(plan.transaction, {key_of(partial.UNSIGNED_TX): plan.transaction.stripped()}, inputs, [{} for _ in plan.transaction.outputs])
+
+
+def checked(wanted, item, curve, place):
+    """A signature of the wanted key over the wanted digest, with hash type ALL and a low s."""
+    if not signatures.is_strict_der(item):
+        raise Refused(f"BadSignature {place}")
+    if item[-1] != signatures.ALL:
+        raise Refused(f"HashType {place}")
+    if not curve.verify(wanted.key, wanted.digest, item[:-1]):
+        raise Refused(f"BadSignature {place}")
+    if not curve.has_low_s(item[:-1]):
+        raise Refused(f"HighS {place}")
+    return item
+
+
+def formed_of(fields):
+    """The items of an input's final witness that have the form of a signature with hash type ALL."""
+    return [it for it in partial.final_witness(fields) or [] if signatures.is_strict_der(it) and it[-1] == signatures.ALL]
+
+
+def fill(index, spent, fields, curve):
+    """The witness of an input, with its signatures in their places."""
+    witness, partials, formed = list(spent.witness), partial.with_kind(fields, partial.PARTIAL_SIG), formed_of(fields)
+    for it in spent.wanted:
+        found = partials.get(it.key)
+        if found is None:
+            found = next((each for each in formed if curve.verify(it.key, it.digest, each[:-1])), None)
+        if found is None:
+            raise Refused(f"MissingSignature {index} {it.key.hex()}")
+        witness[it.item] = checked(it, found, curve, f"{index} {it.key.hex()}")
+    return witness
+
+
+def check_fields(index, spent, partially):
+    """Whether an input tells the same output, script and hash type as the plan, and no field of taproot."""
+    fields = partially.inputs[index]
+    taproot = partial.taproot_fields(fields)
+    if taproot:
+        raise Refused(f"TaprootField {index} {taproot[0]}")
+    if partial.spent_output(partially, index) not in (None, spent.output):
+        raise Refused(f"OtherOutput {index}")
+    if fields.get(key_of(partial.WITNESS_SCRIPT), spent.script) != spent.script:
+        raise Refused(f"OtherScript {index}")
+    if fields.get(key_of(partial.SIGHASH_TYPE), signatures.ALL.to_bytes(4, "little")) != signatures.ALL.to_bytes(4, "little"):
+        raise Refused(f"HashType {index}")
+
+
+def finish(plan, partially, curve):
+    """The signed transaction of a plan, with the signatures of a partially signed one."""
+    if partially.transaction.stripped() != plan.transaction.stripped():
+        raise Refused("OtherSpend")
+    if sum(len(it.wanted) * len(formed_of(fields)) for it, fields in zip(plan.inputs, partially.inputs)) > MAX_CHECKS:
+        raise Refused("TooManyChecks")
+    for index, spent in enumerate(plan.inputs):
+        check_fields(index, spent, partially)
+        plan.transaction.inputs[index].witness = fill(index, spent, partially.inputs[index], curve)
+    return plan.transaction

@@ -1,0 +1,230 @@
+"""Calls of real/judge, real/psbt and real/sign with hostile or wrong input: what each prints and its status, worked by hand from docs/REAL.md. Tested, not proved."""
+import base64
+import json
+import os
+import subprocess
+import sys
+
+from partial import FINAL_SCRIPTWITNESS, HASH160, MAGIC, NON_WITNESS_UTXO, PARTIAL_SIG, SIGHASH_TYPE, VERSION, WITNESS_SCRIPT, WITNESS_UTXO, Partial, key_of, output_field
+from transaction import MAX_MONEY, Input, Output, Transaction, sha256, text
+
+HERE = os.path.dirname(os.path.abspath(__file__))
+RECORD = os.path.join(HERE, "tests", "record.json")
+BY_RECORD = f"--recorded {RECORD}"
+USAGES = {
+    "judge": "usage: real/judge [--text] [--recorded FILE]\n",
+    "psbt": "usage: real/psbt make | finish [--recorded FILE]\n",
+    "sign": "usage: real/sign [--recorded FILE], with private keys on standard input alone\n",
+}
+SCRIPT = b"\x51"
+PROGRAM = b"\x00\x20" + sha256(SCRIPT)
+BEFORE = Transaction(2, [Input(bytes(36), b"", 0)], [Output(5, PROGRAM)], 0)
+OUTPOINT = bytes.fromhex(BEFORE.txid())[::-1] + bytes(4)
+# a transaction with one input, whose script is the number 1, and nothing to sign
+ONE = Transaction(2, [Input(OUTPOINT, b"", 0, [SCRIPT])], [Output(4, b"\x51")], 0)
+LINES = f"{ONE.bytes().hex()}\n5 {PROGRAM.hex()}\n"
+CLEAN = {"input": 0, "outpoint": ONE.inputs[0].shown_outpoint(), "answer": "clean", "path": 0, "counted": 0, "height": 1}
+CLEAN = {**CLEAN, "signatures": [], "digest": ONE.digest(0, SCRIPT, 5).hex(), "relay": []}
+WHOLE = {"txid": ONE.txid(), "wtxid": ONE.wtxid(), "inputs": 1, "outputs": 1, "fee": 1, "faults": []}
+
+
+def bare():
+    return Transaction(2, [Input(OUTPOINT, b"", 0)], [Output(4, b"\x51")], 0)
+
+
+def partially(fields=None, whole=None, before=b""):
+    """A partially signed transaction of one input with these fields, in base64."""
+    own = {key_of(0): before or bare().stripped(), **(whole or {})}
+    return Partial(bare(), own, [fields or {}], [{}]).base64()
+
+
+def line(value):
+    return json.dumps(value, separators=(",", ":")) + "\n"
+
+
+def settled(reason, says):
+    """The line of the one input where it is not judged."""
+    return line({"input": 0, "outpoint": CLEAN["outpoint"], "answer": "not judged", "reason": reason, "says": says})
+
+
+def refused(name):
+    return line({"refused": name})
+
+
+# outputs that exceed what is spent, two inputs of one output, and no output: each input is clean all the same
+OVER = {**WHOLE, "fee": -1, "faults": ["OutputsExceed"]}
+TWICE = Transaction(2, [Input(OUTPOINT, b"", 0, [SCRIPT]), Input(OUTPOINT, b"", 0, [SCRIPT])], [], 0)
+TWICE_TOLD = {"txid": TWICE.txid(), "wtxid": TWICE.wtxid(), "inputs": 2, "outputs": 0, "fee": 10, "faults": ["NoOutputs", "SameOutpoint"]}
+BOTH = "".join(line({**CLEAN, "input": it, "digest": TWICE.digest(it, SCRIPT, 5).hex()}) for it in (0, 1))
+UTXO = {key_of(WITNESS_UTXO): output_field(Output(5, PROGRAM))}
+FINAL = {key_of(FINAL_SCRIPTWITNESS): b"\x01" + text(SCRIPT)}
+UNSIGNED = {**WHOLE, "wtxid": ONE.txid()}
+UNKNOWN = {**UNSIGNED, "fee": None}
+HEX = ONE.bytes().hex()
+STRIPPED = ONE.stripped().hex()
+TOKEN = Transaction(2, [Input(OUTPOINT, b"", 0, [b"\x03" + bytes(64) + b"\x01", SCRIPT])], [], 0).bytes().hex()
+MANY = "ff" + "ff" * 8
+
+JUDGE = [
+    ("", "", refused("Truncated"), 1),
+    ("--text", "", "refused Truncated\n", 1),
+    ("", "zz", refused("BadHex"), 1),
+    ("", "0", refused("BadHex"), 1),
+    ("", b"\xff\xfe", refused("BadHex"), 1),
+    (BY_RECORD, LINES, line(WHOLE) + line(CLEAN), 0),
+    (BY_RECORD, LINES.replace("\n", "\r\n") + "\n", line(WHOLE) + line(CLEAN), 0),
+    (BY_RECORD, LINES.upper(), line(WHOLE) + line(CLEAN), 0),
+    (BY_RECORD, f"{HEX}\n3 {PROGRAM.hex()}", line(OVER) + line({**CLEAN, "digest": ONE.digest(0, SCRIPT, 3).hex()}), 1),
+    (BY_RECORD, f"{TWICE.bytes().hex()}\n5 {PROGRAM.hex()}\n5 {PROGRAM.hex()}", line(TWICE_TOLD) + BOTH, 1),
+    ("", HEX, refused("BadCount"), 1),
+    ("", LINES + f"5 {PROGRAM.hex()}", refused("BadCount"), 1),
+    ("", f"{HEX}\n5", refused("BadLine 2"), 1),
+    ("", f"{HEX}\n5  {PROGRAM.hex()}", refused("BadLine 2"), 1),
+    ("", f"{HEX}\n-5 {PROGRAM.hex()}", refused("BadLine 2"), 1),
+    ("", f"{HEX}\n0.5 {PROGRAM.hex()}", refused("BadLine 2"), 1),
+    ("", f"{HEX}\n2100000000000001 {PROGRAM.hex()}", refused("BadLine 2"), 1),
+    ("", f"{HEX}\n{'9' * 5000} {PROGRAM.hex()}", refused("BadLine 2"), 1),
+    ("", f"{HEX}\n5 bc1q", refused("BadLine 2"), 1),
+    ("", HEX[:-2], refused("Truncated"), 1),
+    ("", HEX + "00", refused("Trailing"), 1),
+    ("", f"02000000{MANY}", refused("Truncated"), 1),
+    ("", "02000000" + "01" + "00" * 36 + MANY, refused("Truncated"), 1),
+    ("", "02000000" + "fd0100" + "00" * 36, refused("LongCount"), 1),
+    ("", "020000000002" + HEX[12:], refused("BadMarker"), 1),
+    ("", "020000000001" + "00" + "00" + "00000000", refused("NoInputs"), 1),
+    ("", STRIPPED[:8] + "0001" + STRIPPED[8:-8] + "00" + STRIPPED[-8:], refused("NoWitness"), 1),
+    ("", "02000000" + "01" + "00" * 41 + "01" + (MAX_MONEY + 1).to_bytes(8, "little").hex() + "00" + "00000000", refused("ValueTooLarge"), 1),
+    ("", TOKEN, refused("BadCount"), 1),
+    ("", f"{TOKEN}\n5 51", refused("ForgedToken 0 0"), 1),
+    ("", "00" * 4_194_305, refused("TooLong"), 1),
+    ("", MAGIC, refused("Truncated"), 1),
+    ("", "cHNidP8=", refused("Truncated"), 1),
+    ("", "cHNidP\xe9", refused("BadBase64"), 1),
+    ("", "cHNidP8", refused("BadBase64"), 1),
+    ("", partially(whole={key_of(VERSION): b"\x02\x00\x00\x00"}), refused("PsbtVersion 2"), 1),
+    ("", partially(whole={key_of(VERSION): b"\x02"}), refused("BadField VERSION"), 1),
+    ("", (MAGIC + b"\x00").hex(), refused("NoTransaction"), 1),
+    ("", MAGIC + (b"\x01\x00" + text(bare().stripped())) * 2 + b"\x00" * 3, refused("DuplicateField"), 1),
+    ("", partially(before=ONE.bytes()), refused("NoInputs"), 1),
+    ("", partially({key_of(WITNESS_UTXO, b"\x01"): b""}), refused(f"BadField {WITNESS_UTXO}"), 1),
+    ("", partially({key_of(WITNESS_UTXO): b"\x05"}), refused("Truncated"), 1),
+    ("", partially({key_of(NON_WITNESS_UTXO): ONE.bytes()}), refused("OtherTransaction 0"), 1),
+    ("", partially({**FINAL, key_of(NON_WITNESS_UTXO): BEFORE.bytes(), key_of(WITNESS_UTXO): output_field(Output(6, PROGRAM))}), refused("OtherOutput 0"), 1),
+    (BY_RECORD, partially({**FINAL, **UTXO}), line(WHOLE) + line(CLEAN), 0),
+    (BY_RECORD, base64.b64decode(partially({**FINAL, key_of(NON_WITNESS_UTXO): BEFORE.bytes()})), line(WHOLE) + line(CLEAN), 0),
+    (BY_RECORD, partially({key_of(0x13): b""}), line(UNKNOWN) + settled("TaprootFields", "the input has the fields TAP_KEY_SIG (BIP 371)"), 1),
+    (BY_RECORD, partially(FINAL), line({**WHOLE, "fee": None}) + settled("NoOutput", "neither WITNESS_UTXO nor NON_WITNESS_UTXO tells what the input spends"), 1),
+    (BY_RECORD, partially(UTXO), line(UNSIGNED) + settled("NotFinal", "the input has no FINAL_SCRIPTWITNESS; real/psbt finish makes it from signatures"), 1),
+    (BY_RECORD, partially({key_of(WITNESS_UTXO): output_field(Output(5, b"\x51"))}), line(UNSIGNED) + settled("LegacyInput", "the output is no witness program (BIP 141)"), 1),
+    ("--texts", "", USAGES["judge"], 2),
+    ("--recorded", "", USAGES["judge"], 2),
+    (f"{BY_RECORD} --text", "", USAGES["judge"], 2),
+    ("--recorded /nowhere", LINES, "real: not run: there is no record in /nowhere\n", 3),
+]
+# an opcode that the machine does not know
+BAD_SCRIPT = b"\x51\xa8"
+BAD_PROGRAM = b"\x00\x20" + sha256(BAD_SCRIPT)
+PLAN = {"transaction": bare().stripped().hex(), "fee": 1, "inputs": [{"value": 5, "program": PROGRAM.hex(), "script": "51", "witness": ["51"], "signatures": []}]}
+MADE = partially({**UTXO, key_of(SIGHASH_TYPE): b"\x01\x00\x00\x00", key_of(WITNESS_SCRIPT): SCRIPT})
+
+
+def changed(**members):
+    return json.dumps({**PLAN, **members})
+
+
+def other_input(**members):
+    return changed(inputs=[{**PLAN["inputs"][0], **members}])
+
+
+PSBT = [
+    ("make", json.dumps(PLAN), MADE + "\n", 0),
+    ("make", json.dumps(PLAN, indent=1), MADE + "\n", 0),
+    ("make", "", "refused NotJson\n", 1),
+    ("make", "[" * 100_000, "refused NotJson\n", 1),
+    ("make", b"\xff", "refused NotJson\n", 1),
+    ("make", '{"fee":1,"fee":1}', "refused NotJson\n", 1),
+    ("make", "[]", "refused BadShape plan\n", 1),
+    ("make", changed(transaction=5), "refused BadShape transaction\n", 1),
+    ("make", changed(transaction="00"), "refused Truncated\n", 1),
+    ("make", changed(transaction=HEX), "refused NoInputs\n", 1),
+    ("make", changed(fee=True), "refused BadShape fee\n", 1),
+    ("make", changed(fee=2), "refused OtherFee\n", 1),
+    ("make", changed(inputs=[]), "refused OtherInputs\n", 1),
+    ("make", changed(inputs=[5]), "refused BadShape inputs[0]\n", 1),
+    ("make", other_input(value=-1), "refused BadShape inputs[0].value\n", 1),
+    ("make", other_input(value=10**4000), "refused BadShape inputs[0].value\n", 1),
+    ("make", changed(fee=10**4000), "refused BadShape fee\n", 1),
+    ("make", json.dumps(PLAN).replace('"fee": 1', '"fee": ' + "9" * 1_000_000), "refused BadShape fee\n", 1),
+    ("make", json.dumps(PLAN).replace('"fee": 1', '"fee": 1e0'), "refused BadShape fee\n", 1),
+    ("make", other_input(program=BAD_PROGRAM.hex(), script=BAD_SCRIPT.hex(), witness=[BAD_SCRIPT.hex()]), "refused BadScript 0\n", 1),
+    ("make", other_input(value=4.0), "refused BadShape inputs[0].value\n", 1),
+    ("make", other_input(value=3), "refused OtherFee\n", 1),
+    ("make", other_input(script="52"), "refused OtherScript 0\n", 1),
+    ("make", other_input(script="5 1"), "refused BadShape inputs[0].script\n", 1),
+    ("make", other_input(witness=[]), "refused OtherWitness 0\n", 1),
+    ("make", other_input(witness=[7, "51"]), "refused BadShape inputs[0].witness[0].item\n", 1),
+    ("make", other_input(witness=[None, "51"]), "refused OtherPlaces 0\n", 1),
+    ("make", other_input(witness=[None, "51"], signatures=[{"item": 0, "key": "02" * 33, "digest": "00" * 32}]), "refused OtherDigest 0\n", 1),
+    ("make", other_input(previous=HEX), "refused OtherTransaction 0\n", 1),
+    ("make", other_input(derivations=[{"key": "02" * 33, "fingerprint": "00000000", "path": "m/x"}]), "refused BadShape inputs[0].derivations[0].path\n", 1),
+    (f"finish {BY_RECORD}", json.dumps(PLAN), "refused BadMagic\n", 1),
+    (f"finish {BY_RECORD}", f"{json.dumps(PLAN)}\n{MADE}", LINES, 0),
+    (f"finish {BY_RECORD}", f"{json.dumps(PLAN)}\n{partially({key_of(0x13): b''})}", "refused TaprootField 0 TAP_KEY_SIG\n", 1),
+    (f"finish {BY_RECORD}", f"{json.dumps(PLAN)}\n{partially({key_of(SIGHASH_TYPE): bytes.fromhex('83000000')})}", "refused HashType 0\n", 1),
+    (f"finish {BY_RECORD}", f"{json.dumps(PLAN)}\n{partially({key_of(WITNESS_SCRIPT): bytes.fromhex('52')})}", "refused OtherScript 0\n", 1),
+    (f"finish {BY_RECORD}", f"{json.dumps(PLAN)}\n{partially({key_of(WITNESS_UTXO): output_field(Output(6, PROGRAM))})}", "refused OtherOutput 0\n", 1),
+    ("", "", USAGES["psbt"], 2),
+    ("make now", "", USAGES["psbt"], 2),
+    (f"make {BY_RECORD}", "", USAGES["psbt"], 2),
+]
+# a private key of BOLT 3's Appendix C, which everybody knows
+KNOWN_KEY = "bb13b121cdc357cd2e608b0aea294afca36e2b34cf958e2e6451a2f274694491"
+BAD = partially({key_of(WITNESS_UTXO): output_field(Output(5, BAD_PROGRAM)), key_of(WITNESS_SCRIPT): BAD_SCRIPT})
+SIGN = [
+    ("", "", "refused BadMagic\n", 1),
+    ("", MADE, "refused NoKey\n", 1),
+    (BY_RECORD, f"{BAD}\n{KNOWN_KEY}", "refused BadScript 0\n", 1),
+    (BY_RECORD, f"{partially()}\n{KNOWN_KEY}", "refused NoOutput 0\n", 1),
+    (BY_RECORD, f"{partially(UTXO)}\n{KNOWN_KEY}", "refused NoScript 0\n", 1),
+    (BY_RECORD, f"{partially({**UTXO, key_of(WITNESS_SCRIPT): BAD_SCRIPT})}\n{KNOWN_KEY}", "refused OtherScript 0\n", 1),
+    (BY_RECORD, f"{partially({**UTXO, key_of(0x17): b''})}\n{KNOWN_KEY}", "refused TaprootField 0 TAP_INTERNAL_KEY\n", 1),
+    (BY_RECORD, f"{partially({**UTXO, key_of(SIGHASH_TYPE): bytes.fromhex('02000000')})}\n{KNOWN_KEY}", "refused HashType 0\n", 1),
+    (BY_RECORD, f"{MADE}\n{KNOWN_KEY}", "refused UnusedKey 0\n", 1),
+    ("", f"{MADE}\n07", "refused BadKey 0\n", 1),
+    ("", f"{MADE}\n{'0g' * 32}", "refused BadKey 0\n", 1),
+    ("07", MADE, USAGES["sign"], 2),
+    ("--recorded", MADE, USAGES["sign"], 2),
+]
+
+
+def called(tool, words, given, **streams):
+    data = given if isinstance(given, bytes) else given.encode()
+    return subprocess.run([sys.executable, os.path.join(HERE, tool), *words.split()], input=data, **streams)
+
+
+def answers(tool, words, given, printed, status):
+    """Whether a call prints this and ends so."""
+    ran = called(tool, words, given, capture_output=True)
+    said = ran.stderr.decode() if status > 1 else ran.stdout.decode()
+    found = said == printed and ran.returncode == status
+    if not found:
+        print(f"real/{tool} {words}: status {ran.returncode}, {said[:200]!r}, {ran.stderr.decode()[-200:]!r}; wanted {status}, {printed[:200]!r}")
+    return found
+
+
+def fails_to_write(tool, words, given):
+    """Whether a call that can't write ends with status 1, and without a word of Python's."""
+    with open("/dev/full", "wb") as full:
+        ran = called(tool, words, given, stdout=full, stderr=subprocess.PIPE)
+    found = (ran.returncode, b"Traceback" in ran.stderr) == (1, False)
+    if not found:
+        print(f"real/{tool} {words}: status {ran.returncode} where nothing can be written")
+    return found
+
+
+def run():
+    """How many calls there are, and how many answer otherwise. The first of each status 0 and 1 is made again where nothing can be written."""
+    rows = [(tool, *row) for tool, rows in (("judge", JUDGE), ("psbt", PSBT), ("sign", SIGN)) for row in rows]
+    again = {(tool, status): (tool, words, given) for tool, words, given, _, status in reversed(rows) if status < 2}
+    differ = sum(not answers(*row) for row in rows) + sum(not fails_to_write(*row) for row in again.values())
+    return len(rows) + len(again), differ

@@ -1,0 +1,70 @@
+"""How a tool of this folder begins and ends: its input, its words, and its status. Tested, not proved."""
+import os
+import sys
+
+from curve import Curve, Recorded
+from errors import NotRun, Refused
+
+REFUSED, WRONG_WORDS, NOT_RUN = 1, 2, 3
+MAX_INPUT = 4_194_304
+
+
+def read_input():
+    """All of standard input, within its limit."""
+    if sys.stdin is None:
+        raise Refused("ReadFailed")
+    try:
+        data = sys.stdin.buffer.read(MAX_INPUT + 1)
+    except OSError:
+        raise Refused("ReadFailed") from None
+    if len(data) > MAX_INPUT:
+        raise Refused("TooLong")
+    return data
+
+
+def curve_of(record, instead):
+    """The library; or the record, of which a line says what is not done instead."""
+    if record is None:
+        return Curve()
+    found = Recorded.read(record)
+    print(f"real: signatures are looked up in {record}, and not {instead}", file=sys.stderr)
+    return found
+
+
+def recorded_of(words):
+    """The record that the last words name: None where there are none, False where they are others."""
+    if not words:
+        return None
+    return words[1] if len(words) == 2 and words[0] == "--recorded" else False
+
+
+def help_or_usage(words, text, usage):
+    """The help, or the usage for wrong words, with the status."""
+    if words == ["--help"]:
+        return ends(lambda: print(text, end="") or 0)
+    print(usage, file=sys.stderr)
+    return WRONG_WORDS
+
+
+def ends(run, refusal="refused {}".format):
+    """Runs a tool to its end, and gives its status. A refusal is one line on standard output; a failed write is a status alone."""
+    if sys.stdout is None:
+        return REFUSED
+    try:
+        try:
+            status = run()
+        except Refused as why:
+            print(refusal(why))
+            status = REFUSED
+        except NotRun as why:
+            print(f"real: not run: {why}", file=sys.stderr)
+            status = NOT_RUN
+        except MemoryError:
+            print("real: not run: memory ran out", file=sys.stderr)
+            status = NOT_RUN
+        sys.stdout.flush()
+        return status
+    except OSError:
+        # what is left in the buffer can't be written either
+        os.dup2(os.open(os.devnull, os.O_WRONLY), sys.stdout.fileno())
+        return REFUSED

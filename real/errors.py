@@ -1,0 +1,19 @@
+"""What ends a tool of this folder: an input that is refused, or something that it needs and does not find. Tested, not proved."""
+
+
+class Refused(Exception):
+    """An input that is refused, by its name and the numbers that it carries."""
+
+
+class NotRun(Exception):
+    """Something that is needed is missing here."""
+
+
+def bytes_of(text):
+    """The bytes of a text in hexadecimal, without blanks."""
+    try:
+        if not text.isascii() or any(it.isspace() for it in text):
+            raise ValueError
+        return bytes.fromhex(text)
+    except ValueError:
+        raise Refused("BadHex") from None

@@ -1,0 +1,51 @@
+"""Tells what was found of a transaction and its inputs in lines for people. Tested, not proved."""
+RELAY = {
+    "LOW_S": "a signature has a high s (BIP 146)",
+    "NULLFAIL": "a signature that fails is not empty (BIP 146)",
+    "MINIMALIF": "an item that IF or NOTIF takes is neither 01 nor empty",
+    "MINIMALDATA": "a push or a number is not minimally encoded (BIP 62)",
+    "WITNESS_PUBKEYTYPE": "a key is not compressed",
+    "WITNESS_SCRIPT_SIZE": "the witness script has more than 3,600 bytes",
+    "WITNESS_ITEMS": "the witness has more than 100 items beside the script",
+    "WITNESS_ITEM_SIZE": "an item of the witness has more than 80 bytes",
+}
+
+
+FAULTS = {
+    "NoOutputs": "it has no output, which consensus refuses",
+    "SameOutpoint": "two inputs spend one output, which consensus refuses",
+    "NoOutpoint": "an input spends no output, which only a coinbase does",
+    "TooMuch": "its outputs, or what it spends, have more than 21 million bitcoins together, which consensus refuses",
+    "OutputsExceed": "its outputs have more than what it spends, which consensus refuses",
+    "TooHeavy": "its weight is above 4,000,000, so no block takes it (BIP 141)",
+    "TooManySigops": "its signature checks cost more than 80,000, so no block takes it (BIP 141)",
+}
+
+
+def whole_page(it):
+    fee = "a fee that is not known" if it["fee"] is None else f"a fee of {it['fee']} satoshis"
+    faults = "".join(f"  fault   {each}: {FAULTS[each]}\n" for each in it["faults"])
+    return f"transaction {it['txid']}: {it['inputs']} inputs, {it['outputs']} outputs, {fee}\n{faults}"
+
+
+def head(it):
+    start = f"input {it['input']}, {it['outpoint']},"
+    if it["answer"] == "clean":
+        on = "its paths are not listed" if it["path"] is None else f"path {it['path']}"
+        return f"{start} is clean: {on}; {it['counted']} opcodes counted, {it['height']} elements at most\n"
+    why = f"{it['reason']}: {it['says']}\n"
+    if it["answer"] == "not judged":
+        return f"{start} is not judged: {why}"
+    at = f" at opcode {it['opcode']} ({it['op'] or 'end'}), byte {it['byte']}" if "opcode" in it else ""
+    return f"{start} {'stops' if it['answer'] == 'stops' else 'is stricter here: consensus takes it, and the machine stops'}{at}: {why}"
+
+
+def page(it):
+    """The lines of one object."""
+    if "txid" in it:
+        return whole_page(it)
+    found = head(it)
+    found += "".join(f"  signed  item {each['item']} " + (f"by {each['key']}\n" if each["key"] else "by no key that stands here\n") for each in it.get("signatures", []))
+    found += "".join(f"  stack   {each or '-'}\n" for each in it.get("stack", []))
+    found += "".join(f"  relay   {each}: {RELAY[each]}\n" for each in it.get("relay", []))
+    return found + (f"  digest  {it['digest']}\n" if "digest" in it else "")
