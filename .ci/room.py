@@ -72,6 +72,16 @@ def stamp(folder):
         return None
 
 
+def build(folder):
+    """The toolchain's stamp of the finished library there, and what tells this build of it from another one: libraries stand together only where each was proved over the others' builds."""
+    formats = sorted(glob.glob(f"{folder}/out/rlib/*.rlib/format"))
+    sums = []
+    for place in formats:
+        with open(place, "rb") as file:
+            sums.append(hashlib.sha256(file.read()).hexdigest())
+    return stamp(folder), sums
+
+
 def linked(given, place):
     """Takes a file of a finished library over, which no one writes to: all libraries together are 5 GB. So it is a second name of the file, where both are in one file system."""
     try:
@@ -89,10 +99,16 @@ def refreshed(room):
         if os.path.isfile(f"{TOP}/{file}"):
             os.makedirs(os.path.dirname(f"{room}/{file}"), exist_ok=True)
             shutil.copyfile(f"{TOP}/{file}", f"{room}/{file}")
-    for name in graph(room):
+    others = set()
+    for name, uses in graph(room).items():
         given, place = f"{TOP}/crates/{name}", f"{room}/crates/{name}"
-        if stamp(given) not in (None, stamp(place)):
-            shutil.rmtree(f"{place}/out/rlib", ignore_errors=True)
+        is_given = stamp(given) is not None
+        # a library goes where the repository has another build of it, or where it was proved over a build that is no longer here
+        if build(given) == build(place) if is_given else others.isdisjoint(uses):
+            continue
+        others.add(name)
+        shutil.rmtree(f"{place}/out/rlib", ignore_errors=True)
+        if is_given:
             shutil.copytree(f"{given}/out/rlib", f"{place}/out/rlib", copy_function=linked)
 
 
