@@ -6,6 +6,8 @@
 A call that reads a text and prints something is made twice: the second time nothing can be written, and its status has to be 1. Wrong words read an input that never ends, and one that can't be read.
 """
 import glob
+import hashlib
+import json
 import os
 import subprocess
 import sys
@@ -15,6 +17,8 @@ USAGE = "usage: trace scenario | dump | script [--text] [HEX] | witness [--text]
 # inputs that are no text of a row: one without an end, and one that can't be read
 ENDLESS, UNREADABLE = "/dev/zero", "/"
 NOT_TEXT = b"51\n\xff"
+# the greatest number of bytes of an input
+LIMIT = 4_194_304
 SCENARIO = '{"seeds":["%s","%s"],"channels":[],"events":[["blocks",2],["take","A",1]]}' % ("0a" * 32, "0b" * 32)
 # a transaction with one input, whose script is the number 1, and the program that has this script's hash
 ONE = "02000000000101" + "01" * 32 + "00000000" + "00" + "00000000" + "01" + "00" * 8 + "0151" + "010151" + "00000000\n"
@@ -43,18 +47,54 @@ PAGE = """    0  PUSH 0aff (number -32522)
     4  PUSH - (the empty item, number 0)
 no path: no witness satisfies this script
 """
+# numbers of four, of five and of six bytes in a nested branch: six are no number
+NUMBERS = """    0  IF
+    1    NOTIF
+    2      PUSH ffffff7f (number 2147483647)
+    7    ELSE
+    8      PUSH ffffffffff (number -549755813887)
+   14    ENDIF
+   15    PUSH ffffffffff7f
+   22    EQUALVERIFY
+   23  ENDIF
+   24  PUSH 10 (number 16)
+path 0: 1 items, 28 weight units (28 with tokens)
+  who   anyone
+  with  slot 0 is false, as the empty item is
+  when  at once
+"""
 LINES = """{"opening":{"events":2,"channels":[]}}
 {"event":0,"words":["blocks",2],"answer":"ok height 2 txs 0","height":2,"mined":[]}
 {"event":1,"words":["take","A",1],"answer":"refused NoJob","height":2}
 {"end":{"height":2,"unspent":0,"value":0,"fees":0,"kept":{"A":[],"B":[]},"history":{"A":0,"B":0},"onchain":{"A":0,"B":0}}}
 """
 
+
+
+def opening():
+    """A scenario of two channels that are unlike in all their terms and opened by different sides, without its events; and its two lines."""
+    with open(f"{TOP}/bench/unlike_channels.json", encoding="utf-8") as file:
+        scenario = dict(json.load(file), events=[])
+    told = []
+    for index, terms in enumerate(scenario["channels"]):
+        # the id of a grant is a hash over its number
+        txid = hashlib.sha256(hashlib.sha256(b"grant" + index.to_bytes(8, "little")).digest()).hexdigest()
+        told.append({"funding": f"{txid}:0", **{name: terms[name] for name in ("capacity", "opener", "feerate", "dust", "delay", "minimum", "start")}})
+    none = {"A": 0, "B": 0}
+    value = sum(terms["capacity"] for terms in scenario["channels"])
+    end = {"height": 0, "unspent": 2, "value": value, "fees": 0, "kept": {"A": [], "B": []}, "history": {"A": 2, "B": 2}, "onchain": none}
+    lines = {"opening": {"events": 0, "channels": told}}, {"end": end}
+    return json.dumps(scenario), "".join(json.dumps(line, separators=(",", ":")) + "\n" for line in lines)
+
+
 # Of each call its words, what it reads, what it prints and its status. With status 2 it prints on standard error.
 ROWS = [
     ("script --text", "63029000b2670068\r\n0181ff\n00\nno\n", PAGES, 1),
     ("script --text 020aff7500", "", PAGE, 0),
+    ("script --text 636404ffffff7f6705ffffffffff6806ffffffffff7f886860", "", NUMBERS, 0),
     ("script", "", "", 0),
     ("scenario", SCENARIO, LINES, 0),
+    ("scenario", *opening(), 0),
     ("scenario", "{}", '{"refused":"BadShape"}\n', 1),
     ("scenario", "", '{"refused":"NotJson"}\n', 1),
     ("dump", '{"history":[],"version":2}', '{"entries":0,"channels":0}\n', 0),
@@ -96,6 +136,15 @@ ROWS = [
     ("witness", NOT_TEXT, '{"refused":"BadHex"}\n', 1),
     ("scenario", ENDLESS, '{"refused":"TooLong"}\n', 1),
     ("scenario", UNREADABLE, '{"refused":"ReadFailed"}\n', 1),
+    # input of as many bytes as there may be, and of one more
+    ("script", "z" * LIMIT, '{"bytes":null,"opcodes":[],"refused":"BadHex","byte":null}\n', 1),
+    ("script", "z" * (LIMIT + 1), '{"bytes":null,"opcodes":[],"refused":"TooLong","byte":null}\n', 1),
+    ("witness", "z" * LIMIT, '{"refused":"BadHex"}\n', 1),
+    ("witness", "z" * (LIMIT + 1), '{"refused":"TooLong"}\n', 1),
+    ("scenario", SCENARIO.ljust(LIMIT), LINES, 0),
+    ("scenario", SCENARIO.ljust(LIMIT + 1), '{"refused":"TooLong"}\n', 1),
+    ("dump", '{"history":[],"version":2}'.ljust(LIMIT), '{"entries":0,"channels":0}\n', 0),
+    ("dump", '{"history":[],"version":2}'.ljust(LIMIT + 1), '{"refused":"TooLong","number":6}\n', 1),
     ("scenario", NOT_TEXT, '{"refused":"NotJson"}\n', 1),
     ("dump", ENDLESS, '{"refused":"TooLong","number":6}\n', 1),
     ("dump", UNREADABLE, '{"refused":"ReadFailed","number":5}\n', 1),
@@ -103,12 +152,13 @@ ROWS = [
 ]
 
 
-def program():
-    """The program that ./trace runs: without the command, which writes on standard error too."""
-    subprocess.run(["./trace", "script", "51"], stdout=subprocess.DEVNULL, stderr=subprocess.DEVNULL, check=True)
-    said = subprocess.run(["./trace", "--version"], capture_output=True, text=True, check=True).stdout
+def program(name):
+    """The program that ./trace or ./enforce runs: without the command, which writes on standard error too."""
+    words, room = {"trace": (["script", "51"], "out/trace"), "enforce": (["paths", "51"], "out")}[name]
+    subprocess.run([f"./{name}", *words], stdout=subprocess.DEVNULL, stderr=subprocess.DEVNULL, check=True)
+    said = subprocess.run([f"./{name}", "--version"], capture_output=True, text=True, check=True).stdout
     sources = said.split("sources ")[1].split()[0]
-    return os.path.abspath([*glob.glob(f"out/trace/proved/{sources}.*"), *glob.glob(f"out/trace/unproved/{sources}.*")][0])
+    return os.path.abspath([*glob.glob(f"{room}/proved/{sources}.*"), *glob.glob(f"{room}/unproved/{sources}.*")][0])
 
 
 def is_told(command, words, given, printed, status):
@@ -136,7 +186,7 @@ def is_noticed(command, words, given):
 
 def main():
     os.chdir(TOP)
-    command = program()
+    command = program("trace")
     unwritten = [(words.split(), given) for words, given, printed, _ in ROWS if printed and given not in (ENDLESS, UNREADABLE, NOT_TEXT)]
     differ = sum(not is_told(command, words.split(), given, printed, status) for words, given, printed, status in ROWS)
     differ += sum(not is_noticed(command, *it) for it in unwritten)

@@ -6,7 +6,8 @@
   bench/dumps.py FILE     compares it of the dumps of a file
 
 bench/dumps.txt has books of the examples as they stand at the end: of each kind of claim and of HTLC the shortest dump, and one dump with a claim that no script has. Three of them stand there again with
-a close of the channel: before a fulfil, before a signature (which is refused), and twice at the end.
+a close of the channel: before a fulfil, before a signature (which is refused), and twice at the end. bench/unlike_channels.json has the calls of two channels of which each term, amount, height and number is unlike the others: their dumps are made
+anew by bench/histories.py.
 Commitments, balances, HTLCs and amounts are found here by rules of this file's own, from BOLT 2, 3 and 5 and docs/TRACE.md: a commitment is how many updates of each side it has.
 """
 import hashlib
@@ -14,6 +15,8 @@ import json
 import os
 import subprocess
 import sys
+
+from histories import Books
 
 TOP = os.path.dirname(os.path.dirname(os.path.abspath(__file__)))
 # lines that are refused, and as what
@@ -193,6 +196,14 @@ def told(dump):
     return [*found, {"entries": len(dump["history"]), "channels": len(channels)}]
 
 
+def made():
+    """Dumps that bench/histories.py makes anew: of two channels that are unlike in all their terms, by A, who closed the second one, by B, and by A before the close; and of a channel whose funding output has another index than 0."""
+    with open(f"{TOP}/bench/unlike_channels.json", encoding="utf-8") as file:
+        unlike = json.load(file)
+    before = dict(unlike, events=[it for it in unlike["events"] if it[0] != "close"])
+    return [Books(unlike).dump("A"), Books(unlike).dump("B"), Books(before).dump("A"), Books(dict(unlike, events=[]), 70_000).dump("B")]
+
+
 def compact(value):
     return json.dumps(value, separators=(",", ":")) + "\n"
 
@@ -260,7 +271,7 @@ def main(words):
         print(printed(sys.stdin.read().strip()), end="")
         return 0
     with open(words[0] if words else f"{TOP}/bench/dumps.txt", encoding="utf-8") as file:
-        lines = [*file.read().splitlines(), *REFUSED]
+        lines = [*file.read().splitlines(), *REFUSED, *made()]
     wrong = sum(not is_told(line) for line in lines)
     print(f"dumps: {len(lines)} texts, {sum(refusal_of(line) is not None for line in lines)} of them refused: {wrong} differ")
     return 1 if wrong else 0

@@ -18,11 +18,28 @@ NAMES = {
     0x63: "IF", 0x64: "NOTIF", 0x67: "ELSE", 0x68: "ENDIF", 0x75: "DROP", 0x76: "DUP", 0x7C: "SWAP", 0x82: "SIZE", 0x87: "EQUAL", 0x88: "EQUALVERIFY",
     0xA9: "HASH160", 0xAC: "CHECKSIG", 0xAE: "CHECKMULTISIG", 0xB1: "CHECKLOCKTIMEVERIFY", 0xB2: "CHECKSEQUENCEVERIFY",
 }
-MORE = ["", "6351", "5193", "5102ff", "0g", "00", "0181", "01ff75", "02ff0075", "4b" + "00" * 75 + "75", "63" * 3 + "68" * 3, "67", "68", "5167", "51758282",
+
+
+def dropped(*counts):
+    """Pushes of these lengths, each with its DROP; their bytes are unlike each other."""
+    return "".join(bytes([count, *range(count), 0x75]).hex() for count in counts)
+
+
+# scripts of 252, 253, 300 and 520 bytes
+SIZES = [dropped(75, 75, 75, 19), dropped(75, 75, 75, 20), dropped(75, 75, 75, 67), dropped(75, 75, 75, 75, 75, 75, 56)]
+# the greatest and the least numbers of four and of five bytes, and six bytes, which are no number
+NUMBERS = "".join(f"{len(it) // 2:02x}{it}75" for it in ("ffffff7f", "ffffffff", "ffffffff7f", "ffffffffff", "000080", "00008000", "0000008000", "ffffffffff7f", "000000000001"))
+KEY = "02" + "11" * 32
+# CHECKMULTISIG of no signature and 20 keys after 160 opcodes that count, with a SWAP, and after 162: with it and its keys 201 count, and 202
+FEW_KEYS, MANY_KEYS = (f"0000{'7675' * pairs}{swap}21{KEY}{'76' * 19}0114ae" for pairs, swap in ((80, "7c"), (81, "")))
+MORE = [*SIZES, NUMBERS, FEW_KEYS, MANY_KEYS, "", "6351", "5193", "5102ff", "0g", "00", "0181", "01ff75", "02ff0075", "4b" + "00" * 75 + "75", "63" * 3 + "68" * 3, "67", "68", "5167", "51758282",
         "01000000", "7675" * 101, "51" * 1001, "636768" * 7, "51" * 10001]
 REFUSED = {"6351": "OpenBranch", "5193": "BadOpcode 1", "5102ff": "Truncated 1", "0g": "BadHex", "67": "OpenBranch", "68": "OpenBranch", "5167": "OpenBranch", "51758282": "Undecided 3",
-           "7675" * 101: "TooManyOps", "51" * 1001: "TooTall", "636768" * 7: "TooManyPaths", "51" * 10001: "TooLong"}
+           "7675" * 101: "TooManyOps", MANY_KEYS: "TooManyOps", "51" * 1001: "TooTall", "636768" * 7: "TooManyPaths", "51" * 10001: "TooLong"}
 LISTED = {
+    **{it: [f"path 0 arity 1 counted {counted} height 2 lock - age -", "  truth 0 yes"] for it, counted in zip(SIZES, (4, 4, 4, 7))},
+    NUMBERS: ["path 0 arity 1 counted 9 height 2 lock - age -", "  truth 0 yes"],
+    FEW_KEYS: ["path 0 arity 0 counted 201 height 23 lock - age -"],
     "": ["path 0 arity 1 counted 0 height 1 lock - age -", "  truth 0 yes"],
     "00": [],
     "0181": ["path 0 arity 0 counted 0 height 1 lock - age -"],

@@ -1,7 +1,7 @@
 #!/usr/bin/env python3
 """Transactions for `trace witness`, with digests made anew by BIP 143, and what is said of their inputs, worked by hand from BIPs 65, 112, 141 and 147.
 
-  bench/witnesses.py            compares what ./trace witness prints of nineteen inputs of one transaction, and of four of another one, with it; status 1 where they differ
+  bench/witnesses.py            compares what ./trace witness prints of all inputs of one transaction, and of four of another one, with it; status 1 where they differ
   bench/witnesses.py --given    prints the text of the first one that `trace witness` reads; --json and --pages print what it answers
 """
 import hashlib
@@ -22,7 +22,38 @@ TO_LOCAL = b"\x63" + PUSHES[0] + bytes.fromhex("67029000b275") + PUSHES[1] + byt
 BOTH = b"\x52" + PUSHES[0] + PUSHES[1] + b"\x52\xae"
 LATER = bytes.fromhex("0164b175") + PUSHES[0] + b"\xac"
 MANY = b"\x63\x67\x68" * 7
+NO_KEY = b"\x04" + KEYS[0][1:]
+LONG = bytes(range(256)) * 2
+
+
+def dropped(count):
+    """A push of this number of bytes, which are unlike each other, and a DROP."""
+    return bytes([count]) + bytes(range(count)) + b"\x75"
+
+
+def signed(*counts):
+    """A script that drops pushes of these lengths and takes a signature by the first key."""
+    return b"".join(map(dropped, counts)) + PUSHES[0] + b"\xac"
+
+
+def counting(pairs):
+    """CHECKMULTISIG of no signature and two keys, after this number of DUPs with their DROPs."""
+    return b"\x00\x00" + b"\x76\x75" * pairs + PUSHES[0] + PUSHES[1] + b"\x52\xae"
+
+
+# scripts whose lengths stand on both sides of the second form of a length, and of an item's limit
+SIZES = {252: signed(75, 75, 61), 253: signed(75, 75, 62), 300: signed(75, 75, 75, 32), 520: signed(75, 75, 75, 75, 75, 75, 21)}
 SAYS = {
+    "MissingOperand": "the stack has too few elements",
+    "FailedCheck Number": "an element is no number: it is too long, or not minimally encoded",
+    "FailedCheck KeyCount": "the number of keys is negative or above 20",
+    "FailedCheck SigCount": "the number of signatures is negative or above that of the keys",
+    "FailedCheck KeyForm": "a key is not 33 bytes that begin with 02 or 03",
+    "FailedCheck Extra": "the extra item of CHECKMULTISIG is not empty",
+    "TooManyOps": "more than 201 opcodes are counted",
+    "StackTooTall": "more than 1,000 elements would stand on the stack",
+    "ItemTooLong": "an item of the witness has more than 520 bytes",
+    "Truncated 1": "the last item of the witness is not a script",
     "FailedCheck Verify": "the two elements on top differ",
     "FailedCheck TokenForm": "a signature is neither empty nor a token of 66 bytes",
     "FailedCheck LockTime": "the transaction's lock time does not reach the one on top, or the input is final",
@@ -63,6 +94,11 @@ def refused(fault):
     return {"refused": fault}
 
 
+def by_itself(script, items, said):
+    """The input of a script that is alone in its program, with the sequence 0."""
+    return 0, by_script(script), script, [*items, script], said
+
+
 # Of each input: its sequence, the program that it spends, its script code, its witness (a number is the token of the key with this index, a negative one lacks its
 # last byte), and what is said of it. A stack has the top first; in it a number is that token again.
 ROWS = [
@@ -85,6 +121,29 @@ ROWS = [
     (0, by_script(MANY), MANY, [b"\x01"] * 8 + [MANY], clean(None, 21, 8)),
     (0, by_script(b"\x63"), b"\x63", [b"\x01", b"\x63"], stops("OpenBranch", 1, None, 1)),
     (0, by_script(b"\x51"), b"\x51", [b"\x07", b"\x51"], stops("NotOneValue", 1, None, 1, b"\x01", b"\x07")),
+    (0, by_script(b"\x51\x02\xff"), b"", [b"\x51\x02\xff"], refused("Truncated 1")),
+    by_itself(b"\x55\x88", [], stops("MissingOperand", 1, "EQUALVERIFY", 1, b"\x05")),
+    # numbers: not minimally encoded, of five bytes and of six as a lock, of four bytes and of five as a count
+    by_itself(b"\x02\x01\x00\xb1", [], stops("FailedCheck Number", 1, "CHECKLOCKTIMEVERIFY", 3, b"\x01\x00")),
+    by_itself(b"\xb1", [b"\x00\x00\x00\x00\x01"], stops("FailedCheck LockTime", 0, "CHECKLOCKTIMEVERIFY", 0, b"\x00\x00\x00\x00\x01")),
+    by_itself(b"\xb2", [b"\x00\x00\x00\x00\x00\x01"], stops("FailedCheck Number", 0, "CHECKSEQUENCEVERIFY", 0, b"\x00\x00\x00\x00\x00\x01")),
+    by_itself(b"\xae", [b"\x00\x00\x00\x01"], stops("FailedCheck KeyCount", 0, "CHECKMULTISIG", 0, b"\x00\x00\x00\x01")),
+    by_itself(b"\xae", [b"\x00\x00\x00\x00\x01"], stops("FailedCheck Number", 0, "CHECKMULTISIG", 0, b"\x00\x00\x00\x00\x01")),
+    # 21 keys, a negative number of them, two signatures for one key
+    by_itself(b"\x01\x15\xae", [], stops("FailedCheck KeyCount", 1, "CHECKMULTISIG", 2, b"\x15")),
+    by_itself(b"\x01\x81\xae", [], stops("FailedCheck KeyCount", 1, "CHECKMULTISIG", 2, b"\x81")),
+    by_itself(b"\x52" + PUSHES[0] + b"\x51\xae", [], stops("FailedCheck SigCount", 3, "CHECKMULTISIG", 36, b"\x01", KEYS[0], b"\x02")),
+    by_itself(b"\x21" + NO_KEY + b"\xac", [0], stops("FailedCheck KeyForm", 1, "CHECKSIG", 34, NO_KEY, 0)),
+    (0, by_script(BOTH), BOTH, [b"\x01", 0, 1, BOTH], stops("FailedCheck Extra", 4, "CHECKMULTISIG", 70, b"\x02", KEYS[1], KEYS[0], b"\x02", 1, 0, b"\x01")),
+    # the 202nd opcode that counts, and the keys of a CHECKMULTISIG, with which 201 and 203 count
+    by_itself(b"\x76\x75" * 101, [b"\x09"], stops("TooManyOps", 201, "DROP", 201, b"\x09", b"\x09")),
+    by_itself(counting(99), [], clean(0, 201, 5)),
+    by_itself(counting(100), [], stops("TooManyOps", 205, "CHECKMULTISIG", 271, b"\x02", KEYS[1], KEYS[0], b"", b"")),
+    by_itself(b"\x51" * 1001, [], stops("StackTooTall", 1000, "PUSH", 1000, *[b"\x01"] * 1000)),
+    # items of 520 and of 521 bytes
+    by_itself(b"\x75\x51", [LONG + b"\x00" * 8], clean(0, 1, 1)),
+    by_itself(b"\x75\x51", [LONG + b"\x00" * 9], stops("ItemTooLong", 0, "DROP", 0, LONG + b"\x00" * 9)),
+    *(by_itself(script, [0], clean(0, script.count(b"\x75") + 1, 2)) for script in SIZES.values()),
 ]
 # those of another transaction: a clean run on a path without items and one on none, a stop with a stack, and a refusal
 FEW = [

@@ -1,8 +1,9 @@
 #!/usr/bin/env python3
 """What has to be read to know what a contract says.
 
-  docs/reading.py WORD     WORD is a public function or law, as world::World::play or world::laws::claims_spend,
-                           or a word of the definitions, as Rattle.world.specs.Theorem.HoldsAt
+  docs/reading.py WORD             WORD is a public function or law, as world::World::play or world::laws::claims_spend,
+                                   or a word of the definitions, as Rattle.world.specs.Theorem.HoldsAt
+  docs/reading.py --facts WORD..   which facts show, of each relation of these words' lists, where it holds and where it does not; crate::module::* is each function there
 
 It walks from word to word. It begins with the word itself, of a function with its clauses (requires and ensures)
 and the types of its signature. Of each definition it takes every word that the definition cites, and so on. It
@@ -27,6 +28,11 @@ What counts:
 - Words of the kit (its standard library and its ported crates) are named at the end. Neither they nor what they
   cite count.
 - Bodies and proofs count nothing, nor do the contracts of other functions.
+
+Facts. A relation is a definition of the list that gives a statement of its arguments. For each of them there must be a fact on either side of its bound: one that has it, and one that has none of it.
+A fact stands in a file of proofs/, below the line '-- yes: NAME' or '-- no: NAME' (or several names, with commas). Its type has to cite the relation of this name, and a 'no' ends in ⊥ or false. Where
+nothing can be refuted, a line '-- no: NAME: why' says so. Of a relation of APPLIED each field is applied, below '-- yes: NAME.FIELD': the type cites NAME, and what is below it cites the field. A fact
+in a file that others stand on may be named from elsewhere, by the line '-- yes: NAME, by FILE: FACT'. Status 1 where a fact is missing, or is none.
 """
 import functools
 import glob
@@ -41,6 +47,9 @@ WORD = re.compile(r"[A-Za-z_][A-Za-z0-9_'?]*")
 CHAIN = re.compile(r"(?<![A-Za-z0-9_'?.])[A-Za-z_][A-Za-z0-9_'?]*(?:\.[A-Za-z_][A-Za-z0-9_'?]*)*")
 HEAD = re.compile(r"(?:abbrev|unfoldable|record|data|pub)\b(?!\s+mod\b)")
 IMPORT = re.compile(r"(?:ghost\s+)?use\s+([A-Za-z0-9_.]+?)(?:\.\{([^}]*)\}|\s+as\s+(\w+));?\s*$", re.M)
+MARK = re.compile(r"^ *-- (yes|no): ([^:\n]*)(?:: (.*))?$")
+# The relations that say what holds at each moment: each of their fields is applied.
+APPLIED = ("HoldsAt", "IsPlay", "IsReport")
 GHOST_FIELD = re.compile(r"ghost \w+: (\{.*?\})(?=,?\n)", re.S)
 ITEM = re.compile(r"^(?:pub(?:\([a-z]+\))? )?(struct|enum|const|type|trait) (\w+)", re.M)
 
@@ -80,6 +89,19 @@ class Definition:
         self.lines = lines_in(above + lines)
         self.text = bare("\n".join(lines))
         self.comments = self.lines - lines_in(self.text.split("\n"))
+
+    def is_relation(self):
+        """Whether it gives a statement of its arguments. A record or an abbreviation over types alone is a type of values."""
+        head = re.split(r"\bwhere\b", equations(self)[0])[0].strip()
+        if self.kind not in ("record", "data", "abbrev", "unfoldable") or not re.search(r"\bType 0$", head):
+            return False
+        arguments = re.sub(r"\bType 0$", "", head.split(self.name, 1)[1]).strip(" :\n")
+        own = re.sub(r"[({][^(){}]*: Type 0[)}]|\bType 0\b|→", " ", arguments).strip()
+        return bool(own) or (self.kind == "data" and bool(arguments))
+
+    def fields(self):
+        """The fields of a record."""
+        return re.findall(r"^ +pub (\w+) :", self.text, re.M) if self.kind == "record" else []
 
     def inside(self):
         """The constructors of data."""
@@ -304,6 +326,100 @@ class Walk:
         return left[::-1]
 
 
+# ---- facts
+
+
+class Fact:
+    """What stands below a mark in a file of proofs: its name, its type and its text."""
+
+    def __init__(self, file, at):
+        lines = text_of(file).split("\n")
+        while at < len(lines) and lines[at].lstrip().startswith("--"):
+            at += 1
+        head = re.match(r"( *)(?:abbrev |unfoldable )?(?:pub )?(?:abbrev )?(\S+) :(?= |$)", lines[at] if at < len(lines) else "")
+        self.name, self.type, self.text = head and head[2], "", ""
+        if head is None:
+            return
+        end = at + 1
+        while end < len(lines) and (not lines[end].strip() or lines[end].startswith((head[1] + " ", head[1] + head[2] + " ", head[1] + "unfolding "))) and not lines[end].lstrip().startswith("--"):
+            end += 1
+        self.text = bare("\n".join(lines[at:end]))
+        self.type = re.split(rf"^{head[1]}(?:unfolding|{re.escape(head[2])}) (?!:)", self.text[head.end() :], flags=re.M)[0].strip()
+
+
+@functools.cache
+def marks():
+    """The marks of all files of proofs: the file, the line below it, the word, which of the two, and what follows."""
+    found = []
+    for file in sorted(glob.glob(f"{TOP}/crates/*/proofs/**/*.antt", recursive=True)):
+        file = os.path.relpath(file, TOP)
+        for n, line in enumerate(text_of(file).split("\n")):
+            if mark := MARK.match(line):
+                names, _, elsewhere = mark[2].partition(", by ")
+                found += [(file, n + 1, name.strip(), mark[1], (elsewhere and f"{elsewhere}: {mark[3]}") or "", not elsewhere and mark[3]) for name in names.split(",")]
+    return found
+
+
+def fact_of(file, at, elsewhere):
+    """The fact below a mark, or the one that it names, with its file."""
+    if not elsewhere:
+        return file, Fact(file, at)
+    place, name = elsewhere.split(": ")
+    lines = text_of(place).split("\n") if os.path.isfile(f"{TOP}/{place}") else []
+    return place, next((Fact(place, n) for n, line in enumerate(lines) if re.match(rf" *(?:pub )?{re.escape(name)} :", line)), None)
+
+
+def read_marks(walk):
+    """For each definition and field with a mark, the facts of either side; and what is wrong with a mark."""
+    found, wrong = {}, []
+    for file, at, word, side, elsewhere, reason in marks():
+        name, _, field = word.partition(".")
+        place, fact = fact_of(file, at, elsewhere)
+        where = f"{file}:{at}: {side}: {word}"
+        if reason:
+            own = {to for to in walk.seen if to[1] == name and to[0].endswith(".antt")}
+            if side != "no" or len(own) != 1:
+                wrong.append(f"{where}: only one definition of the list can have a reason, and only for 'no'")
+            for to in own:
+                found.setdefault((to, field), {}).setdefault(side, []).append(f"none, {reason}")
+            continue
+        if fact is None or fact.name is None:
+            wrong.append(f"{where}: no fact stands there")
+            continue
+        own = next((to for to in walk.words_in(fact.type, (*imports_of(text_of(place)), place), set()) if to[1] == name), None)
+        if own is None:
+            wrong.append(f"{where}: the type of {fact.name} does not cite it")
+        elif side == "no" and not re.search(r"(⊥|\bfalse)\)*$", fact.type):
+            wrong.append(f"{where}: the type of {fact.name} ends in neither ⊥ nor false")
+        elif field and not re.search(rf"\.{field}\b", fact.text):
+            wrong.append(f"{where}: {fact.name} does not apply the field")
+        else:
+            found.setdefault((own, field), {}).setdefault(side, []).append(f"{place.removeprefix('crates/').removesuffix('.antt')}: {fact.name}")
+    return found, wrong
+
+
+def report_facts(walk, roots):
+    """Prints the facts of each relation, and returns the status."""
+    found, wrong = read_marks(walk)
+    rows, relations, reasons, missing = [], 0, 0, 0
+    files = dict.fromkeys(file for root in roots for file in walk.files(root))
+    for to in (it for file in files if file.endswith(".antt") for it in walk.in_order(file)):
+        definition = definitions(to[0])[to[1]]
+        if not definition.is_relation():
+            continue
+        relations += 1
+        wanted = [("", side) for side in ("yes", "no")]
+        wanted += [(field, "yes") for field in definition.fields()] if to[1] in APPLIED else []
+        for field, side in wanted:
+            facts = found.get((to, field), {}).get(side, [])
+            missing += not facts
+            reasons += any(it.startswith("none, ") for it in facts)
+            rows.append(f"{to[1] + ('.' + field if field else ''):24} {side:3}  {'; '.join(facts) or 'MISSING'}")
+    print("\n".join(rows + wrong))
+    print(f"facts: {relations} relations, {reasons} that nothing refutes, {missing} facts missing, {len(wrong)} marks wrong")
+    return 1 if missing or wrong else 0
+
+
 # ---- Rust sources
 
 
@@ -443,30 +559,47 @@ def found_function(word):
     return found, name
 
 
-def main(words):
-    if len(words) != 1 or words[0].startswith("-"):
-        print(__doc__.strip())
-        return 0 if words in (["-h"], ["--help"]) else 2
-    word, walk = words[0], Walk()
+def walked(word, walk):
+    """Walks from a word, and returns where it stands."""
     if "::" in word:
         found, name = found_function(word)
         if len(found) != 1:
-            print(f"reading: {'there is no function' if not found else 'more than one function is'} {word}", *(it[0] for it in found), file=sys.stderr)
-            return 1
+            raise SystemExit(f"reading: {'there is no function' if not found else 'more than one function is'} {word} {' '.join(it[0] for it in found)}".rstrip())
         file, kind = found[0]
         if not clauses_of(file, name, kind)[0]:
-            print(f"reading: {word} has no clause", file=sys.stderr)
-            return 1
+            raise SystemExit(f"reading: {word} has no clause")
         root = (file, f"{kind}::{name}" if kind else name)
         walk.go(root, lambda: walk.of_function(file, name, kind))
-    else:
-        path, _, name = word.rpartition(".")
-        root = walk.of_path(path, name) if path.count(".") > 1 else None
-        if root is None:
-            print(f"reading: there is no definition {word}", file=sys.stderr)
-            return 1
-        walk.go(root, functools.partial(walk.of_definition, *root))
-    report(walk, root)
+        return root
+    path, _, name = word.rpartition(".")
+    root = walk.of_path(path, name) if path.count(".") > 1 else None
+    if root is None:
+        raise SystemExit(f"reading: there is no definition {word}")
+    walk.go(root, functools.partial(walk.of_definition, *root))
+    return root
+
+
+def each_of(word):
+    """The functions of a module that a word with * stands for, or the word itself."""
+    if not word.endswith("::*"):
+        return [word]
+    crate, _, module = word.removesuffix("::*").partition("::")
+    found = [fn for file in sources(crate) if file.endswith(f"/src/{module}.rt") for kind, fn, at, _ in functions(file) if not kind and clauses_of(file, fn, kind)[0]]
+    if not found:
+        raise SystemExit(f"reading: there is no function of {word}")
+    return [f"{crate}::{module}::{fn}" for fn in found]
+
+
+def main(words):
+    wants_facts = words[:1] == ["--facts"]
+    words = words[wants_facts:]
+    if not words or words[0].startswith("-") or len(words) > 1 and not wants_facts:
+        print(__doc__.strip())
+        return 0 if words in (["-h"], ["--help"]) else 2
+    walk = Walk()
+    if wants_facts:
+        return report_facts(walk, [walked(it, walk) for word in words for it in each_of(word)])
+    report(walk, walked(words[0], walk))
     return 0
 
 

@@ -1,4 +1,5 @@
 mod Texts
 pub mod SentenceExamples
+pub mod NumberExamples
 pub mod Items
 pub mod Piles

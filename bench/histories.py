@@ -1,0 +1,306 @@
+"""The books of both sides after a scenario's calls, as dumps, made anew.
+
+A channel is its messages by BOLT 2. Commitments, HTLC transactions and their scripts are those of BOLT 3, digests those of BIP 143, keys and tokens hashes (docs/DECISIONS.md). `python3 bench/histories.py FILE A` prints the dump
+of A's book. Nothing of the chain is played: broadcasts, blocks, looks and releases are left out.
+"""
+import hashlib
+import json
+import struct
+import sys
+
+FINAL, VERSION = 0xFFFFFFFF, 2
+
+
+def sha256(*parts):
+    return hashlib.sha256(b"".join(parts)).digest()
+
+
+def sha256d(*parts):
+    return sha256(sha256(*parts))
+
+
+# ---- RIPEMD-160, since Python may lack it
+
+ORDERS = (
+    (0, 1, 2, 3, 4, 5, 6, 7, 8, 9, 10, 11, 12, 13, 14, 15), (7, 4, 13, 1, 10, 6, 15, 3, 12, 0, 9, 5, 2, 14, 11, 8), (3, 10, 14, 4, 9, 15, 8, 1, 2, 7, 0, 6, 13, 11, 5, 12),
+    (1, 9, 11, 10, 0, 8, 12, 4, 13, 3, 7, 15, 14, 5, 6, 2), (4, 0, 5, 9, 7, 12, 2, 10, 14, 1, 3, 8, 11, 6, 15, 13),
+    (5, 14, 7, 0, 9, 2, 11, 4, 13, 6, 15, 8, 1, 10, 3, 12), (6, 11, 3, 7, 0, 13, 5, 10, 14, 15, 8, 12, 4, 9, 1, 2), (15, 5, 1, 3, 7, 14, 6, 9, 11, 8, 12, 2, 10, 0, 4, 13),
+    (8, 6, 4, 1, 3, 11, 15, 0, 5, 12, 2, 13, 9, 7, 10, 14), (12, 15, 10, 4, 1, 5, 8, 7, 6, 2, 13, 14, 0, 3, 9, 11),
+)
+TURNS = (
+    (11, 14, 15, 12, 5, 8, 7, 9, 11, 13, 14, 15, 6, 7, 9, 8), (7, 6, 8, 13, 11, 9, 7, 15, 7, 12, 15, 9, 11, 7, 13, 12), (11, 13, 6, 7, 14, 9, 13, 15, 14, 8, 13, 6, 5, 12, 7, 5),
+    (11, 12, 14, 15, 14, 15, 9, 8, 9, 14, 5, 6, 8, 6, 5, 12), (9, 15, 5, 11, 6, 8, 13, 12, 5, 12, 13, 14, 11, 8, 5, 6),
+    (8, 9, 9, 11, 13, 15, 15, 5, 7, 7, 8, 11, 14, 14, 12, 6), (9, 13, 15, 7, 12, 8, 9, 11, 7, 7, 12, 7, 6, 15, 13, 11), (9, 7, 15, 11, 8, 6, 6, 14, 12, 13, 5, 14, 13, 13, 7, 5),
+    (15, 5, 8, 11, 14, 14, 6, 14, 6, 9, 12, 9, 12, 5, 15, 8), (8, 5, 12, 9, 12, 5, 14, 6, 8, 13, 6, 5, 15, 13, 11, 11),
+)
+ADDED = (0, 0x5A827999, 0x6ED9EBA1, 0x8F1BBCDC, 0xA953FD4E, 0x50A28BE6, 0x5C4DD124, 0x6D703EF3, 0x7A6D76E9, 0)
+MIXED = (
+    lambda x, y, z: x ^ y ^ z, lambda x, y, z: (x & y) | (~x & z), lambda x, y, z: (x | ~y) ^ z, lambda x, y, z: (x & z) | (y & ~z), lambda x, y, z: x ^ (y | ~z),
+)
+
+
+def turned(x, n):
+    x &= FINAL
+    return (x << n | x >> (32 - n)) & FINAL
+
+
+def line(words, state, rows):
+    a, b, c, d, e = state
+    for row in rows:
+        mix = MIXED[row if row < 5 else 9 - row]
+        for place, turn in zip(ORDERS[row], TURNS[row]):
+            a, e, d, c, b = e, d, turned(c, 10), b, (turned(a + mix(b, c, d) + words[place] + ADDED[row], turn) + e) & FINAL
+    return a, b, c, d, e
+
+
+def ripemd160(message):
+    state = (0x67452301, 0xEFCDAB89, 0x98BADCFE, 0x10325476, 0xC3D2E1F0)
+    padded = message + b"\x80" + b"\x00" * ((55 - len(message)) % 64) + struct.pack("<Q", 8 * len(message))
+    for at in range(0, len(padded), 64):
+        words = struct.unpack("<16I", padded[at : at + 64])
+        left, right = line(words, state, range(5)), line(words, state, range(5, 10))
+        state = tuple((state[(n + 1) % 5] + left[(n + 2) % 5] + right[(n + 3) % 5]) & FINAL for n in range(5))
+    return struct.pack("<5I", *state)
+
+
+def hash160(message):
+    return ripemd160(sha256(message))
+
+
+# ---- bytes
+
+FUNDING, PAYMENT, DELAYED, HTLC, REVOCATION, SECRETS = range(6)
+
+
+def key_of(secret):
+    return b"\x02" + sha256(b"point", secret)
+
+
+def derived(base, point):
+    return b"\x02" + sha256(b"derive", base, point)
+
+
+def push(item):
+    return bytes([len(item)]) + item
+
+
+def pushed(n):
+    return b"\x00" if n == 0 else bytes([0x50 + n]) if n <= 16 else push(n.to_bytes(n.bit_length() // 8 + 1, "little"))
+
+
+def compact(n):
+    return bytes([n]) if n < 0xFD else b"\xfd" + struct.pack("<H", n)
+
+
+def by_script(script):
+    return b"\x00\x20" + sha256(script)
+
+
+def written(outputs):
+    return b"".join(struct.pack("<Q", value) + push(program) for value, program in outputs)
+
+
+class Transaction:
+    """One input, without its witness."""
+
+    def __init__(self, outpoint, sequence, outputs, lock_time):
+        self.outpoint, self.sequence, self.outputs, self.lock_time = outpoint, struct.pack("<I", sequence), outputs, struct.pack("<I", lock_time)
+
+    def txid(self):
+        body = b"\x01" + self.outpoint + b"\x00" + self.sequence + compact(len(self.outputs)) + written(self.outputs)
+        return sha256d(struct.pack("<I", VERSION), body, self.lock_time)
+
+    def digest(self, code, value):
+        """What a signature of the input is over (BIP 143, hash type ALL)."""
+        spent = self.outpoint + compact(len(code)) + code + struct.pack("<Q", value) + self.sequence
+        return sha256d(struct.pack("<I", VERSION), sha256d(self.outpoint), sha256d(self.sequence), spent, sha256d(written(self.outputs)), self.lock_time, struct.pack("<I", 1))
+
+
+# ---- a channel
+
+
+def other(side):
+    return "AB"[side == "A"]
+
+
+class Channel:
+    """Both sides of a channel: their updates, their commitments as counts of updates, and the messages on their way."""
+
+    def __init__(self, number, terms, seeds, index):
+        self.terms = terms
+        self.funding = sha256d(b"grant", struct.pack("<Q", number)) + struct.pack("<I", index)
+        self.seeds = {side: sha256(b"channel", seeds[side], struct.pack("<I", number)) for side in "AB"}
+        self.secrets = {side: [sha256(b"base", self.seeds[side], bytes([n])) for n in range(6)] for side in "AB"}
+        self.bases = {side: [key_of(it) for it in self.secrets[side][:SECRETS]] for side in "AB"}
+        self.made = {side: [] for side in "AB"}
+        self.held = {side: [{"A": 0, "B": 0}] for side in "AB"}
+        self.queue = {side: [] for side in "AB"}
+
+    def of(self, name, side):
+        return self.terms[name][side == "B"]
+
+    def secret(self, side, number):
+        index, secret = (1 << 48) - 1 - number, bytearray(self.secrets[side][SECRETS])
+        for bit in range(47, -1, -1):
+            if index >> bit & 1:
+                secret[bit // 8] ^= 1 << bit % 8
+                secret = bytearray(sha256(secret))
+        return bytes(secret)
+
+    def point(self, side, number):
+        return key_of(self.secret(side, number))
+
+    def code(self):
+        """The witness script of the funding output."""
+        return b"\x52" + b"".join(map(push, sorted(self.bases[side][FUNDING] for side in "AB"))) + b"\x52\xae"
+
+    def content(self, counts):
+        """Balances in millisatoshis, HTLCs by offerer and id, and the feerate."""
+        balance, htlcs, feerate = dict(zip("AB", self.terms["start"])), {}, self.terms["feerate"]
+        updates = [(side, it) for side in "AB" for it in self.made[side][: counts[side]]]
+        for side, it in updates:
+            if it[0] == "add":
+                htlcs[side, it[1]] = it
+                balance[side] -= it[2]
+            elif it[0] == "fee":
+                feerate = it[1]
+        for side, it in updates:
+            if it[0] in ("fulfil", "fail"):
+                balance[side if it[0] == "fulfil" else other(side)] += htlcs.pop((other(side), it[1]))[2]
+        return balance, htlcs, feerate
+
+
+class Commitment:
+    """A commitment of a side (BOLT 3): its outputs in order, each with its kind, its script and its HTLC."""
+
+    def __init__(self, channel, owner, number, counts):
+        self.channel, self.owner = channel, owner
+        peer, point = other(owner), channel.point(owner, number)
+        own, theirs = channel.bases[owner], channel.bases[peer]
+        self.revocation = b"\x02" + sha256(b"revoke", theirs[REVOCATION], point)
+        self.local, self.remote = derived(own[HTLC], point), derived(theirs[HTLC], point)
+        self.to_local = b"\x63" + push(self.revocation) + b"\x67" + pushed(channel.of("delay", owner)) + b"\xb2\x75" + push(derived(own[DELAYED], point)) + b"\x68\xac"
+        balance, htlcs, self.feerate = channel.content(counts)
+        dust, found = channel.of("dust", owner), []
+        for (offerer, _), htlc in htlcs.items():
+            if htlc[2] // 1000 >= dust + self.stage_fee(offerer):
+                script = self.htlc_script(offerer, htlc)
+                found.append((htlc[2] // 1000, by_script(script), htlc[4], "htlc", script, (offerer, htlc)))
+        fee = (724 + 172 * len(found)) * self.feerate // 1000
+        paid = {side: balance[side] // 1000 for side in "AB"}
+        paid[channel.terms["opener"]] = max(0, paid[channel.terms["opener"]] - fee)
+        self.payment = theirs[PAYMENT]
+        if paid[owner] >= dust:
+            found.append((paid[owner], by_script(self.to_local), 0, "to_local", self.to_local, None))
+        if paid[peer] >= dust:
+            found.append((paid[peer], b"\x00\x14" + hash160(self.payment), 0, "to_remote", b"\x76\xa9\x14" + hash160(self.payment) + b"\x88\xac", None))
+        self.outputs = sorted(found, key=lambda it: it[:3])
+        opener = channel.terms["opener"]
+        mask = int.from_bytes(sha256(channel.bases[opener][PAYMENT], channel.bases[other(opener)][PAYMENT])[26:], "big") ^ number
+        self.tx = Transaction(channel.funding, 0x80 << 24 | mask >> 24, [it[:2] for it in self.outputs], 0x20 << 24 | mask & 0xFFFFFF)
+
+    def stage_fee(self, offerer):
+        return (663 if offerer == self.owner else 703) * self.feerate // 1000
+
+    def htlc_script(self, offerer, htlc):
+        begin = b"\x76\xa9\x14" + hash160(self.revocation) + b"\x87\x63\xac\x67" + push(self.remote) + b"\x7c\x82\x01\x20\x87"
+        both, hashed = b"\x52\x7c" + push(self.local) + b"\x52\xae", b"\xa9\x14" + ripemd160(bytes.fromhex(htlc[3])) + b"\x88"
+        if offerer == self.owner:
+            return begin + b"\x64\x75" + both + b"\x67" + hashed + b"\xac\x68\x68"
+        return begin + b"\x63" + hashed + both + b"\x67\x75" + pushed(htlc[4]) + b"\xb1\x75\xac\x68\x68"
+
+    def stages(self):
+        """The HTLC transactions, in the order of the outputs that they spend, each with that output."""
+        for index, output in enumerate(self.outputs):
+            if output[3] == "htlc":
+                offerer, htlc = output[5]
+                paid = [(output[0] - self.stage_fee(offerer), by_script(self.to_local))]
+                yield output, Transaction(self.tx.txid() + struct.pack("<I", index), 0, paid, htlc[4] if offerer == self.owner else 0)
+
+    def signature(self):
+        """The message by which the peer signs it."""
+        key = self.channel.bases[other(self.owner)][FUNDING]
+        token = key + self.tx.digest(self.channel.code(), self.channel.terms["capacity"]) + b"\x01"
+        return ["signed", token.hex(), [(self.remote + tx.digest(output[4], output[0]) + b"\x01").hex() for output, tx in self.stages()]]
+
+    def penalties(self):
+        """The claims of its peer once it is revoked: output by output, each HTLC with that of its HTLC transaction."""
+        found, stages = [], iter(self.stages())
+        for index, (value, program, _, kind, script, _) in enumerate(self.outputs):
+            exact = {"to_local": b"\x01", "to_remote": self.payment, "htlc": self.revocation}[kind]
+            signer = self.payment if kind == "to_remote" else self.revocation
+            found.append(claim(self.tx.txid(), index, value, program, script, exact, signer))
+            if kind == "htlc":
+                tx = next(stages)[1]
+                found.append(claim(tx.txid(), 0, *tx.outputs[0], self.to_local, b"\x01", self.revocation))
+        return found
+
+
+def claim(txid, index, value, program, script, exact, signer):
+    return {
+        "outpoint": f"{txid.hex()}:{index}", "path": 0, "program": program.hex(), "script": script.hex(), "shell": None,
+        "slots": [["exact", exact.hex()], ["sig", signer.hex()]], "value": value,
+    }
+
+
+# ---- the books
+
+
+class Books:
+    """The calls of both sides. A funding output has this index in its transaction: 0 in a scenario."""
+
+    def __init__(self, scenario, index=0):
+        seeds = dict(zip("AB", map(bytes.fromhex, scenario["seeds"])))
+        self.channels = [Channel(number, terms, seeds, index) for number, terms in enumerate(scenario["channels"])]
+        self.calls = {side: [self.opening(it, side) for it in self.channels] for side in "AB"}
+        for event in scenario["events"]:
+            if event[0] not in ("broadcast", "blocks", "look", "take", "release", "reorg"):
+                self.play(event[0], event[1], event[2], self.channels[event[2]], event[3:])
+
+    @staticmethod
+    def opening(it, side):
+        peer = other(side)
+        token = Commitment(it, side, 0, it.held[side][0]).signature()[1]
+        terms = {name: it.terms[name] for name in sorted(it.terms)}
+        funding = f"{it.funding[:32].hex()}:{struct.unpack('<I', it.funding[32:])[0]}"
+        return ["open", terms, funding, side, it.seeds[side].hex(), [key.hex() for key in it.bases[peer]], [it.point(peer, n).hex() for n in (0, 1)], token]
+
+    def play(self, name, side, number, it, rest):
+        calls = self.calls[side]
+        if name == "deliver":
+            return self.deliver(side, number, it)
+        if name == "sign":
+            counts = {side: len(it.made[side]), other(side): it.held[side][-1][other(side)]}
+            it.queue[other(side)].append((Commitment(it, other(side), len(it.held[other(side)]), counts).signature(), counts))
+            return calls.append(["sign", number])
+        if name == "keep":
+            owner = other(side)
+            return calls.append(["keep", number, rest[0], Commitment(it, owner, rest[0], it.held[owner][rest[0]]).penalties()])
+        if name == "close":
+            return calls.append(["close", number])
+        calls.append(["step", number, name, *rest])
+        update = ["add", sum(made[0] == "add" for made in it.made[side]), *rest] if name == "offer" else [name, *rest]
+        it.made[side].append(update)
+        it.queue[other(side)].append((update, None))
+        return None
+
+    def deliver(self, side, number, it):
+        message, counts = it.queue[side].pop(0)
+        if message[0] == "revoke":
+            return self.calls[side].append(["revoke", number, message])
+        self.calls[side].append(["step", number, "receive", message])
+        if counts:
+            it.held[side].append(counts)
+            revoked = len(it.held[side]) - 2
+            it.queue[other(side)].append((["revoke", it.secret(side, revoked).hex(), it.point(side, revoked + 2).hex()], None))
+        return None
+
+    def dump(self, side):
+        calls = self.calls[side]
+        version = 3 if any(it[0] == "close" for it in calls) else 2
+        return json.dumps({"history": [{"call": it, "seat": 0} for it in calls], "version": version}, separators=(",", ":"))
+
+
+if __name__ == "__main__":
+    with open(sys.argv[1], encoding="utf-8") as given:
+        print(Books(json.load(given)).dump(sys.argv[2]))

@@ -1,0 +1,386 @@
+#!/usr/bin/env python3
+"""What `enforce` notes on standard error of scripts and of scenarios, by rules of this file's own.
+
+  bench/notes.py    status 1 where a call notes something else
+
+Opcodes have the names of Bitcoin Core's script.h. Which branches end by a rule that is stricter than consensus is worked by hand from BIPs 65, 66, 112, 141 and 147, and from docs/ENFORCE.md. That two facts of a path contradict
+each other is found by trying items that are unlike in their bytes, their length, what they hash to, and whether they are true, a key or a token. The parts of scenarios are those of docs/SCENARIOS.md.
+"""
+import json
+import os
+import subprocess
+import sys
+
+from answers import LIMIT, program
+
+TOP = os.path.dirname(os.path.dirname(os.path.abspath(__file__)))
+
+# ---- opcodes
+
+# the names from byte 4c on; those of numbers and of NOPs are made
+NAMES = """
+PUSHDATA1 PUSHDATA2 PUSHDATA4 1NEGATE RESERVED 1 2 3 4 5 6 7 8 9 10 11 12 13 14 15 16 NOP VER IF NOTIF VERIF VERNOTIF ELSE ENDIF VERIFY RETURN
+TOALTSTACK FROMALTSTACK 2DROP 2DUP 3DUP 2OVER 2ROT 2SWAP IFDUP DEPTH DROP DUP NIP OVER PICK ROLL ROT SWAP TUCK CAT SUBSTR LEFT RIGHT SIZE INVERT AND OR XOR
+EQUAL EQUALVERIFY RESERVED1 RESERVED2 1ADD 1SUB 2MUL 2DIV NEGATE ABS NOT 0NOTEQUAL ADD SUB MUL DIV MOD LSHIFT RSHIFT BOOLAND BOOLOR NUMEQUAL NUMEQUALVERIFY
+NUMNOTEQUAL LESSTHAN GREATERTHAN LESSTHANOREQUAL GREATERTHANOREQUAL MIN MAX WITHIN RIPEMD160 SHA1 SHA256 HASH160 HASH256 CODESEPARATOR CHECKSIG CHECKSIGVERIFY
+CHECKMULTISIG CHECKMULTISIGVERIFY NOP1 CHECKLOCKTIMEVERIFY CHECKSEQUENCEVERIFY NOP4 NOP5 NOP6 NOP7 NOP8 NOP9 NOP10 CHECKSIGADD
+""".split()
+KNOWN = {*range(0x4C), *range(0x51, 0x61), 0x63, 0x64, 0x67, 0x68, 0x75, 0x76, 0x7C, 0x82, 0x87, 0x88, 0xA9, 0xAC, 0xAE, 0xB1, 0xB2}
+
+
+def opcode_rows():
+    """Each byte that is no opcode of the table, after a push of 10."""
+    for byte in range(256):
+        if byte not in KNOWN:
+            at = byte - 0x4C
+            what = f"OP_{NAMES[at]} in Bitcoin, which is not in the table" if at < len(NAMES) else "which is no opcode of Bitcoin"
+            yield f"5a{byte:02x}", [f"byte 1 is {byte:02x}, {what}", "pushed before it: the number 10 at byte 0"]
+
+
+# ---- branches that end by a stricter rule
+
+KEY = "02" + "11" * 32
+OTHER = "03" + "22" * 32
+THIRD = "02" + "55" * 32
+LONG = "04" + "11" * 32 + "22" * 32
+NO_KEY = "no key here, which has 33 bytes and begins with 02 or 03"
+NO_SIGNATURE = "no signature here, where signatures are tokens"
+NO_NUMBER = "no number here, where numbers are minimally encoded"
+NONE = "no witness satisfies the script by the rules of this profile"
+EXACT = [f"{NONE}: each branch ends as in consensus"]
+
+
+def push(item):
+    return f"{len(item) // 2:02x}{item}"
+
+
+def end(opcode, item, rule):
+    count = len(item) // 2
+    return f"a branch ends at opcode {opcode}: {item} ({count} byte{'s' * (count > 1)}) is {rule}; consensus is laxer, and may let others spend"
+
+
+def strict(*ends):
+    """No path, and these ends."""
+    return [f"{NONE}, which are stricter than consensus", *(end(*it) for it in ends)]
+
+
+def integer(size):
+    """An integer in DER whose first byte would be a sign without the zero before it."""
+    return "02" + f"{size:02x}" + "00" + "80" * (size - 1)
+
+
+def signature(*sizes):
+    """A signature in DER (BIP 66) with integers of these sizes, and its hash type."""
+    body = "".join(map(integer, sizes))
+    return f"30{len(body) // 2:02x}{body}01"
+
+
+CHECK = push(LONG) + "ac"
+# two numbers that differ, so that the branch ends as in consensus
+DEAD = "515288"
+
+
+def many_keys(count, number):
+    """CHECKMULTISIG of no signature and this many keys, the deepest of them one of 65 bytes."""
+    return "0000" + push(LONG) + push(KEY) + "76" * (count - 2) + number + "ae"
+
+
+ENDS = [
+    # in a branch of a script without a path: the first, the second, one in another, one after they join, and both
+    (f"63{CHECK}670068", strict((2, LONG, NO_KEY))),
+    (f"630067{CHECK}68", strict((4, LONG, NO_KEY))),
+    (f"640067{CHECK}68", strict((4, LONG, NO_KEY))),
+    (f"64{CHECK}670068", strict((2, LONG, NO_KEY))),
+    (f"63630067006867{CHECK}68", strict((8, LONG, NO_KEY))),
+    (f"63630067{CHECK}68670068", strict((5, LONG, NO_KEY))),
+    (f"63516752687575{CHECK}", strict((8, LONG, NO_KEY))),
+    (f"63{CHECK}67020100b168", strict((2, LONG, NO_KEY), (5, "0100", NO_NUMBER))),
+    # a branch that is taken or left out by a constant; an IF within what is left out
+    (f"51630067{CHECK}68", EXACT),
+    (f"0063{CHECK}670068", EXACT),
+    (f"00640067{CHECK}68", EXACT),
+    (f"5164{CHECK}670068", EXACT),
+    (f"00630067{CHECK}68", strict((5, LONG, NO_KEY))),
+    (f"51640067{CHECK}68", strict((5, LONG, NO_KEY))),
+    (f"5163{CHECK}670068", strict((3, LONG, NO_KEY))),
+    (f"0064{CHECK}670068", strict((3, LONG, NO_KEY))),
+    (f"00635163006700680067{CHECK}68", strict((11, LONG, NO_KEY))),
+    (f"63{CHECK}6800", strict((2, LONG, NO_KEY))),
+    # 16, 17 and 20 keys; 21 are too many in consensus too
+    (many_keys(16, "60"), strict((19, LONG, NO_KEY))),
+    (many_keys(17, "0111"), strict((20, LONG, NO_KEY))),
+    (many_keys(20, "0114"), strict((23, LONG, NO_KEY))),
+    (many_keys(21, "0115"), EXACT),
+    # two keys: the first that is none is named; a key of 33 bytes that begins with 04, and one of 32
+    (f"0000{push('02aa')}{push('03bb')}52ae", strict((5, "03bb", NO_KEY))),
+    (f"00{push('04' + KEY[2:])}ac", strict((2, "04" + KEY[2:], NO_KEY))),
+    (f"00{push(KEY[:64])}ac", strict((2, KEY[:64], NO_KEY))),
+    # signatures of 72 and 73 bytes; one of 74 is none in consensus either
+    (f"{push(signature(33, 32))}{push(KEY)}ac", strict((2, signature(33, 32), NO_SIGNATURE))),
+    (f"{push(signature(33, 33))}{push(KEY)}ac", strict((2, signature(33, 33), NO_SIGNATURE))),
+    (f"{push(signature(34, 33))}{push(KEY)}ac", EXACT),
+    # the same before a key that is none: the key is named where consensus takes the signature
+    (f"{push(signature(33, 33))}{CHECK}", strict((2, LONG, NO_KEY))),
+    (f"{push(signature(34, 33))}{CHECK}", EXACT),
+    (f"51{CHECK}", EXACT),
+    # counts of keys that are not minimally encoded: 1, 20 and 21 of two bytes, 1 of four and of five, 0 with a sign, -1 and -1 of two bytes
+    (f"0000{push(KEY)}020100ae", strict((4, "0100", NO_NUMBER))),
+    (many_keys(20, "021400"), strict((23, "1400", NO_NUMBER))),
+    (many_keys(21, "021500"), EXACT),
+    (f"0000{push(KEY)}0401000000ae", strict((4, "01000000", NO_NUMBER))),
+    (f"0000{push(KEY)}050100000000ae", EXACT),
+    (f"0000020080ae", strict((3, "0080", NO_NUMBER))),
+    (f"0000{push(KEY)}0181ae", EXACT),
+    (f"0000{push(KEY)}020180ae", EXACT),
+    # counts of signatures: 1 of one key, 2 of one key, and 2 of two keys
+    (f"00020100{push(KEY)}51ae", strict((4, "0100", NO_NUMBER))),
+    (f"00020200{push(KEY)}51ae", EXACT),
+    (f"00020200{push(KEY)}{push(OTHER)}52ae", strict((5, "0200", NO_NUMBER))),
+    (f"0052{push(KEY)}51ae", EXACT),
+    # an extra item that is not empty, before a key that is none (BIP 147)
+    (f"5100{push(LONG)}51ae", EXACT),
+    (f"0000{push(LONG)}51ae", strict((4, LONG, NO_KEY))),
+    # locks of five and of six bytes, 0 with a sign, -1 of one byte and of two, by both opcodes
+    *((f"050100000000{lock}7551", strict((1, "0100000000", NO_NUMBER))) for lock in ("b1", "b2")),
+    *((f"06010000000000{lock}7551", EXACT) for lock in ("b1", "b2")),
+    *((f"0180{lock}7551", strict((1, "80", NO_NUMBER))) for lock in ("b1", "b2")),
+    *((f"0181{lock}7551", EXACT) for lock in ("b1", "b2")),
+    *((f"020180{lock}7551", EXACT) for lock in ("b1", "b2")),
+    # what a hash can be, of 20 bytes and not of 19 or 21; and a length, 0 and 520 and not 521, -1 or 20 in two bytes
+    (f"76a9{push('77' * 20)}88{CHECK}", strict((5, LONG, NO_KEY))),
+    (f"76a9{push('77' * 19)}88{CHECK}", EXACT),
+    (f"76a9{push('77' * 21)}88{CHECK}", EXACT),
+    (f"820088{CHECK}", strict((4, LONG, NO_KEY))),
+    (f"8202080288{CHECK}", strict((4, LONG, NO_KEY))),
+    (f"8202090288{CHECK}", EXACT),
+    (f"82018188{CHECK}", EXACT),
+    (f"8202140088{CHECK}", EXACT),
+    # ends with a script that has a path too
+    (f"63{CHECK}67{push(KEY)}ac68", [end(2, LONG, NO_KEY)]),
+    (f"63{push(KEY)}ac67{CHECK}68", [end(5, LONG, NO_KEY)]),
+]
+# no signature in consensus (BIP 66): a tag, a length, a negative or padded integer, none, a second tag, more bytes after it
+ENDS += [
+    (f"{push(it)}{push(KEY)}ac", EXACT)
+    for it in ("310602010102010101", "300702010102010101", "300502010102010101", "300602018002010101", "30070202000102010101", "3005020002010101", "300602010103010101", "30070201010201010101", "30060201010201")
+]
+
+# ---- facts that contradict each other
+
+HASHES = ("33" * 20, "44" * 20)
+
+
+class Item:
+    """An item of a witness: its bytes where they are known, else what may be asked of it."""
+
+    def __init__(self, size, is_true, item=None, hashed=None, form=None):
+        self.size, self.is_true, self.item, self.hashed, self.form = size, is_true, item, hashed, form
+
+
+def items():
+    """Items that are unlike in what facts ask for. `form` is `key`, or the key of a token."""
+    for item in ("", "aa", "80", KEY):
+        yield Item(len(item) // 2, item not in ("", "80"), item, form="key" if item == KEY else None)
+    for hashed in (*HASHES, None):
+        for size in (1, 2, 33, 65, 66):
+            yield Item(size, True, hashed=hashed)
+            yield Item(size, False, hashed=hashed)
+        yield Item(33, True, hashed=hashed, form="key")
+        yield from (Item(66, True, hashed=hashed, form=key) for key in (KEY, OTHER, THIRD))
+
+
+ITEMS = list(items())
+MEETS = {
+    "hash": lambda it, what: it.hashed == what,
+    "size": lambda it, what: it.size == what,
+    "truth": lambda it, what: it.is_true,
+    "is": lambda it, what: it.item == what,
+    "key": lambda it, what: it.form == "key",
+    "form": lambda it, what: it.size == 0 or it.form not in (None, "key"),
+    "token": lambda it, what: it.form == what,
+    "assigned": lambda it, what: it.form in what,
+}
+
+
+def text(fact, slot):
+    """A fact as a listing has it."""
+    kind, what, holds = fact
+    if kind in ("lock", "age"):
+        return f"{kind} {what}"
+    said = "-" if what == "" else ",".join(what) if isinstance(what, tuple) else what
+    return f"{kind} {slot}" + ("" if what is None else f" {said}") + ("" if kind in ("key", "form") else " yes" if holds else " no")
+
+
+def contradict(one, other):
+    """Whether no witness meets two facts of one slot, or no transaction two locks."""
+    (kind, what, _), (second, value, _) = one, other
+    if {kind, second} & {"lock", "age"}:
+        parts = {"lock": 500_000_000, "age": 1 << 22}
+        return kind == second and (what < parts[kind]) != (value < parts[kind])
+    if "assigned" in (kind, second) and one[:2] != other[:2]:
+        # of signatures that are assigned, the length alone is compared, with facts that hold
+        rest = one if second == "assigned" else other
+        return one[2] and other[2] and not any(it.size == 66 and MEETS[rest[0]](it, rest[1]) for it in ITEMS)
+    if ("size", 0, True) in (one, other):
+        # of an item of no bytes too, the length alone is compared
+        rest = other if one == ("size", 0, True) else one
+        if rest[0] == "hash" or rest == ("is", "", False):
+            return False
+    return not any(all(MEETS[name](it, arg) == holds for name, arg, holds in (one, other)) for it in ITEMS)
+
+
+def number(n):
+    size = (n.bit_length() + 8) // 8
+    return "00" if n == 0 else f"{0x50 + n:02x}" if n <= 16 else push(n.to_bytes(size, "little").hex())
+
+
+def asking(fact):
+    """Opcodes that ask for a fact of the item on top, and leave the item there; and the facts that they ask for, in order."""
+    kind, what, holds = fact
+    first = []
+    if kind in ("lock", "age"):
+        return number(what) + {"lock": "b1", "age": "b2"}[kind] + "75", [fact]
+    if kind == "key":
+        return "76007cac75", [fact]
+    if kind == "form":
+        return f"76{push(KEY)}ac75", [fact]
+    if kind == "token":
+        code, first = f"76{push(what)}ac", [("form", None, True)]
+    elif kind == "assigned":
+        code, first = "76007c51" + "".join(map(push, what)) + f"{0x50 + len(what):02x}ae", [("form", None, True)]
+    else:
+        code = {"hash": lambda: f"76a9{push(what)}87", "size": lambda: f"82{number(what)}87", "truth": lambda: "76", "is": lambda: f"76{push(what)}87"}[kind]()
+    return f"{code}{'63' if holds else '64'}67{DEAD}68", [*first, fact]
+
+
+BOTH = [("hash", HASHES[0]), ("hash", HASHES[1]), ("size", 0), ("size", 1), ("size", 33), ("size", 66), ("truth", None), ("is", ""), ("is", "aa"), ("is", "80"), ("is", KEY), ("token", KEY), ("token", OTHER), ("assigned", (KEY,)), ("assigned", (KEY, OTHER))]
+FACTS = [(*it, holds) for it in BOTH for holds in (True, False)]
+FACTS += [("key", None, True), ("form", None, True), ("lock", 500, True), ("lock", 499_999_999, True), ("lock", 500_000_000, True), ("age", 144, True), ("age", 65535, True), ("age", (1 << 22) + 144, True)]
+
+
+def pair_rows():
+    """Each pair of facts in both orders, of one slot and of two: the script, its listed facts, and the note on them."""
+    for one in FACTS:
+        for other in FACTS:
+            for swap in ("", "7c"):
+                (code, asked), (more, then) = asking(one), asking(other)
+                slots = [0] * len(asked) + [len(swap) // 2] * len(then)
+                facts = asked + then
+                notes = []
+                for at, fact in enumerate(facts):
+                    before = [n for n in range(at) if (slots[n] == slots[at] or fact[0] in ("lock", "age")) and contradict(facts[n], fact)]
+                    if before:
+                        notes = [f"no witness meets path 0: '{text(facts[before[0]], slots[before[0]])}' and '{text(fact, slots[at])}' contradict each other"]
+                        break
+                yield "76" + "75" + code + swap + more + "75" * (1 + len(swap) // 2) + "51", [text(fact, slot) for fact, slot in zip(facts, slots)], notes
+
+
+# ---- scenarios
+
+SEED = "0a" * 32
+TERMS = {"capacity": 100000, "opener": "A", "feerate": 1000, "dust": [546, 547], "delay": [144, 145], "minimum": [1000, 1001], "start": [80000000, 20000000]}
+WORDS = {
+    "side": ("A", '"A" or "B"'),
+    "number": (0, "a whole number of at most 64 bits"),
+    "short": (0, "a whole number of at most 32 bits"),
+    "hash": (SEED, "32 bytes in hexadecimal"),
+    "numbers": ([0, 0], "an array of two whole numbers of at most 64 bits"),
+    "delays": ([0, 0], "an array of two whole numbers of at most 16 bits"),
+    "seeds": ([SEED, SEED], "an array of two seeds of 32 bytes in hexadecimal"),
+    "array": ([], "an array"),
+}
+# values that just miss a shape
+MISSED = {
+    "side": ("C", None), "number": (1 << 64, -1, "0"), "short": (1 << 32, -1), "hash": (SEED[2:], SEED + "00", "0g" * 32, 7),
+    "numbers": ([0, 1 << 64], [1 << 64, 0], [0], [0, 0, 0], 0), "delays": ([0, 1 << 16], [1 << 16, 0], [0]), "seeds": ([SEED], [SEED, SEED[2:]], [SEED[2:], SEED]), "array": ({}, 0),
+}
+MEMBERS = {"seeds": "seeds", "channels": "array", "events": "array"}
+PARTS = {"capacity": "number", "opener": "side", "feerate": "short", "dust": "numbers", "delay": "delays", "minimum": "numbers", "start": "numbers"}
+SIDE = [("side", "side")]
+CHANNEL = [*SIDE, ("channel", "number")]
+EVENTS = [
+    ("offer", [*CHANNEL, ("amount", "number"), ("hash", "hash"), ("expiry", "short")]),
+    ("fulfil", [*CHANNEL, ("id", "number"), ("preimage", "hash")]),
+    ("fail", [*CHANNEL, ("id", "number")]),
+    ("fee", [*CHANNEL, ("rate", "short")]),
+    ("sign", CHANNEL), ("deliver", CHANNEL), ("close", CHANNEL),
+    ("keep", [*CHANNEL, ("number", "number")]),
+    ("broadcast", [*CHANNEL, ("number", "number")]),
+    ("broadcast", [*CHANNEL, ("number", "number"), ("htlc", "number")]),
+    ("blocks", [("count", "number")]),
+    ("look", SIDE),
+    ("take", [*SIDE, ("count", "number")]), ("release", [*SIDE, ("count", "number")]),
+    ("reorg", [("depth", "number"), ("forgotten", "number")]),
+]
+
+
+def scenario(**members):
+    """A scenario with two channels and one event before that of a row."""
+    return {"seeds": [SEED, SEED], "channels": [TERMS, TERMS], "events": [["look", "A"]], **members}
+
+
+def missed(at, value, parts):
+    """Objects that lack a member, that have one of another shape, and one with a member more; and what is noted."""
+    for name, kind in parts.items():
+        yield {key: it for key, it in value.items() if key != name}, f"{at} has no member {name}"
+        for other in MISSED[kind]:
+            yield {**value, name: other}, f"{at}: its {name} is not {WORDS[kind][1]}"
+    yield {**value, "more": 0}, f"{at} has a member that does not belong to it"
+    yield [], f"{at} is no object"
+
+
+def scenario_rows():
+    """Texts that are no scenario, and the note on each."""
+    yield from missed("the scenario", scenario(), MEMBERS)
+    for terms, note in missed("channel 1", TERMS, PARTS):
+        yield scenario(channels=[TERMS, terms]), note
+    for name, parts in EVENTS:
+        whole = [name, *(WORDS[kind][0] for _, kind in parts)]
+        for at, (part, kind) in enumerate(parts, 1):
+            for other in MISSED[kind]:
+                yield scenario(events=[["look", "A"], whole[:at] + [other] + whole[at + 1 :]]), f"event 1: its {part} is not {WORDS[kind][1]}"
+        if name != "broadcast":
+            for event in (whole[:-1], [*whole, 0]):
+                yield scenario(events=[["look", "A"], event]), f"event 1 has {len(event)} items, and not {len(whole)}"
+    for event, wanted in ((["broadcast", "A", 0], 4), (["broadcast", "A", 0, 0, 0, 0], 4)):
+        yield scenario(events=[["look", "A"], event]), f"event 1 has {len(event)} items, and not {wanted}"
+    for event, note in ((["offr"], "has the name of no event"), ([1], "is no array with a name at its front"), ({}, "is no array with a name at its front"), ([], "is no array with a name at its front")):
+        yield scenario(events=[["look", "A"], event]), f"event 1 {note}"
+
+
+# ---- the calls
+
+
+def noted(ran):
+    """The notes that a call printed."""
+    return [line.removeprefix("note: ") for line in ran.stderr.decode().splitlines()]
+
+
+def is_noted(command, words, given, notes, facts=None):
+    """Whether a call notes this, and lists one path with these facts where they are given."""
+    ran = subprocess.run([command, *words], input=given.encode(), capture_output=True)
+    listed = [line[2:] for line in ran.stdout.decode().splitlines() if line.startswith("  ")]
+    well = noted(ran) == notes and (facts is None or (ran.stdout.startswith(b"paths 1\n") and listed == facts))
+    if not well:
+        print(f"{' '.join(words)[:400]} {given[:200]}\n  notes {noted(ran)}\n  wanted {notes}" + (f"\n  lists {listed}\n  wanted {facts}" if facts is not None and listed != facts else ""))
+    return well
+
+
+def main():
+    os.chdir(TOP)
+    command = program("enforce")
+    scripts = [*opcode_rows(), *ENDS]
+    pairs = list(pair_rows())
+    texts = [(json.dumps(value), [note]) for value, note in scenario_rows()]
+    # the place of what is no JSON, in a text of as many bytes as there may be; one more byte is not looked at
+    texts += [("x".ljust(LIMIT), ["no JSON text from byte 0 on: line 1, column 1"]), ("x".ljust(LIMIT + 1), [])]
+    wrong = sum(not is_noted(command, ["paths", code], "", notes) for code, notes in scripts)
+    wrong += sum(not is_noted(command, ["paths", code], "", notes, facts) for code, facts, notes in pairs)
+    wrong += sum(not is_noted(command, ["run"], given, notes) for given, notes in texts)
+    wrong += sum(not is_noted(command, ["node", "1"], given, notes) for given, notes in texts[:1])
+    print(f"notes: {len(scripts)} scripts, {len(pairs)} pairs of facts, {sum(bool(it[2]) for it in pairs)} of them contradictory, {len(texts)} texts that are no scenario: {wrong} noted otherwise")
+    return int(wrong > 0)
+
+
+if __name__ == "__main__":
+    sys.exit(main())
