@@ -1,0 +1,123 @@
+#!/usr/bin/env python3
+"""revoked.py (--input | --output): the vectors of the program `revoked_vectors`, from BOLT 3's Appendix C.
+
+`real/tests/bolt3.json` has the appendix: its keys, HTLCs, transactions, programs and scripts. Each transaction is read with all that it is made of, with HTLCs
+that it does not have among the others, and with one key, the delay, or one part of an HTLC changed. What still matches is told from the appendix's own scripts,
+as bytes: an output is claimed if none of what its script is made of was changed. Nothing here hashes a script or builds one."""
+import json
+import pathlib
+import sys
+
+HERE = pathlib.Path(__file__).resolve().parent
+APPENDIX = json.loads((HERE.parent / "real/tests/bolt3.json").read_text())
+TERMS = APPENDIX["terms"]
+KEYS = TERMS["keys"]
+NAMES = ["revocation", "delayed", "local_htlc", "remote_htlc", "remote"]
+OWN = {
+    "revocation": KEYS["local_revocation_pubkey"],
+    "delayed": KEYS["local_delayedpubkey"],
+    "local_htlc": KEYS["local_htlcpubkey"],
+    "remote_htlc": KEYS["remote_htlcpubkey"],
+    "remote": KEYS["remote_payment_basepoint"],
+    "delay": TERMS["local_delay"],
+}
+# What each kind of output is made of.
+MADE_OF = {
+    "to_local": {"revocation", "delayed", "delay"},
+    "to_remote": {"remote"},
+    "offered": {"revocation", "local_htlc", "remote_htlc"},
+    "received": {"revocation", "local_htlc", "remote_htlc"},
+}
+
+
+def htlc_of(number):
+    htlc = next(h for h in APPENDIX["htlcs"] if h["id"] == number)
+    return ("received" if not htlc["offered_by_local"] else "offered", htlc["payment_hash"], htlc["cltv_expiry"])
+
+
+def same_script(one, other):
+    """Whether two HTLCs have one script: that of an offered one has no expiry."""
+    return one[:2] == other[:2] and (one[0] == "offered" or one[2] == other[2])
+
+
+def changed_key(key):
+    """Another key of the same form."""
+    return key[:-1] + ("0" if key[-1] != "0" else "1")
+
+
+class Row:
+    """A commitment as a line has it, with the transaction and its outputs."""
+
+    def __init__(self, values, tx, txid, outputs, htlcs):
+        self.values, self.tx, self.txid, self.outputs, self.htlcs = values, tx, txid, outputs, htlcs
+
+    def line(self):
+        words = [self.values[name] for name in NAMES] + [str(self.values["delay"]), self.tx]
+        return " ".join(words + [f"{d}:{h}:{e}" for d, h, e in self.htlcs])
+
+    def is_claimed(self, output):
+        kind = output["kind"]
+        if any(self.values[part] != OWN[part] for part in MADE_OF[kind]):
+            return False
+        if kind not in ("offered", "received"):
+            return True
+        own = htlc_of(output["htlc"])
+        assert own[0] == kind
+        return any(same_script(own, htlc) for htlc in self.htlcs)
+
+    def claim(self, index, output):
+        kind = output["kind"]
+        key = OWN["remote"] if kind == "to_remote" else OWN["revocation"]
+        item = "01" if kind == "to_local" else key
+        script = output.get("witness_script") or "76a914" + output["script_pubkey"][4:] + "88ac"
+        return (f"{self.txid}:{index} value {output['value_sat']} program {output['script_pubkey']} "
+                f"script {script} path 0 exact:{item} sig:{key}")
+
+    def answer(self):
+        claimed = [self.claim(i, o) for i, o in enumerate(self.outputs) if self.is_claimed(o)]
+        others = [i for i, o in enumerate(self.outputs) if not self.is_claimed(o)]
+        return claimed + ["others" + "".join(f" {i}" for i in others)]
+
+
+def with_changes(values, htlcs):
+    """The commitment as it is, and with one part changed each time."""
+    yield values, htlcs
+    yield values, list(reversed(htlcs))
+    for name in NAMES:
+        yield dict(values, **{name: changed_key(values[name])}), htlcs
+    for delay in (values["delay"] - 1, values["delay"] + 1, 16, 17, 0, 65535):
+        yield dict(values, delay=delay), htlcs
+    for at, (direction, payment_hash, expiry) in enumerate(htlcs):
+        other = "offered" if direction == "received" else "received"
+        for htlc in ([], [(other, payment_hash, expiry)], [(direction, changed_key(payment_hash), expiry)], [(direction, payment_hash, expiry + 1)]):
+            yield values, htlcs[:at] + htlc + htlcs[at + 1:]
+
+
+def rows():
+    to_local = {"kind": "to_local"}
+    everything = [htlc_of(h["id"]) for h in APPENDIX["htlcs"]]
+    for case in APPENDIX["cases"]:
+        htlcs = [htlc_of(number) for number in case["htlcs_given"]]
+        for values, known in with_changes(OWN, htlcs):
+            yield Row(values, case["unsigned_tx_no_witness"], case["txid_hash_order"], case["outputs"], known)
+        yield Row(OWN, case["unsigned_tx_no_witness"], case["txid_hash_order"], case["outputs"], everything)
+        script = next((o["witness_script"] for o in case["outputs"] if o["kind"] == "to_local"), None)
+        for second in case["htlc_transactions"]:
+            output = dict(to_local, value_sat=second["output_value_sat"], script_pubkey=second["output_script_pubkey"], witness_script=script)
+            for values in (OWN, dict(OWN, remote=changed_key(OWN["remote"])), dict(OWN, delayed=changed_key(OWN["delayed"])),
+                           dict(OWN, revocation=changed_key(OWN["revocation"])), dict(OWN, delay=OWN["delay"] + 1)):
+                yield Row(values, second["unsigned_tx_no_witness"], second["txid_hash_order"], [output], htlcs)
+
+
+def main(argument):
+    for row in rows():
+        if argument == "--input":
+            print(row.line())
+        else:
+            print("\n".join(row.answer()))
+
+
+if __name__ == "__main__":
+    if len(sys.argv) != 2 or sys.argv[1] not in ("--input", "--output"):
+        sys.exit(__doc__)
+    main(sys.argv[1])

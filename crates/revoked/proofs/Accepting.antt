@@ -1,0 +1,71 @@
+-- Claims on the forms of a revoked commitment's outputs are accepted, where the programs stand for them.
+use Rattle.std.proofs.Common.{◌≡◌, ℕ, true, List, ◌∷◌, length, refl, sym, ap, subst, ◌∙◌}
+use Rattle.std.specs.Str.{bytes_eq}
+use Rattle.std.proofs.lemmas.Bool.{or_left, or_right}
+use Rattle.std.proofs.lemmas.Slice.Eq.{bytes_eq-Decides}
+use Rattle.digest.specs.Hash.{hash160}
+use Rattle.digest.specs.Ripemd160.{ripemd160}
+use Rattle.digest.proofs.OutsideVectors.{length-ripemd160}
+use Rattle.script.specs.Spelling.{spelling}
+use Rattle.sighash.specs.Programs.{script_hash_program, key_hash_program, key_hash_script}
+use Rattle.terms.specs.Scripts.{key_hash}
+use Rattle.paths.specs.Listing.{CheckedScript}
+use Rattle.claim.specs.declared.parts.Place.{Place}
+use Rattle.claim.specs.declared.parts.Shell.TheVariants.{Open}
+use Rattle.claim.specs.Claims.{ClaimParts}
+use Rattle.claim.specs.Judgement.{is_key_program, is_program}
+use Rattle.forms.specs.declared.kinds.ClaimKind.{ClaimKind}
+use Rattle.forms.specs.declared.kinds.ClaimKind.TheVariants.{Penalty, HtlcPenalty, KeyHash}
+use Rattle.forms.specs.Claims.{Claims, of_penalty, of_offered_penalty, of_received_penalty, of_key, path_taken_by}
+use Rattle.forms.specs.Forms.{to_local_form, key_hash_form}
+use Rattle.forms.specs.Fillings.{fillings_of}
+use Rattle.commit.specs.declared.fees.Direction.{Direction}
+use Rattle.commit.specs.declared.fees.Direction.TheVariants.{Offered, Received}
+use Rattle.commit.specs.declared.derived.CommitmentKeys.{CommitmentKeys}
+use Rattle.commit.specs.Keys.{bytes_of}
+use Rattle.penalty.specs.Claimable.{Claimable}
+use Rattle.penalty.specs.Sets.{IsClaimOn}
+use Rattle.penalty.specs.Outputs.{HasWay}
+use Rattle.revoked.specs.declared.outputs.RevokedHtlc.{RevokedHtlc}
+use Rattle.revoked.specs.Programs.{form_by, form_of_htlc, htlc_program, claim_on_to_local, claim_on_to_remote, claim_on_htlc}
+
+same_bytes : (xs : List ℕ) → bytes_eq xs xs ≡ true
+same_bytes xs = (bytes_eq-Decides xs xs).1 refl
+
+-- a program that is the hash of the script
+stands_for : (script program : List ℕ) → program ≡ script_hash_program script → is_program script program ≡ true
+stands_for script program e = rw e (or_left _ _ (same_bytes (script_hash_program script)))
+
+-- of a form, the program that is the hash of its script
+pub by_hash : (form checked : CheckedScript) (program : List ℕ) → checked ≡ form → program ≡ script_hash_program (spelling form.ops) → is_program (spelling checked.ops) program ≡ true
+by_hash form checked program e f = stands_for (spelling checked.ops) program (f ∙ ap (λ (x : CheckedScript). script_hash_program (spelling x.ops)) (sym e))
+
+key_program : (key : List ℕ) → is_program (spelling (key_hash (hash160 key))) (key_hash_program key) ≡ true
+unfolding key_hash_program
+key_program key =
+    let l : length (hash160 key) ≡ 20 = length-ripemd160 _ in
+    let e : is_key_program (spelling (key_hash (hash160 key))) (0x00 ∷ 0x14 ∷ hash160 key) ≡ true = rw (l, same_bytes (key_hash_script (hash160 key))) refl in
+    or_right (bytes_eq (0x00 ∷ 0x14 ∷ hash160 key) (script_hash_program (spelling (key_hash (hash160 key))))) (is_key_program (spelling (key_hash (hash160 key))) (0x00 ∷ 0x14 ∷ hash160 key)) e
+
+pub by_key : (key : List ℕ) (checked : CheckedScript) (program : List ℕ) → checked ≡ key_hash_form (hash160 key) → program ≡ key_hash_program key → is_program (spelling checked.ops) program ≡ true
+by_key key checked program e f =
+    ap (λ (x : CheckedScript). is_program (spelling x.ops) program) e
+    ∙ ap (is_program (spelling (key_hash (hash160 key)))) f ∙ key_program key
+
+-- the claims on the forms
+pub claims_htlc : (k : CommitmentKeys) (h : RevokedHtlc) (checked : CheckedScript) (place : Place) → checked ≡ form_of_htlc (bytes_of k) h → Claims (HtlcPenalty k.revocation) checked 0 place Open
+claims_htlc k h checked place e =
+    subst (λ x. Claims (HtlcPenalty k.revocation) x 0 place Open) (sym e) (at h.direction)
+  where
+    at : (direction : Direction) → Claims (HtlcPenalty k.revocation) (form_by (bytes_of k) direction h.hash h.expiry.height) 0 place Open
+    at Offered = of_offered_penalty k.revocation k.remote_htlc.bytes k.local_htlc.bytes (ripemd160 h.hash) place
+    at Received = of_received_penalty k.revocation k.remote_htlc.bytes k.local_htlc.bytes (ripemd160 h.hash) h.expiry.height place
+
+-- on the form that was built
+abbrev claimed_with : ClaimKind → Place → CheckedScript → Claimable
+claimed_with kind place form = record { place = place; form = form; path = path_taken_by kind; slots = fillings_of kind; shell = Open }
+
+pub on_form : (kind : ClaimKind) (form checked : CheckedScript) (place : Place) (claim : ClaimParts) → checked ≡ form
+    → IsClaimOn (record { place = place; form = checked; path = path_taken_by kind; slots = fillings_of kind; shell = Open }) claim
+    → IsClaimOn (record { place = place; form = form; path = path_taken_by kind; slots = fillings_of kind; shell = Open }) claim
+on_form kind form checked place claim e i = subst (λ o. IsClaimOn o claim) (ap (claimed_with kind place) e) i

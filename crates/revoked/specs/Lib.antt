@@ -1,0 +1,4 @@
+pub mod Parts
+pub mod Programs
+pub mod Reading
+pub mod Telling

@@ -1,0 +1,117 @@
+//! Compares `revoked` with BOLT 3, Appendix C: `stdin` is the input, and `stdout` the expected output, which an
+//! independent script wrote.
+//!
+//! A line has a revoked commitment and a transaction. Its words are the commitment's five keys (revocation, delayed,
+//! local HTLC, remote HTLC, remote), its delay in blocks, the transaction without witnesses, and its HTLCs. An HTLC is
+//! `offered` or `received`, the payment hash and the expiry, with a colon between each two. Of each claim the program
+//! prints the index of the output, its value, the script, the path and the fills of its slots, and last the indices of
+//! the other outputs.
+//!
+//! The module `reading` reads the words. No crate depends on the program. It calls `revoked` and `tx`.
+#![tactic(auto)]
+
+mod reading;
+
+use claim::{Claim, Slot};
+use forms::{Patterns, patterns};
+use page::Page;
+use reading::{Parts, htlcs_of, parts_of, tx_of};
+use revoked::{Found, Revoked, RevokedHtlc, claims_in};
+use std::alloc::{AllocError, Global};
+use std::io;
+use std::process::ExitCode;
+use tx::Tx;
+
+/// Shows what fills a slot.
+fn show_slot(page: &mut Page, slot: &Slot) {
+    match slot {
+        Slot::Sig(key) => page.hex(" sig:", &key.bytes),
+        Slot::Preimage(hash) => page.hex(" preimage:", hash),
+        Slot::Exact(item) => page.hex(" exact:", item.item.bytes()),
+    }
+}
+
+/// Shows a claim.
+fn show_claim(page: &mut Page, claim: &Claim) {
+    let place = claim.place();
+    page.hex("", &place.outpoint.txid);
+    page.count(":", u64::from(place.outpoint.index));
+    page.count(" value ", place.value);
+    page.hex(" program ", place.program.bytes());
+    page.hex(" script ", claim.script());
+    page.count(" path ", claim.index() as u64);
+    for slot in claim.slots() {
+        show_slot(page, slot);
+    }
+    page.push("\n");
+}
+
+/// Shows what was found: a line for each claim, and one for the other outputs.
+fn show_found(page: &mut Page, found: &Found) {
+    for claim in found.claims.values() {
+        show_claim(page, claim);
+    }
+    page.push("others");
+    for index in found.others.values() {
+        page.count(" ", u64::from(*index));
+    }
+    page.push("\n");
+}
+
+/// What a revoked commitment lets claim of a transaction.
+fn found_in(
+    alloc: Global,
+    patterns: &Patterns,
+    parts: &Parts,
+    htlcs: Vec<RevokedHtlc>,
+    tx: &Tx,
+) -> Result<Found, AllocError> {
+    let revoked = Revoked::new(alloc, patterns, parts.keys, parts.delay_blocks, htlcs)?;
+    claims_in(alloc, patterns, &revoked, tx)
+}
+
+/// Shows what a line's commitment lets claim of a transaction.
+fn show_tx(page: &mut Page, patterns: &Patterns, line: &str, htlcs: Vec<RevokedHtlc>, tx: &Tx) {
+    let Some(parts) = parts_of(page.alloc(), line) else {
+        return page.fail();
+    };
+    match found_in(page.alloc(), patterns, &parts, htlcs, tx) {
+        Ok(found) => show_found(page, &found),
+        Err(_) => page.fail(),
+    }
+}
+
+/// Shows what the commitment and the transaction of a line give.
+fn show_line(page: &mut Page, patterns: &Patterns, line: &str, htlcs: Vec<RevokedHtlc>) {
+    match tx_of(page.alloc(), line) {
+        Some(tx) => show_tx(page, patterns, line, htlcs, &tx),
+        None => page.fail(),
+    }
+}
+
+/// Shows all lines.
+fn show_lines(page: &mut Page, patterns: &Patterns, lines: &str) {
+    for line in lines.lines() {
+        match htlcs_of(page.alloc(), line) {
+            Some(htlcs) => show_line(page, patterns, line, htlcs),
+            None => page.fail(),
+        }
+    }
+}
+
+/// Shows the whole input.
+fn show_input(page: &mut Page, input: &str) {
+    match patterns(page.alloc()) {
+        Ok(patterns) => show_lines(page, &patterns, input),
+        Err(_) => page.fail(),
+    }
+}
+
+fn main(rt: HostRuntime) -> ExitCode {
+    let mut page = Page::new(rt.alloc());
+    match io::read_to_string(rt.alloc(), rt.stdin()) {
+        Ok(input) => show_input(&mut page, input.as_str()),
+        Err(_) => page.fail(),
+    }
+    page.print(&rt)
+}
