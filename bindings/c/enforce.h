@@ -1,0 +1,176 @@
+/* enforce.h: the ways through a script and the scripts of BOLT 3, proved, for programs in C. Drawn from crates/enforce_c/src by `.ci/library --write`: do not edit.
+
+   Nothing here signs, and nothing checks a signature. docs/BINDINGS.md says what is proved of each call and what its caller owes:
+   pointers that are valid for their lengths, outputs that are initialised, and outputs that overlap nothing else. */
+#ifndef ENFORCE_H
+#define ENFORCE_H
+
+#include <stdbool.h>
+#include <stddef.h>
+#include <stdint.h>
+
+#ifdef __cplusplus
+extern "C" {
+#endif
+
+enum {
+    ENFORCE_FORM_FUNDING = 1, /* A funding output: both keys, `key` and `other`, in whichever order. */
+    ENFORCE_FORM_TO_LOCAL = 2, /* A to_local output: `key` revokes, or `other` after `delay_blocks`. */
+    ENFORCE_FORM_KEY_HASH = 3, /* A to_remote output, P2WPKH of `key`: the script that it stands for. */
+    ENFORCE_FORM_OFFERED = 4, /* An HTLC that the commitment's owner offered: `key` revokes, `other` is remote_htlcpubkey and `local` local_htlcpubkey. */
+    ENFORCE_FORM_RECEIVED = 5, /* An HTLC that the commitment's owner received, with the same keys, and `expiry_height`. */
+};
+
+enum {
+    ENFORCE_FACT_HASH = 1, /* HASH160 of the slot is these 20 bytes. */
+    ENFORCE_FACT_SIZE = 2, /* The slot has this number of bytes. */
+    ENFORCE_FACT_TRUTH = 3, /* The slot counts as true. */
+    ENFORCE_FACT_IS = 4, /* The slot is these bytes. */
+    ENFORCE_FACT_KEY = 5, /* The slot has the form of a key. */
+    ENFORCE_FACT_FORM = 6, /* The slot is empty or has the form of a signature. */
+    ENFORCE_FACT_SIGNED = 7, /* The slot is the key's signature over the spend. */
+    ENFORCE_FACT_CHOICE = 8, /* The slots and keys in the rows that follow it: the slots are signatures of an increasing choice of the keys, both deepest first. */
+    ENFORCE_FACT_CHOICE_SLOT = 9, /* A slot of the choice before it. */
+    ENFORCE_FACT_CHOICE_KEY = 10, /* A key of the choice before it. */
+    ENFORCE_FACT_LOCK = 11, /* CHECKLOCKTIMEVERIFY of this number passes (BIP 65). */
+    ENFORCE_FACT_AGE = 12, /* CHECKSEQUENCEVERIFY of this number passes (BIP 112). Of it only the bits of 0x40ffff are kept. */
+};
+
+enum {
+    ENFORCE_DONE = 0x0, /* The call did what it is for. */
+    ENFORCE_NO_MEMORY = 0x1, /* Memory ran out. Nothing but the answer was written. */
+    ENFORCE_TOO_SMALL = 0x2, /* A buffer is shorter than the answer says. Nothing but the answer was written. */
+    ENFORCE_BAD_OPCODE = 0x101, /* A byte of the script is not an opcode; the answer has its position. */
+    ENFORCE_TRUNCATED = 0x102, /* A push has too few bytes after it; the answer has its position. */
+    ENFORCE_TOO_LONG = 0x103, /* The script has more than 10,000 bytes. */
+    ENFORCE_OPEN_BRANCH = 0x201, /* Branches of the script do not close. */
+    ENFORCE_TOO_MANY_OPS = 0x202, /* More than 201 opcodes count. */
+    ENFORCE_UNDECIDED = 0x203, /* No rule decides an opcode or the end; the answer has the opcode's index. */
+    ENFORCE_TOO_MANY_PATHS = 0x204, /* A 65th path begins. */
+    ENFORCE_TOO_TALL = 0x205, /* A path needs more than 1,000 stack elements. */
+    ENFORCE_NO_SUCH_FORM = 0x401, /* There is no form of this kind. */
+    ENFORCE_NOT_A_KEY = 0x402, /* Bytes that the form uses do not have the form of a key. */
+    ENFORCE_NOT_A_HEIGHT = 0x403, /* The expiry is 500,000,000 or more, which is a time and not a height. */
+};
+
+enum {
+    ENFORCE_ABI = 1, /* What declarations mean together: it is raised whenever one changes its meaning. */
+};
+
+/* A form of BOLT 3 with what its script has. A field that the kind does not name is not read. */
+typedef struct {
+    uint32_t kind; /* One of the kinds of forms. */
+    uint32_t expiry_height; /* cltv_expiry, below 500,000,000. */
+    uint16_t delay_blocks; /* to_self_delay. */
+    uint8_t key[33];
+    uint8_t other[33];
+    uint8_t local[33];
+    uint8_t payment_hash[32];
+} enforce_form;
+
+/* A way through a script. Its facts are the rows from `first_fact` on, `facts` of them. */
+typedef struct {
+    size_t arity; /* The number of witness items, the script not counted. */
+    size_t counted; /* The counted opcodes of a run, keys of CHECKMULTISIGs included; at most 201. */
+    size_t height; /* The greatest number of elements of a run, at most 1,000. */
+    size_t first_fact; /* The index of its first fact's row. */
+    size_t facts; /* How many rows its facts have. */
+    uint64_t lock; /* The greatest absolute lock that a run checks (BIP 65), if there is one: a height below 500,000,000, else a time in seconds. */
+    uint32_t age; /* The greatest relative lock in blocks that a run checks (BIP 68, 112), if there is one. */
+    bool has_lock;
+    bool has_age;
+} enforce_path_row;
+
+/* What a path asks of the witness or the spend. Slots count from 0 at the top of the stack. */
+typedef struct {
+    uint32_t kind; /* One of the kinds of facts. */
+    bool holds; /* Whether the fact is to hold, or not to hold. */
+    bool key_is_slot; /* Whether the key is a slot of the witness; else the script has it. */
+    size_t slot; /* The slot that the fact is about. */
+    size_t key_slot; /* The slot that has the key. */
+    uint64_t number; /* A number of bytes, or the number of a lock. */
+    size_t bytes_at; /* Where its constant bytes begin: a hash, a key of the script, or what the slot is. */
+    size_t bytes_length; /* How many constant bytes it has. */
+} enforce_fact_row;
+
+/* What a call tells beside its status, of which each call writes the whole: the rows and bytes that there are, whether or not they were written, and the number that a refusal carries, a byte's position or an opcode's index. */
+typedef struct {
+    size_t paths;
+    size_t facts;
+    size_t bytes;
+    size_t number;
+} enforce_answer;
+
+/* The library's `ABI`, to be compared with that of the declarations once, at the start. */
+uint32_t enforce_abi(void);
+
+/* Lists every way to spend an output with this script, and nothing else: rows of paths, rows of their facts, and the facts' bytes. The statuses of refusals are those of families 1 and 2, and `TOO_SMALL` if one of the three buffers is too short. */
+uint32_t enforce_script_list(const uint8_t *script, size_t script_length, enforce_path_row *paths, size_t paths_length, enforce_fact_row *facts, size_t facts_length, uint8_t *bytes, size_t bytes_length, enforce_answer *answer);
+
+/* Writes the program that an output with this script has (BIP 141, P2WSH), 34 bytes: 00, 20 and the script's SHA-256 in the hash's own byte order. */
+void enforce_script_program(const uint8_t *script, size_t script_length, uint8_t (*program)[34]);
+
+/* Writes the script of a form. Its length is the answer's `bytes`. The statuses of refusals are those of family 4, in the order of their numbers, and `TOO_SMALL`. */
+uint32_t enforce_form_script(const enforce_form *form, uint8_t *script, size_t script_length, enforce_answer *answer);
+
+/* The word for a status. */
+static inline const char *enforce_name(uint32_t status) {
+    switch (status) {
+    case ENFORCE_DONE: return "Done";
+    case ENFORCE_NO_MEMORY: return "NoMemory";
+    case ENFORCE_TOO_SMALL: return "TooSmall";
+    case ENFORCE_BAD_OPCODE: return "BadOpcode";
+    case ENFORCE_TRUNCATED: return "Truncated";
+    case ENFORCE_TOO_LONG: return "TooLong";
+    case ENFORCE_OPEN_BRANCH: return "OpenBranch";
+    case ENFORCE_TOO_MANY_OPS: return "TooManyOps";
+    case ENFORCE_UNDECIDED: return "Undecided";
+    case ENFORCE_TOO_MANY_PATHS: return "TooManyPaths";
+    case ENFORCE_TOO_TALL: return "TooTall";
+    case ENFORCE_NO_SUCH_FORM: return "NoSuchForm";
+    case ENFORCE_NOT_A_KEY: return "NotAKey";
+    case ENFORCE_NOT_A_HEIGHT: return "NotAHeight";
+    default: return "Unknown";
+    }
+}
+
+#ifdef __cplusplus
+}
+#endif
+
+#if defined(__STDC_VERSION__) && __STDC_VERSION__ >= 201112L
+_Static_assert(sizeof(enforce_form) == 144, "the layout of enforce_form");
+_Static_assert(offsetof(enforce_form, kind) == 0, "the layout of enforce_form");
+_Static_assert(offsetof(enforce_form, expiry_height) == 4, "the layout of enforce_form");
+_Static_assert(offsetof(enforce_form, delay_blocks) == 8, "the layout of enforce_form");
+_Static_assert(offsetof(enforce_form, key) == 10, "the layout of enforce_form");
+_Static_assert(offsetof(enforce_form, other) == 43, "the layout of enforce_form");
+_Static_assert(offsetof(enforce_form, local) == 76, "the layout of enforce_form");
+_Static_assert(offsetof(enforce_form, payment_hash) == 109, "the layout of enforce_form");
+_Static_assert(sizeof(enforce_path_row) == 56, "the layout of enforce_path_row");
+_Static_assert(offsetof(enforce_path_row, arity) == 0, "the layout of enforce_path_row");
+_Static_assert(offsetof(enforce_path_row, counted) == 8, "the layout of enforce_path_row");
+_Static_assert(offsetof(enforce_path_row, height) == 16, "the layout of enforce_path_row");
+_Static_assert(offsetof(enforce_path_row, first_fact) == 24, "the layout of enforce_path_row");
+_Static_assert(offsetof(enforce_path_row, facts) == 32, "the layout of enforce_path_row");
+_Static_assert(offsetof(enforce_path_row, lock) == 40, "the layout of enforce_path_row");
+_Static_assert(offsetof(enforce_path_row, age) == 48, "the layout of enforce_path_row");
+_Static_assert(offsetof(enforce_path_row, has_lock) == 52, "the layout of enforce_path_row");
+_Static_assert(offsetof(enforce_path_row, has_age) == 53, "the layout of enforce_path_row");
+_Static_assert(sizeof(enforce_fact_row) == 48, "the layout of enforce_fact_row");
+_Static_assert(offsetof(enforce_fact_row, kind) == 0, "the layout of enforce_fact_row");
+_Static_assert(offsetof(enforce_fact_row, holds) == 4, "the layout of enforce_fact_row");
+_Static_assert(offsetof(enforce_fact_row, key_is_slot) == 5, "the layout of enforce_fact_row");
+_Static_assert(offsetof(enforce_fact_row, slot) == 8, "the layout of enforce_fact_row");
+_Static_assert(offsetof(enforce_fact_row, key_slot) == 16, "the layout of enforce_fact_row");
+_Static_assert(offsetof(enforce_fact_row, number) == 24, "the layout of enforce_fact_row");
+_Static_assert(offsetof(enforce_fact_row, bytes_at) == 32, "the layout of enforce_fact_row");
+_Static_assert(offsetof(enforce_fact_row, bytes_length) == 40, "the layout of enforce_fact_row");
+_Static_assert(sizeof(enforce_answer) == 32, "the layout of enforce_answer");
+_Static_assert(offsetof(enforce_answer, paths) == 0, "the layout of enforce_answer");
+_Static_assert(offsetof(enforce_answer, facts) == 8, "the layout of enforce_answer");
+_Static_assert(offsetof(enforce_answer, bytes) == 16, "the layout of enforce_answer");
+_Static_assert(offsetof(enforce_answer, number) == 24, "the layout of enforce_answer");
+#endif
+
+#endif

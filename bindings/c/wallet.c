@@ -1,0 +1,54 @@
+/* A wallet that is asked to pay to a script: is it the to_local script of BOLT 3 with these keys, and if not, who can spend it, and when?
+
+     cc $(pkg-config --cflags enforce) wallet.c $(pkg-config --libs enforce)
+     ./a.out SCRIPT REVOCATION_KEY DELAY DELAYED_KEY */
+#include <enforce.h>
+#include <stdio.h>
+#include <stdlib.h>
+#include <string.h>
+
+static size_t read_hex(const char *from, uint8_t *bytes, size_t room) {
+    size_t length = strlen(from) / 2;
+    unsigned byte;
+    if (length > room) exit(2);
+    for (size_t i = 0; i < length; i++) {
+        if (sscanf(from + 2 * i, "%2x", &byte) != 1) exit(2);
+        bytes[i] = (uint8_t)byte;
+    }
+    return length;
+}
+
+/* Whether these are the bytes of the form's script. */
+static bool is_form(const uint8_t *script, size_t length, const enforce_form *form) {
+    uint8_t wanted[256];
+    enforce_answer answer;
+    uint32_t status = enforce_form_script(form, wanted, sizeof wanted, &answer);
+    return status == ENFORCE_DONE && answer.bytes == length && !memcmp(wanted, script, length);
+}
+
+/* Prints who can spend an output with this script, in short. */
+static int tell(const uint8_t *script, size_t length) {
+    static enforce_path_row paths[64];
+    static enforce_fact_row facts[4096];
+    static uint8_t bytes[65536];
+    enforce_answer answer;
+    uint32_t status = enforce_script_list(script, length, paths, 64, facts, 4096, bytes, sizeof bytes, &answer);
+    if (status != ENFORCE_DONE) {
+        printf("not listed: %s %zu\n", enforce_name(status), answer.number);
+        return 1;
+    }
+    for (size_t k = 0; k < answer.paths; k++)
+        printf("path %zu: %zu items, after %u blocks, not before %llu\n", k, paths[k].arity, paths[k].age, (unsigned long long)paths[k].lock);
+    return 0;
+}
+
+int main(int argc, char **argv) {
+    static uint8_t script[10001];
+    enforce_form form = {.kind = ENFORCE_FORM_TO_LOCAL};
+    if (argc != 5 || enforce_abi() != ENFORCE_ABI) return 2;
+    size_t length = read_hex(argv[1], script, sizeof script);
+    read_hex(argv[2], form.key, 33), read_hex(argv[4], form.other, 33);
+    form.delay_blocks = (uint16_t)atoi(argv[3]);
+    if (is_form(script, length, &form)) printf("it is the to_local script with these keys\n");
+    return tell(script, length);
+}

@@ -1,0 +1,150 @@
+"""The ways through a version 0 witness script (BIP 141), and the scripts of BOLT 3, by a library that is proved.
+
+Nothing here signs, and nothing checks a signature. The keys are the caller's, and none is derived.
+
+    >>> import enforce
+    >>> [path.arity for path in enforce.paths(bytes.fromhex("6351675268"))]   # IF 1 ELSE 2 ENDIF
+    [1, 1]
+
+The shared library is the one that ENFORCE_LIBRARY names, else libenforce.so where the system's loader finds it. The declarations of enforce_raw, the copies between its rows
+and the classes here, and ctypes are trusted.
+"""
+import ctypes
+import os
+from dataclasses import dataclass
+from typing import List, Optional, Tuple, Union
+
+import enforce_raw as raw
+
+_library = ctypes.CDLL(os.environ.get("ENFORCE_LIBRARY") or "libenforce.so")
+raw.declare(_library)
+if _library.enforce_abi() != raw.ABI:
+    raise ImportError("the library is of another version than enforce_raw")
+
+
+class Refused(Exception):
+    """Why a call gives nothing: the status, its name, and the number that some refusals carry."""
+
+    def __init__(self, status: int, number: int):
+        self.status, self.name = status, raw.NAMES.get(status, "Unknown")
+        self.number = number if status in (raw.BAD_OPCODE, raw.TRUNCATED, raw.UNDECIDED) else None
+        super().__init__(self.name if self.number is None else f"{self.name} {number}")
+
+
+@dataclass(frozen=True)
+class Fact:
+    """What a path asks of the witness or the spend: the word of `enforce paths`, whether it is to hold, and what it says.
+
+    Slots count from 0 at the top of the stack. A key is bytes of the script, or the slot that has it.
+    """
+
+    kind: str
+    holds: bool
+    slots: Tuple[int, ...] = ()
+    keys: Tuple[Union[bytes, int], ...] = ()
+    constant: bytes = b""
+    number: int = 0
+
+
+@dataclass(frozen=True)
+class Path:
+    """A way through a script: whatever witness meets its facts runs clean. A lock below 500,000,000 is a height, else a time in seconds; the age is in blocks."""
+
+    arity: int
+    counted: int
+    height: int
+    lock: Optional[int]
+    age: Optional[int]
+    facts: Tuple[Fact, ...]
+
+
+_KINDS = {
+    raw.FACT_HASH: "hash",
+    raw.FACT_SIZE: "size",
+    raw.FACT_TRUTH: "truth",
+    raw.FACT_IS: "is",
+    raw.FACT_KEY: "key",
+    raw.FACT_FORM: "form",
+    raw.FACT_SIGNED: "token",
+    raw.FACT_CHOICE: "assigned",
+    raw.FACT_LOCK: "lock",
+    raw.FACT_AGE: "age",
+}
+
+
+def _given(data: bytes):
+    return (ctypes.c_uint8 * len(data)).from_buffer_copy(data)
+
+
+class _Rows:
+    """The buffers of a listing."""
+
+    def __init__(self, paths: int, facts: int, size: int):
+        self.paths, self.facts, self.bytes = (raw.PathRow * paths)(), (raw.FactRow * facts)(), (ctypes.c_uint8 * size)()
+
+    def constant(self, row) -> bytes:
+        return bytes(self.bytes[row.bytes_at : row.bytes_at + row.bytes_length])
+
+    def key(self, row) -> Union[bytes, int]:
+        return row.key_slot if row.key_is_slot else self.constant(row)
+
+    def fact(self, row, choice) -> Fact:
+        kind = _KINDS[row.kind]
+        slots = () if row.kind in (raw.FACT_LOCK, raw.FACT_AGE) else (row.slot,)
+        if row.kind == raw.FACT_CHOICE:
+            slots = tuple(it.slot for it in choice if it.kind == raw.FACT_CHOICE_SLOT)
+            return Fact(kind, row.holds, slots, tuple(self.key(it) for it in choice if it.kind == raw.FACT_CHOICE_KEY))
+        keys = (self.key(row),) if row.kind == raw.FACT_SIGNED else ()
+        return Fact(kind, row.holds, slots, keys, b"" if keys else self.constant(row), row.number)
+
+    def path(self, row) -> Path:
+        rows = self.facts[row.first_fact : row.first_fact + row.facts]
+        heads = [at for at, it in enumerate(rows) if it.kind in _KINDS] + [len(rows)]
+        facts = tuple(self.fact(rows[at], rows[at + 1 : end]) for at, end in zip(heads, heads[1:]))
+        return Path(row.arity, row.counted, row.height, row.lock if row.has_lock else None, row.age if row.has_age else None, facts)
+
+
+def paths(script: bytes) -> List[Path]:
+    """Every way to spend an output with this script, in the text order of its branches, and nothing else.
+
+    Proved of enforce_script_list: whatever meets a listed path runs clean, and whatever runs clean meets a listed path. Raises Refused.
+    """
+    answer, given = raw.Answer(), _given(script)
+    room = 64, 128, 1024
+    while True:
+        rows = _Rows(*room)
+        status = _library.enforce_script_list(given, len(script), rows.paths, room[0], rows.facts, room[1], rows.bytes, room[2], ctypes.byref(answer))
+        if status == raw.DONE:
+            return [rows.path(it) for it in rows.paths[: answer.paths]]
+        if status != raw.TOO_SMALL:
+            raise Refused(status, answer.number)
+        room = answer.paths, answer.facts, answer.bytes
+
+
+def program(script: bytes) -> bytes:
+    """The program that an output with this script has (BIP 141, P2WSH): 00, 20 and the script's SHA-256. Proved of enforce_script_program."""
+    made = (ctypes.c_uint8 * 34)()
+    _library.enforce_script_program(_given(script), len(script), ctypes.byref(made))
+    return bytes(made)
+
+
+def form_script(kind: int, key: bytes, other: bytes = b"", local: bytes = b"", payment_hash: bytes = b"", expiry_height: int = 0, delay_blocks: int = 0) -> bytes:
+    """The script of a form of BOLT 3 with these keys, of one of the kinds FORM_.. of enforce_raw, which say what each key is. Raises Refused.
+
+    Proved of enforce_form_script: the script of BOLT 3, or the first refusal.
+    """
+    form, answer = raw.Form(kind=kind, expiry_height=expiry_height, delay_blocks=delay_blocks), raw.Answer()
+    for name, value in (("key", key), ("other", other), ("local", local), ("payment_hash", payment_hash)):
+        field = getattr(form, name)
+        if len(value) not in (0, len(field)):
+            raise ValueError(f"{name} has {len(field)} bytes")
+        field[: len(value)] = value
+    size = 256
+    while True:
+        script = (ctypes.c_uint8 * size)()
+        status = _library.enforce_form_script(ctypes.byref(form), script, size, ctypes.byref(answer))
+        if status == raw.DONE:
+            return bytes(script[: answer.bytes])
+        if status != raw.TOO_SMALL:
+            raise Refused(status, answer.number)
+        size = answer.bytes

@@ -1,0 +1,166 @@
+"""The exports of the library, its structs and its numbers. Drawn from crates/enforce_c/src by `.ci/library --write`: do not edit."""
+from ctypes import POINTER, Structure, c_bool, c_size_t, c_uint8, c_uint16, c_uint32, c_uint64, sizeof
+
+# A funding output: both keys, `key` and `other`, in whichever order.
+FORM_FUNDING = 0x1
+# A to_local output: `key` revokes, or `other` after `delay_blocks`.
+FORM_TO_LOCAL = 0x2
+# A to_remote output, P2WPKH of `key`: the script that it stands for.
+FORM_KEY_HASH = 0x3
+# An HTLC that the commitment's owner offered: `key` revokes, `other` is remote_htlcpubkey and `local` local_htlcpubkey.
+FORM_OFFERED = 0x4
+# An HTLC that the commitment's owner received, with the same keys, and `expiry_height`.
+FORM_RECEIVED = 0x5
+
+# HASH160 of the slot is these 20 bytes.
+FACT_HASH = 0x1
+# The slot has this number of bytes.
+FACT_SIZE = 0x2
+# The slot counts as true.
+FACT_TRUTH = 0x3
+# The slot is these bytes.
+FACT_IS = 0x4
+# The slot has the form of a key.
+FACT_KEY = 0x5
+# The slot is empty or has the form of a signature.
+FACT_FORM = 0x6
+# The slot is the key's signature over the spend.
+FACT_SIGNED = 0x7
+# The slots and keys in the rows that follow it: the slots are signatures of an increasing choice of the keys, both deepest first.
+FACT_CHOICE = 0x8
+# A slot of the choice before it.
+FACT_CHOICE_SLOT = 0x9
+# A key of the choice before it.
+FACT_CHOICE_KEY = 0xa
+# CHECKLOCKTIMEVERIFY of this number passes (BIP 65).
+FACT_LOCK = 0xb
+# CHECKSEQUENCEVERIFY of this number passes (BIP 112). Of it only the bits of 0x40ffff are kept.
+FACT_AGE = 0xc
+
+# The call did what it is for.
+DONE = 0x0
+# Memory ran out. Nothing but the answer was written.
+NO_MEMORY = 0x1
+# A buffer is shorter than the answer says. Nothing but the answer was written.
+TOO_SMALL = 0x2
+# A byte of the script is not an opcode; the answer has its position.
+BAD_OPCODE = 0x101
+# A push has too few bytes after it; the answer has its position.
+TRUNCATED = 0x102
+# The script has more than 10,000 bytes.
+TOO_LONG = 0x103
+# Branches of the script do not close.
+OPEN_BRANCH = 0x201
+# More than 201 opcodes count.
+TOO_MANY_OPS = 0x202
+# No rule decides an opcode or the end; the answer has the opcode's index.
+UNDECIDED = 0x203
+# A 65th path begins.
+TOO_MANY_PATHS = 0x204
+# A path needs more than 1,000 stack elements.
+TOO_TALL = 0x205
+# There is no form of this kind.
+NO_SUCH_FORM = 0x401
+# Bytes that the form uses do not have the form of a key.
+NOT_A_KEY = 0x402
+# The expiry is 500,000,000 or more, which is a time and not a height.
+NOT_A_HEIGHT = 0x403
+
+# What declarations mean together: it is raised whenever one changes its meaning.
+ABI = 0x1
+
+NAMES = {
+    DONE: "Done",
+    NO_MEMORY: "NoMemory",
+    TOO_SMALL: "TooSmall",
+    BAD_OPCODE: "BadOpcode",
+    TRUNCATED: "Truncated",
+    TOO_LONG: "TooLong",
+    OPEN_BRANCH: "OpenBranch",
+    TOO_MANY_OPS: "TooManyOps",
+    UNDECIDED: "Undecided",
+    TOO_MANY_PATHS: "TooManyPaths",
+    TOO_TALL: "TooTall",
+    NO_SUCH_FORM: "NoSuchForm",
+    NOT_A_KEY: "NotAKey",
+    NOT_A_HEIGHT: "NotAHeight",
+}
+
+
+class Form(Structure):
+    """A form of BOLT 3 with what its script has. A field that the kind does not name is not read."""
+
+    _fields_ = [
+        ("kind", c_uint32),
+        ("expiry_height", c_uint32),
+        ("delay_blocks", c_uint16),
+        ("key", c_uint8 * 33),
+        ("other", c_uint8 * 33),
+        ("local", c_uint8 * 33),
+        ("payment_hash", c_uint8 * 32),
+    ]
+
+
+class PathRow(Structure):
+    """A way through a script. Its facts are the rows from `first_fact` on, `facts` of them."""
+
+    _fields_ = [
+        ("arity", c_size_t),
+        ("counted", c_size_t),
+        ("height", c_size_t),
+        ("first_fact", c_size_t),
+        ("facts", c_size_t),
+        ("lock", c_uint64),
+        ("age", c_uint32),
+        ("has_lock", c_bool),
+        ("has_age", c_bool),
+    ]
+
+
+class FactRow(Structure):
+    """What a path asks of the witness or the spend. Slots count from 0 at the top of the stack."""
+
+    _fields_ = [
+        ("kind", c_uint32),
+        ("holds", c_bool),
+        ("key_is_slot", c_bool),
+        ("slot", c_size_t),
+        ("key_slot", c_size_t),
+        ("number", c_uint64),
+        ("bytes_at", c_size_t),
+        ("bytes_length", c_size_t),
+    ]
+
+
+class Answer(Structure):
+    """What a call tells beside its status, of which each call writes the whole: the rows and bytes that there are, whether or not they were written, and the number that a refusal carries, a byte's position or an opcode's index."""
+
+    _fields_ = [
+        ("paths", c_size_t),
+        ("facts", c_size_t),
+        ("bytes", c_size_t),
+        ("number", c_size_t),
+    ]
+
+
+LAYOUTS = {
+    Form: (144, [0, 4, 8, 10, 43, 76, 109]),
+    PathRow: (56, [0, 8, 16, 24, 32, 40, 48, 52, 53]),
+    FactRow: (48, [0, 4, 5, 8, 16, 24, 32, 40]),
+    Answer: (32, [0, 8, 16, 24]),
+}
+
+
+def declare(library):
+    """Gives the exports of a loaded library their types."""
+    library.enforce_abi.argtypes = []
+    library.enforce_abi.restype = c_uint32
+    library.enforce_script_list.argtypes = [POINTER(c_uint8), c_size_t, POINTER(PathRow), c_size_t, POINTER(FactRow), c_size_t, POINTER(c_uint8), c_size_t, POINTER(Answer)]
+    library.enforce_script_list.restype = c_uint32
+    library.enforce_script_program.argtypes = [POINTER(c_uint8), c_size_t, POINTER(c_uint8 * 34)]
+    library.enforce_script_program.restype = None
+    library.enforce_form_script.argtypes = [POINTER(Form), POINTER(c_uint8), c_size_t, POINTER(Answer)]
+    library.enforce_form_script.restype = c_uint32
+    for struct, (size, offsets) in LAYOUTS.items():
+        if sizeof(struct) != size or [getattr(struct, field[0]).offset for field in struct._fields_] != offsets:
+            raise ImportError(f"the layout of {struct.__name__} is not the library's")

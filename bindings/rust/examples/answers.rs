@@ -1,0 +1,93 @@
+//! Makes the calls that standard input names, a line each, and prints what each answers, as `bindings/tests/answers.c` does.
+use enforce::{Fact, Form, KeySource, Path, Refused, Stated};
+use std::io::{self, BufRead};
+
+fn hex(bytes: &[u8]) -> String {
+    bytes.iter().map(|it| format!("{it:02x}")).collect()
+}
+
+fn bytes(text: &str) -> Vec<u8> {
+    let text = if text == "-" { "" } else { text };
+    (0..text.len() / 2).map(|at| u8::from_str_radix(&text[2 * at..2 * at + 2], 16).expect("hexadecimal digits")).collect()
+}
+
+fn array<const N: usize>(text: &str) -> [u8; N] {
+    let mut whole = bytes(text);
+    whole.resize(N, 0);
+    whole.try_into().expect("the length is N")
+}
+
+fn key(source: &KeySource) -> String {
+    match source {
+        KeySource::Const(bytes) => hex(bytes),
+        KeySource::Slot(slot) => format!("slot {slot}"),
+    }
+}
+
+fn stated(it: &Stated) -> String {
+    let holds = if it.holds { "yes" } else { "no" };
+    match &it.fact {
+        Fact::Hash(slot, hash) => format!("hash {slot} {} {holds}", hex(hash)),
+        Fact::Size(slot, size) => format!("size {slot} {size} {holds}"),
+        Fact::Truth(slot) => format!("truth {slot} {holds}"),
+        Fact::Is(slot, bytes) if bytes.is_empty() => format!("is {slot} - {holds}"),
+        Fact::Is(slot, bytes) => format!("is {slot} {} {holds}", hex(bytes)),
+        Fact::Key(slot) => format!("key {slot}"),
+        Fact::Form(slot) => format!("form {slot}"),
+        Fact::Signed(slot, source) => format!("token {slot} {} {holds}", key(source)),
+        Fact::Choice(slots, keys) => {
+            let slots = slots.iter().map(usize::to_string).collect::<Vec<_>>().join(",");
+            format!("assigned {slots} {} {holds}", keys.iter().map(key).collect::<Vec<_>>().join(","))
+        }
+        Fact::Lock(number) => format!("lock {number}"),
+        Fact::Age(number) => format!("age {number}"),
+    }
+}
+
+fn or_dash<T: ToString>(number: Option<T>) -> String {
+    number.map_or("-".to_owned(), |it| it.to_string())
+}
+
+fn told(k: usize, path: &Path) -> String {
+    let Path { arity, counted, height, .. } = path;
+    let head = format!("path {k} arity {arity} counted {counted} height {height} lock {} age {}\n", or_dash(path.lock), or_dash(path.age));
+    head + &path.facts.iter().map(|it| format!("  {}\n", stated(it))).collect::<String>()
+}
+
+fn form(words: &[&str]) -> Option<Form> {
+    let (first, second, third) = (array(words[1]), array(words[2]), array(words[3]));
+    let payment_hash = array(words[4]);
+    let expiry_height = words[5].parse().expect("a height");
+    let delay_blocks = words[6].parse().expect("a delay");
+    Some(match words[0] {
+        "1" => Form::Funding { key: first, other: second },
+        "2" => Form::ToLocal { revocation: first, delay_blocks, delayed: second },
+        "3" => Form::KeyHash { key: first },
+        "4" => Form::Offered { revocation: first, remote: second, local: third, payment_hash },
+        "5" => Form::Received { revocation: first, remote: second, local: third, payment_hash, expiry_height },
+        _ => return None,
+    })
+}
+
+fn answer(line: &str) -> Result<String, Refused> {
+    let words: Vec<&str> = line.split(' ').collect();
+    match words[0] {
+        "list" => {
+            let paths = enforce::paths(&bytes(words[1]))?;
+            Ok(format!("paths {}\n", paths.len()) + &paths.iter().enumerate().map(|(k, it)| told(k, it)).collect::<String>())
+        }
+        "program" => Ok(hex(&enforce::program(&bytes(words[1]))) + "\n"),
+        _ => match form(&words[1..]) {
+            Some(form) => Ok(hex(&form.script()?) + "\n"),
+            // no value of `Form` has another kind
+            None => Ok("refused NoSuchForm\n".to_owned()),
+        },
+    }
+}
+
+fn main() {
+    for line in io::stdin().lock().lines() {
+        let line = line.expect("standard input can be read");
+        print!("{}.\n", answer(&line).unwrap_or_else(|refused| format!("refused {refused}\n")));
+    }
+}

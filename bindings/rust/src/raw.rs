@@ -1,0 +1,216 @@
+//! Drawn from crates/enforce_c/src by `.ci/library --write`: do not edit.
+//! The exports of the library, its structs and its numbers.
+
+/// A funding output: both keys, `key` and `other`, in whichever order.
+pub const FORM_FUNDING: u32 = 0x1;
+/// A to_local output: `key` revokes, or `other` after `delay_blocks`.
+pub const FORM_TO_LOCAL: u32 = 0x2;
+/// A to_remote output, P2WPKH of `key`: the script that it stands for.
+pub const FORM_KEY_HASH: u32 = 0x3;
+/// An HTLC that the commitment's owner offered: `key` revokes, `other` is remote_htlcpubkey and `local` local_htlcpubkey.
+pub const FORM_OFFERED: u32 = 0x4;
+/// An HTLC that the commitment's owner received, with the same keys, and `expiry_height`.
+pub const FORM_RECEIVED: u32 = 0x5;
+
+/// HASH160 of the slot is these 20 bytes.
+pub const FACT_HASH: u32 = 0x1;
+/// The slot has this number of bytes.
+pub const FACT_SIZE: u32 = 0x2;
+/// The slot counts as true.
+pub const FACT_TRUTH: u32 = 0x3;
+/// The slot is these bytes.
+pub const FACT_IS: u32 = 0x4;
+/// The slot has the form of a key.
+pub const FACT_KEY: u32 = 0x5;
+/// The slot is empty or has the form of a signature.
+pub const FACT_FORM: u32 = 0x6;
+/// The slot is the key's signature over the spend.
+pub const FACT_SIGNED: u32 = 0x7;
+/// The slots and keys in the rows that follow it: the slots are signatures of an increasing choice of the keys, both deepest first.
+pub const FACT_CHOICE: u32 = 0x8;
+/// A slot of the choice before it.
+pub const FACT_CHOICE_SLOT: u32 = 0x9;
+/// A key of the choice before it.
+pub const FACT_CHOICE_KEY: u32 = 0xa;
+/// CHECKLOCKTIMEVERIFY of this number passes (BIP 65).
+pub const FACT_LOCK: u32 = 0xb;
+/// CHECKSEQUENCEVERIFY of this number passes (BIP 112). Of it only the bits of 0x40ffff are kept.
+pub const FACT_AGE: u32 = 0xc;
+
+/// The call did what it is for.
+pub const DONE: u32 = 0x0;
+/// Memory ran out. Nothing but the answer was written.
+pub const NO_MEMORY: u32 = 0x1;
+/// A buffer is shorter than the answer says. Nothing but the answer was written.
+pub const TOO_SMALL: u32 = 0x2;
+/// A byte of the script is not an opcode; the answer has its position.
+pub const BAD_OPCODE: u32 = 0x101;
+/// A push has too few bytes after it; the answer has its position.
+pub const TRUNCATED: u32 = 0x102;
+/// The script has more than 10,000 bytes.
+pub const TOO_LONG: u32 = 0x103;
+/// Branches of the script do not close.
+pub const OPEN_BRANCH: u32 = 0x201;
+/// More than 201 opcodes count.
+pub const TOO_MANY_OPS: u32 = 0x202;
+/// No rule decides an opcode or the end; the answer has the opcode's index.
+pub const UNDECIDED: u32 = 0x203;
+/// A 65th path begins.
+pub const TOO_MANY_PATHS: u32 = 0x204;
+/// A path needs more than 1,000 stack elements.
+pub const TOO_TALL: u32 = 0x205;
+/// There is no form of this kind.
+pub const NO_SUCH_FORM: u32 = 0x401;
+/// Bytes that the form uses do not have the form of a key.
+pub const NOT_A_KEY: u32 = 0x402;
+/// The expiry is 500,000,000 or more, which is a time and not a height.
+pub const NOT_A_HEIGHT: u32 = 0x403;
+
+/// What declarations mean together: it is raised whenever one changes its meaning.
+pub const ABI: u32 = 0x1;
+
+/// A form of BOLT 3 with what its script has. A field that the kind does not name is not read.
+#[repr(C)]
+#[derive(Clone, Copy, Debug, PartialEq, Eq)]
+pub struct Form {
+    /// One of the kinds of forms.
+    pub kind: u32,
+    /// cltv_expiry, below 500,000,000.
+    pub expiry_height: u32,
+    /// to_self_delay.
+    pub delay_blocks: u16,
+    pub key: [u8; 33],
+    pub other: [u8; 33],
+    pub local: [u8; 33],
+    pub payment_hash: [u8; 32],
+}
+
+const _: () = {
+    assert!(size_of::<Form>() == 144);
+    assert!(core::mem::offset_of!(Form, kind) == 0);
+    assert!(core::mem::offset_of!(Form, expiry_height) == 4);
+    assert!(core::mem::offset_of!(Form, delay_blocks) == 8);
+    assert!(core::mem::offset_of!(Form, key) == 10);
+    assert!(core::mem::offset_of!(Form, other) == 43);
+    assert!(core::mem::offset_of!(Form, local) == 76);
+    assert!(core::mem::offset_of!(Form, payment_hash) == 109);
+};
+
+/// A way through a script. Its facts are the rows from `first_fact` on, `facts` of them.
+#[repr(C)]
+#[derive(Clone, Copy, Debug, PartialEq, Eq)]
+pub struct PathRow {
+    /// The number of witness items, the script not counted.
+    pub arity: usize,
+    /// The counted opcodes of a run, keys of CHECKMULTISIGs included; at most 201.
+    pub counted: usize,
+    /// The greatest number of elements of a run, at most 1,000.
+    pub height: usize,
+    /// The index of its first fact's row.
+    pub first_fact: usize,
+    /// How many rows its facts have.
+    pub facts: usize,
+    /// The greatest absolute lock that a run checks (BIP 65), if there is one: a height below 500,000,000, else a time in seconds.
+    pub lock: u64,
+    /// The greatest relative lock in blocks that a run checks (BIP 68, 112), if there is one.
+    pub age: u32,
+    pub has_lock: bool,
+    pub has_age: bool,
+}
+
+const _: () = {
+    assert!(size_of::<PathRow>() == 56);
+    assert!(core::mem::offset_of!(PathRow, arity) == 0);
+    assert!(core::mem::offset_of!(PathRow, counted) == 8);
+    assert!(core::mem::offset_of!(PathRow, height) == 16);
+    assert!(core::mem::offset_of!(PathRow, first_fact) == 24);
+    assert!(core::mem::offset_of!(PathRow, facts) == 32);
+    assert!(core::mem::offset_of!(PathRow, lock) == 40);
+    assert!(core::mem::offset_of!(PathRow, age) == 48);
+    assert!(core::mem::offset_of!(PathRow, has_lock) == 52);
+    assert!(core::mem::offset_of!(PathRow, has_age) == 53);
+};
+
+/// What a path asks of the witness or the spend. Slots count from 0 at the top of the stack.
+#[repr(C)]
+#[derive(Clone, Copy, Debug, PartialEq, Eq)]
+pub struct FactRow {
+    /// One of the kinds of facts.
+    pub kind: u32,
+    /// Whether the fact is to hold, or not to hold.
+    pub holds: bool,
+    /// Whether the key is a slot of the witness; else the script has it.
+    pub key_is_slot: bool,
+    /// The slot that the fact is about.
+    pub slot: usize,
+    /// The slot that has the key.
+    pub key_slot: usize,
+    /// A number of bytes, or the number of a lock.
+    pub number: u64,
+    /// Where its constant bytes begin: a hash, a key of the script, or what the slot is.
+    pub bytes_at: usize,
+    /// How many constant bytes it has.
+    pub bytes_length: usize,
+}
+
+const _: () = {
+    assert!(size_of::<FactRow>() == 48);
+    assert!(core::mem::offset_of!(FactRow, kind) == 0);
+    assert!(core::mem::offset_of!(FactRow, holds) == 4);
+    assert!(core::mem::offset_of!(FactRow, key_is_slot) == 5);
+    assert!(core::mem::offset_of!(FactRow, slot) == 8);
+    assert!(core::mem::offset_of!(FactRow, key_slot) == 16);
+    assert!(core::mem::offset_of!(FactRow, number) == 24);
+    assert!(core::mem::offset_of!(FactRow, bytes_at) == 32);
+    assert!(core::mem::offset_of!(FactRow, bytes_length) == 40);
+};
+
+/// What a call tells beside its status, of which each call writes the whole: the rows and bytes that there are, whether or not they were written, and the number that a refusal carries, a byte's position or an opcode's index.
+#[repr(C)]
+#[derive(Clone, Copy, Debug, PartialEq, Eq)]
+pub struct Answer {
+    pub paths: usize,
+    pub facts: usize,
+    pub bytes: usize,
+    pub number: usize,
+}
+
+const _: () = {
+    assert!(size_of::<Answer>() == 32);
+    assert!(core::mem::offset_of!(Answer, paths) == 0);
+    assert!(core::mem::offset_of!(Answer, facts) == 8);
+    assert!(core::mem::offset_of!(Answer, bytes) == 16);
+    assert!(core::mem::offset_of!(Answer, number) == 24);
+};
+
+unsafe extern "C" {
+    /// The library's `ABI`, to be compared with that of the declarations once, at the start.
+    pub fn enforce_abi() -> u32;
+    /// Lists every way to spend an output with this script, and nothing else: rows of paths, rows of their facts, and the facts' bytes. The statuses of refusals are those of families 1 and 2, and `TOO_SMALL` if one of the three buffers is too short.
+    pub fn enforce_script_list(script: *const u8, script_length: usize, paths: *mut PathRow, paths_length: usize, facts: *mut FactRow, facts_length: usize, bytes: *mut u8, bytes_length: usize, answer: *mut Answer) -> u32;
+    /// Writes the program that an output with this script has (BIP 141, P2WSH), 34 bytes: 00, 20 and the script's SHA-256 in the hash's own byte order.
+    pub fn enforce_script_program(script: *const u8, script_length: usize, program: *mut [u8; 34]);
+    /// Writes the script of a form. Its length is the answer's `bytes`. The statuses of refusals are those of family 4, in the order of their numbers, and `TOO_SMALL`.
+    pub fn enforce_form_script(form: *const Form, script: *mut u8, script_length: usize, answer: *mut Answer) -> u32;
+}
+
+/// The word for a status.
+pub fn name(status: u32) -> &'static str {
+    match status {
+        DONE => "Done",
+        NO_MEMORY => "NoMemory",
+        TOO_SMALL => "TooSmall",
+        BAD_OPCODE => "BadOpcode",
+        TRUNCATED => "Truncated",
+        TOO_LONG => "TooLong",
+        OPEN_BRANCH => "OpenBranch",
+        TOO_MANY_OPS => "TooManyOps",
+        UNDECIDED => "Undecided",
+        TOO_MANY_PATHS => "TooManyPaths",
+        TOO_TALL => "TooTall",
+        NO_SUCH_FORM => "NoSuchForm",
+        NOT_A_KEY => "NotAKey",
+        NOT_A_HEIGHT => "NotAHeight",
+        _ => "Unknown",
+    }
+}

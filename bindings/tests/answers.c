@@ -1,0 +1,308 @@
+/* Makes the calls that standard input names, a line each, and prints what each answers.
+
+     list HEX                                            the text of `enforce paths`, made of the rows
+     program HEX                                         the program of a script
+     form KIND KEY OTHER LOCAL PAYMENT_HASH EXPIRY DELAY the script of a form
+
+   answers             the answers. Each call is made again with buffers of just their lengths, and with each of them one shorter
+   answers --threads   the answers, made by four threads at once as well, which must be the same
+   answers --refuse    the answers, after each allocation of each call was refused once (with refusing.c)
+
+   The last line of standard error counts the calls that were made besides. Status 1 where one of them answers otherwise. */
+#include <enforce.h>
+#include <pthread.h>
+#include <stdarg.h>
+#include <stdio.h>
+#include <stdlib.h>
+#include <string.h>
+
+enum { PATHS = 64, FACTS = 4096, BYTES = 65536, THREADS = 4, FILL = 0x5a };
+
+#ifdef REFUSING
+extern _Thread_local long refused_number, asked;
+#else
+static _Thread_local long refused_number, asked;
+#endif
+
+/* What a call is given and leaves. */
+typedef struct {
+    enforce_path_row paths[PATHS];
+    enforce_fact_row facts[FACTS];
+    uint8_t bytes[BYTES];
+    enforce_answer answer;
+    uint32_t status;
+} state;
+
+/* A text that grows. */
+typedef struct {
+    char *start;
+    size_t length, room;
+} text;
+
+/* One thread's work, and the calls that it made besides. */
+typedef struct {
+    char **lines;
+    size_t count;
+    text told;
+    long short_calls, refused, wrong;
+    bool refuses;
+} work;
+
+static void fail(const char *what) {
+    fprintf(stderr, "answers: %s\n", what);
+    exit(2);
+}
+
+static void put(text *to, const char *format, ...) {
+    va_list values;
+    if (to->room - to->length < 4096) {
+        to->room = 2 * to->room + 8192;
+        to->start = realloc(to->start, to->room);
+        if (!to->start) fail("no memory");
+    }
+    va_start(values, format);
+    to->length += (size_t)vsnprintf(to->start + to->length, 4096, format, values);
+    va_end(values);
+}
+
+static void put_hex(text *to, const uint8_t *bytes, size_t length) {
+    for (size_t i = 0; i < length; i++) put(to, "%02x", bytes[i]);
+}
+
+/* Reads hexadecimal digits; the number of bytes. */
+static size_t read_hex(const char *from, uint8_t *bytes, size_t room) {
+    size_t length = strcmp(from, "-") ? strlen(from) / 2 : 0;
+    unsigned byte;
+    if (length > room) fail("too many digits");
+    for (size_t i = 0; i < length; i++) {
+        if (sscanf(from + 2 * i, "%2x", &byte) != 1) fail("no hexadecimal digits");
+        bytes[i] = (uint8_t)byte;
+    }
+    return length;
+}
+
+static void put_status(text *to, const state *s) {
+    put(to, "refused %s", enforce_name(s->status));
+    if (s->status == ENFORCE_BAD_OPCODE || s->status == ENFORCE_TRUNCATED || s->status == ENFORCE_UNDECIDED) put(to, " %zu", s->answer.number);
+    put(to, "\n");
+}
+
+static void put_key(text *to, const state *s, const enforce_fact_row *row) {
+    if (row->key_is_slot)
+        put(to, "slot %zu", row->key_slot);
+    else
+        put_hex(to, s->bytes + row->bytes_at, row->bytes_length);
+}
+
+/* The slots and the keys of a choice; the rows that were read. */
+static size_t put_choice(text *to, const state *s, const enforce_fact_row *row, size_t left) {
+    size_t i = 0;
+    const char *before = "";
+    put(to, "assigned ");
+    for (; i < left && row[i].kind == ENFORCE_FACT_CHOICE_SLOT; i++, before = ",") put(to, "%s%zu", before, row[i].slot);
+    put(to, " ");
+    for (before = ""; i < left && row[i].kind == ENFORCE_FACT_CHOICE_KEY; i++, before = ",") {
+        put(to, "%s", before);
+        put_key(to, s, row + i);
+    }
+    return i;
+}
+
+/* A fact as `enforce paths` prints it; the rows that were read. */
+static size_t put_fact(text *to, const state *s, const enforce_fact_row *row, size_t left) {
+    size_t rows = 1;
+    const char *holds = row->holds ? " yes\n" : " no\n";
+    put(to, "  ");
+    switch (row->kind) {
+    case ENFORCE_FACT_HASH: put(to, "hash %zu ", row->slot), put_hex(to, s->bytes + row->bytes_at, row->bytes_length), put(to, "%s", holds); break;
+    case ENFORCE_FACT_SIZE: put(to, "size %zu %llu%s", row->slot, (unsigned long long)row->number, holds); break;
+    case ENFORCE_FACT_TRUTH: put(to, "truth %zu%s", row->slot, holds); break;
+    case ENFORCE_FACT_IS:
+        put(to, row->bytes_length ? "is %zu " : "is %zu -", row->slot), put_hex(to, s->bytes + row->bytes_at, row->bytes_length), put(to, "%s", holds);
+        break;
+    case ENFORCE_FACT_KEY: put(to, "key %zu\n", row->slot); break;
+    case ENFORCE_FACT_FORM: put(to, "form %zu\n", row->slot); break;
+    case ENFORCE_FACT_SIGNED: put(to, "token %zu ", row->slot), put_key(to, s, row), put(to, "%s", holds); break;
+    case ENFORCE_FACT_CHOICE: rows += put_choice(to, s, row + 1, left - 1), put(to, "%s", holds); break;
+    case ENFORCE_FACT_LOCK: put(to, "lock %llu\n", (unsigned long long)row->number); break;
+    case ENFORCE_FACT_AGE: put(to, "age %llu\n", (unsigned long long)row->number); break;
+    default: fail("a row of no kind");
+    }
+    return rows;
+}
+
+static void put_path(text *to, const state *s, size_t k) {
+    const enforce_path_row *row = s->paths + k;
+    put(to, "path %zu arity %zu counted %zu height %zu lock ", k, row->arity, row->counted, row->height);
+    put(to, row->has_lock ? "%llu age " : "- age ", (unsigned long long)row->lock);
+    put(to, row->has_age ? "%llu\n" : "-\n", (unsigned long long)row->age);
+    for (size_t i = 0; i < row->facts;) i += put_fact(to, s, s->facts + row->first_fact + i, row->facts - i);
+}
+
+/* A call with so much room, and what it leaves. */
+typedef struct {
+    const char *name;
+    uint8_t script[12000];
+    size_t length;
+    enforce_form form;
+} request;
+
+static void call(const request *r, state *s, size_t paths, size_t facts, size_t bytes) {
+    memset(s, FILL, sizeof *s);
+    for (size_t i = 0; i < PATHS; i++) s->paths[i].has_lock = s->paths[i].has_age = false;
+    for (size_t i = 0; i < FACTS; i++) s->facts[i].holds = s->facts[i].key_is_slot = false;
+    asked = 0;
+    if (!strcmp(r->name, "list"))
+        s->status = enforce_script_list(r->script, r->length, s->paths, paths, s->facts, facts, s->bytes, bytes, &s->answer);
+    else
+        s->status = enforce_form_script(&r->form, s->bytes, bytes, &s->answer);
+}
+
+/* Nothing but the status and the answer was written. */
+static bool is_left(const state *s) {
+    for (size_t i = 0; i < BYTES; i++)
+        if (s->bytes[i] != FILL) return false;
+    for (size_t i = 0; i < PATHS; i++)
+        if (s->paths[i].arity != s->paths[PATHS - 1].arity || (uint8_t)s->paths[i].arity != FILL || s->paths[i].has_lock) return false;
+    for (size_t i = 0; i < FACTS; i++)
+        if ((uint8_t)s->facts[i].kind != FILL || (uint8_t)s->facts[i].slot != FILL || s->facts[i].holds) return false;
+    return true;
+}
+
+static bool is_same_path(const enforce_path_row *a, const enforce_path_row *b) {
+    return a->arity == b->arity && a->counted == b->counted && a->height == b->height && a->first_fact == b->first_fact && a->facts == b->facts && a->lock == b->lock && a->age == b->age
+        && a->has_lock == b->has_lock && a->has_age == b->has_age;
+}
+
+static bool is_same_fact(const enforce_fact_row *a, const enforce_fact_row *b) {
+    return a->kind == b->kind && a->holds == b->holds && a->key_is_slot == b->key_is_slot && a->slot == b->slot && a->key_slot == b->key_slot && a->number == b->number && a->bytes_at == b->bytes_at
+        && a->bytes_length == b->bytes_length;
+}
+
+/* The same bytes and rows, field by field: the padding of a row may be anything. */
+static bool are_same(const state *a, const state *b) {
+    for (size_t i = 0; i < PATHS; i++)
+        if (!is_same_path(&a->paths[i], &b->paths[i])) return false;
+    for (size_t i = 0; i < FACTS; i++)
+        if (!is_same_fact(&a->facts[i], &b->facts[i])) return false;
+    return !memcmp(a->bytes, b->bytes, BYTES);
+}
+
+/* Makes the call once more with one buffer shorter by one, or with just enough room. */
+static void call_short(work *w, const request *r, const state *s, state *other, size_t paths, size_t facts, size_t bytes) {
+    bool fits = paths >= s->answer.paths && facts >= s->answer.facts && bytes >= s->answer.bytes;
+    call(r, other, paths, facts, bytes);
+    bool same = other->answer.paths == s->answer.paths && other->answer.facts == s->answer.facts && other->answer.bytes == s->answer.bytes;
+    if (!same || other->status != (fits ? ENFORCE_DONE : ENFORCE_TOO_SMALL) || (!fits && !is_left(other))) w->wrong++;
+    if (fits && !are_same(other, s)) w->wrong++;
+    w->short_calls++;
+}
+
+static void call_again(work *w, const request *r, const state *s, state *other) {
+    size_t paths = s->answer.paths, facts = s->answer.facts, bytes = s->answer.bytes;
+    if (s->status != ENFORCE_DONE) return;
+    call_short(w, r, s, other, paths, facts, bytes);
+    if (paths) call_short(w, r, s, other, paths - 1, facts, bytes);
+    if (facts) call_short(w, r, s, other, paths, facts - 1, bytes);
+    if (bytes) call_short(w, r, s, other, paths, facts, bytes - 1);
+}
+
+/* Refuses each allocation in turn: the call says so, and writes nothing else. */
+static void refuse_each(work *w, const request *r, state *other) {
+    for (refused_number = 1;; refused_number++) {
+        call(r, other, PATHS, FACTS, BYTES);
+        if (asked < refused_number) break;
+        if (other->status != ENFORCE_NO_MEMORY || !is_left(other) || other->answer.paths || other->answer.facts || other->answer.bytes || other->answer.number) w->wrong++;
+        w->refused++;
+    }
+    refused_number = 0;
+}
+
+static void read_form(request *r, char **rest) {
+    const char *words[7];
+    for (int i = 0; i < 7; i++)
+        if (!(words[i] = strtok_r(NULL, " ", rest))) fail("a form has seven words");
+    r->form.kind = (uint32_t)strtoul(words[0], NULL, 10);
+    read_hex(words[1], r->form.key, 33), read_hex(words[2], r->form.other, 33), read_hex(words[3], r->form.local, 33);
+    read_hex(words[4], r->form.payment_hash, 32);
+    r->form.expiry_height = (uint32_t)strtoul(words[5], NULL, 10);
+    r->form.delay_blocks = (uint16_t)strtoul(words[6], NULL, 10);
+}
+
+static void tell(work *w, const request *r, state *s, state *other) {
+    text *to = &w->told;
+    if (!strcmp(r->name, "program")) {
+        uint8_t program[34];
+        enforce_script_program(r->script, r->length, &program);
+        put_hex(to, program, sizeof program), put(to, "\n");
+        return;
+    }
+    if (w->refuses) refuse_each(w, r, other);
+    call(r, s, PATHS, FACTS, BYTES);
+    if (s->status != ENFORCE_DONE) {
+        put_status(to, s);
+    } else if (!strcmp(r->name, "list")) {
+        put(to, "paths %zu\n", s->answer.paths);
+        for (size_t k = 0; k < s->answer.paths; k++) put_path(to, s, k);
+    } else {
+        put_hex(to, s->bytes, s->answer.bytes), put(to, "\n");
+    }
+    if (!w->refuses) call_again(w, r, s, other);
+}
+
+static void *answer_all(void *given) {
+    work *w = given;
+    state *s = malloc(sizeof *s), *other = malloc(sizeof *other);
+    if (!s || !other) fail("no memory");
+    for (size_t i = 0; i < w->count; i++) {
+        request r = {0};
+        char *rest, *line = strdup(w->lines[i]);
+        r.name = strtok_r(line, " ", &rest);
+        if (!strcmp(r.name, "form"))
+            read_form(&r, &rest);
+        else
+            r.length = read_hex(strtok_r(NULL, " ", &rest), r.script, sizeof r.script);
+        tell(w, &r, s, other);
+        put(&w->told, ".\n");
+        free(line);
+    }
+    free(s), free(other);
+    return NULL;
+}
+
+static char **read_lines(size_t *count) {
+    static char line[32768];
+    char **lines = NULL;
+    for (*count = 0; fgets(line, sizeof line, stdin); ++*count) {
+        line[strcspn(line, "\n")] = 0;
+        lines = realloc(lines, (*count + 1) * sizeof *lines);
+        if (!lines) fail("no memory");
+        lines[*count] = strdup(line);
+    }
+    return lines;
+}
+
+int main(int argc, char **argv) {
+    work first = {0}, others[THREADS];
+    pthread_t threads[THREADS];
+    bool by_threads = argc > 1 && !strcmp(argv[1], "--threads");
+    first.refuses = argc > 1 && !strcmp(argv[1], "--refuse");
+    if (enforce_abi() != ENFORCE_ABI) fail("the library is of another version than the header");
+    first.lines = read_lines(&first.count);
+    answer_all(&first);
+    if (first.told.length) fwrite(first.told.start, 1, first.told.length, stdout);
+    for (int i = 0; by_threads && i < THREADS; i++) {
+        others[i] = (work){.lines = first.lines, .count = first.count};
+        if (pthread_create(&threads[i], NULL, answer_all, &others[i])) fail("no thread");
+    }
+    for (int i = 0; by_threads && i < THREADS; i++) {
+        pthread_join(threads[i], NULL);
+        if (others[i].told.length != first.told.length || memcmp(others[i].told.start, first.told.start, first.told.length)) first.wrong++;
+        first.wrong += others[i].wrong, first.short_calls += others[i].short_calls;
+        free(others[i].told.start);
+    }
+    fprintf(stderr, "lengths %ld refused %ld wrong %ld\n", first.short_calls, first.refused, first.wrong);
+    for (size_t i = 0; i < first.count; i++) free(first.lines[i]);
+    free(first.lines), free(first.told.start);
+    return first.wrong != 0;
+}

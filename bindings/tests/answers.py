@@ -1,0 +1,52 @@
+"""Makes the calls that standard input names, a line each, and prints what each answers, as answers.c does."""
+import sys
+
+import enforce
+
+
+def key(source):
+    return f"slot {source}" if isinstance(source, int) else source.hex()
+
+
+def stated(fact):
+    holds = "yes" if fact.holds else "no"
+    said = {
+        "hash": lambda: f"{fact.constant.hex()} {holds}",
+        "size": lambda: f"{fact.number} {holds}",
+        "truth": lambda: holds,
+        "is": lambda: f"{fact.constant.hex() or '-'} {holds}",
+        "token": lambda: f"{key(fact.keys[0])} {holds}",
+        "assigned": lambda: f"{','.join(map(key, fact.keys))} {holds}",
+        "lock": lambda: str(fact.number),
+        "age": lambda: str(fact.number),
+    }
+    slots = ",".join(map(str, fact.slots))
+    return " ".join(it for it in (fact.kind, slots, said.get(fact.kind, str)()) if it)
+
+
+def or_dash(number):
+    return "-" if number is None else number
+
+
+def listing(script):
+    paths = enforce.paths(script)
+    lines = [f"paths {len(paths)}"]
+    for k, it in enumerate(paths):
+        lines.append(f"path {k} arity {it.arity} counted {it.counted} height {it.height} lock {or_dash(it.lock)} age {or_dash(it.age)}")
+        lines += [f"  {stated(fact)}" for fact in it.facts]
+    return "\n".join(lines)
+
+
+def answer(name, *words):
+    if name == "form":
+        keys = [bytes.fromhex("" if it == "-" else it) for it in words[1:5]]
+        return enforce.form_script(int(words[0]), *keys, int(words[5]), int(words[6])).hex()
+    script = bytes.fromhex("" if words[0] == "-" else words[0])
+    return listing(script) if name == "list" else enforce.program(script).hex()
+
+
+for line in sys.stdin:
+    try:
+        print(answer(*line.split()), ".", sep="\n")
+    except enforce.Refused as refused:
+        print(f"refused {refused}", ".", sep="\n")

@@ -1,0 +1,51 @@
+-- What a call answers, from what becomes of the bytes or of the form.
+use Rattle.std.proofs.Common.{◌≡◌, ℕ, List, Result, Ok, Err, All, sym, subst, refl}
+use Rattle.script.specs.declared.opcode.Op.{Op}
+use Rattle.script.specs.Spelling.{Spells}
+use Rattle.paths.specs.declared.errors.CheckError.{CheckError}
+use Rattle.paths.specs.declared.state.Path.{Path}
+use Rattle.paths.specs.Listing.{CheckedScript}
+use Rattle.paths.specs.Outcome.{IsListing, IsRefusal}
+use Rattle.paths.specs.Sound.{IsSound}
+use Rattle.paths.specs.Exhaustive.{IsExhaustive}
+use Rattle.enforce_c.specs.declared.rows.Answer.{Answer}
+use Rattle.enforce_c.specs.declared.forms_of_c.Form.{Form}
+use Rattle.enforce_c.specs.declared.statuses.Refusal.{Refusal}
+use Rattle.enforce_c.specs.declared.statuses.Refusal.TheVariants.{Check}
+use Rattle.enforce_c.specs.Statuses.{status_of}
+use Rattle.enforce_c.specs.Rows.{RowLists, rows_of}
+use Rattle.enforce_c.specs.Answers.{Left, LeftBytes, left_by_rows, left_by_bytes, refused_with}
+use Rattle.enforce_c.specs.Listed.{IsListed, IsRefused, IsTold, AnswersListing}
+use Rattle.enforce_c.specs.FormScripts.{IsOf, IsSpeltForm, AnswersForm, form_of}
+
+pub is_listed : (bytes : List ℕ) (ops : List Op) (c : CheckedScript) → Spells ops bytes → IsListing ops (Ok c) → All (IsSound c.ops) c.paths → IsExhaustive c.ops c.paths → IsListed bytes c
+is_listed bytes ops c spelt listed sound exhaustive = record {
+  spelt = subst (λ o. Spells o bytes) (sym listed.0) spelt;
+  listed = rw listed.0 listed.1;
+  sound = sound;
+  exhaustive = exhaustive;
+}
+
+pub is_refused : (bytes : List ℕ) (ops : List Op) (e : CheckError) → Spells ops bytes → IsRefusal ops e → IsRefused bytes (Check e)
+is_refused bytes ops e spelt refused = (ops, spelt, refused)
+
+pub is_told : (bytes : List ℕ) (c : CheckedScript) (paths : List Path) (t : RowLists) → IsListed bytes c → paths ≡ c.paths → t ≡ rows_of paths → IsTold bytes (Ok t)
+is_told bytes c paths t listed same rows = (c, listed, rw (sym same) rows)
+
+pub listed_rows : (bytes : List ℕ) (before t : RowLists) (after : Left) → IsTold bytes (Ok t) → left_by_rows t before ≡ after → AnswersListing bytes before after
+listed_rows bytes before t after told left = (Ok t, told, left)
+
+pub refused_rows : (bytes : List ℕ) (before : RowLists) (e : Refusal) (s : ℕ) (a : Answer) → IsTold bytes (Err e) → s ≡ status_of e → a ≡ refused_with e → AnswersListing bytes before (record { status = s; answer = a; rows = before })
+refused_rows bytes before e s a told status answer = (Err e, told, rw (status, answer) refl)
+
+pub by_kind : (rule other : Result CheckedScript Refusal) (r : Result CheckedScript Refusal) → IsOf rule r → other ≡ rule → IsOf other r
+by_kind rule other r is same = subst (λ o. IsOf o r) (sym same) is
+
+pub is_spelt : (f : Form) (c : CheckedScript) (bytes : List ℕ) → form_of f ≡ Ok c → Spells c.ops bytes → IsSpeltForm f (Ok bytes)
+is_spelt f c bytes is spelt = (c, is, spelt)
+
+pub spelt_bytes : (f : Form) (before bytes : List ℕ) (after : LeftBytes) → IsSpeltForm f (Ok bytes) → left_by_bytes bytes before ≡ after → AnswersForm f before after
+spelt_bytes f before bytes after spelt left = (Ok bytes, spelt, left)
+
+pub refused_bytes : (f : Form) (before : List ℕ) (e : Refusal) (s : ℕ) (a : Answer) → IsSpeltForm f (Err e) → s ≡ status_of e → a ≡ refused_with e → AnswersForm f before (record { status = s; answer = a; bytes = before })
+refused_bytes f before e s a refused status answer = (Err e, refused, rw (status, answer) refl)

@@ -1,0 +1,62 @@
+-- The script of a form, or why there is none.
+use Rattle.std.specs.Prelude.{◌≡◌, ℕ, ◌==◌, nat_lt, if◌then◌else◌, List, Result, Ok, Err}
+use Rattle.digest.specs.Hash.{hash160}
+use Rattle.digest.specs.Ripemd160.{ripemd160}
+use Rattle.script.specs.Spelling.{Spells}
+use Rattle.script.specs.Step.{result_if}
+use Rattle.script.specs.Token.{is_key}
+use Rattle.script.specs.declared.limits.TheConstants.{LOCKTIME_THRESHOLD}
+use Rattle.paths.specs.Listing.{CheckedScript}
+use Rattle.forms.specs.Forms.{funding_form, to_local_form, key_hash_form, offered_form, received_form}
+use Rattle.enforce_c.specs.declared.forms_of_c.Form.{Form}
+use Rattle.enforce_c.specs.declared.statuses.Refusal.{Refusal}
+use Rattle.enforce_c.specs.declared.statuses.Refusal.TheVariants.{NoMemory, NoSuchForm, NotAKey, NotAHeight}
+use Rattle.enforce_c.specs.Answers.{LeftBytes, bytes_left_by}
+
+-- the bytes have the form of a key, or the call is refused
+abbrev pub keyed : {A : Type 0} → List ℕ → Result A Refusal → Result A Refusal
+keyed key r = result_if (is_key key) NotAKey r
+
+abbrev pub funding_of : Form → Result CheckedScript Refusal
+funding_of f = keyed f.key (keyed f.other (Ok (funding_form f.key f.other)))
+
+abbrev pub to_local_of : Form → Result CheckedScript Refusal
+to_local_of f = keyed f.key (keyed f.other (Ok (to_local_form f.key f.delay_blocks f.other)))
+
+abbrev pub key_hash_of : Form → Result CheckedScript Refusal
+key_hash_of f = keyed f.key (Ok (key_hash_form (hash160 f.key)))
+
+-- an HTLC's three keys
+abbrev pub htlc_keyed : {A : Type 0} → Form → Result A Refusal → Result A Refusal
+htlc_keyed f r = keyed f.key (keyed f.other (keyed f.local r))
+
+abbrev pub offered_of : Form → Result CheckedScript Refusal
+offered_of f = htlc_keyed f (Ok (offered_form (hash160 f.key) f.other f.local (ripemd160 f.payment_hash)))
+
+abbrev pub received_of : Form → Result CheckedScript Refusal
+received_of f = htlc_keyed f (result_if (nat_lt f.expiry_height LOCKTIME_THRESHOLD) NotAHeight
+    (Ok (received_form (hash160 f.key) f.other f.local (ripemd160 f.payment_hash) f.expiry_height)))
+
+-- the script of a form with its paths, or the first refusal
+abbrev pub form_of : Form → Result CheckedScript Refusal
+form_of f =
+    if f.kind == 1 then funding_of f
+    else if f.kind == 2 then to_local_of f
+    else if f.kind == 3 then key_hash_of f
+    else if f.kind == 4 then offered_of f
+    else if f.kind == 5 then received_of f
+    else Err NoSuchForm
+
+-- a result is that of a definition, unless memory ran out
+abbrev pub IsOf : {A : Type 0} → Result A Refusal → Result A Refusal → Type 0
+IsOf rule (Err NoMemory) = Unit {0}
+IsOf rule r = rule ≡ r
+
+-- the bytes of the form's script, or why there are none
+abbrev pub IsSpeltForm : Form → Result (List ℕ) Refusal → Type 0
+IsSpeltForm f (Ok bytes) = (c : CheckedScript) × (form_of f ≡ Ok c) × Spells c.ops bytes
+IsSpeltForm f (Err e) = IsOf (form_of f) (Err e)
+
+-- the call leaves this, by what becomes of the form
+abbrev pub AnswersForm : Form → List ℕ → LeftBytes → Type 0
+AnswersForm f before after = (r : Result (List ℕ) Refusal) × IsSpeltForm f r × (bytes_left_by r before ≡ after)

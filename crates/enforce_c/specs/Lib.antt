@@ -1,0 +1,5 @@
+pub mod Statuses
+pub mod Rows
+pub mod Answers
+pub mod Listed
+pub mod FormScripts

@@ -1,0 +1,47 @@
+-- The statuses: 0, or a family times 256 and the number of a refusal in it.
+use Rattle.std.specs.Prelude.{ℕ}
+use Rattle.script.specs.declared.parse.ParseError.{ParseError}
+use Rattle.script.specs.declared.parse.ParseError.TheVariants.{NoMemory as ParseMemory, BadOpcode, Truncated, TooLong}
+use Rattle.paths.specs.declared.errors.CheckError.{CheckError}
+use Rattle.paths.specs.declared.errors.CheckError.TheVariants.{NoMemory as ListMemory, OpenBranch, TooManyOps, Undecided, TooManyPaths, TooTall}
+use Rattle.enforce_c.specs.declared.statuses.Refusal.{Refusal}
+use Rattle.enforce_c.specs.declared.statuses.Refusal.TheVariants.{NoMemory, Parse, Check, NoSuchForm, NotAKey, NotAHeight}
+
+-- of a script's bytes
+abbrev pub parse_status : ParseError → ℕ
+parse_status ParseMemory = 1
+parse_status (BadOpcode at) = 257
+parse_status (Truncated at) = 258
+parse_status TooLong = 259
+
+-- of a listing
+abbrev pub check_status : CheckError → ℕ
+check_status ListMemory = 1
+check_status OpenBranch = 513
+check_status TooManyOps = 514
+check_status (Undecided at) = 515
+check_status TooManyPaths = 516
+check_status TooTall = 517
+
+abbrev pub status_of : Refusal → ℕ
+status_of NoMemory = 1
+status_of (Parse e) = parse_status e
+status_of (Check e) = check_status e
+status_of NoSuchForm = 1025
+status_of NotAKey = 1026
+status_of NotAHeight = 1027
+
+-- the number that a refusal carries
+abbrev pub parse_number : ParseError → ℕ
+parse_number (BadOpcode at) = at
+parse_number (Truncated at) = at
+parse_number e = 0
+
+abbrev pub check_number : CheckError → ℕ
+check_number (Undecided at) = at
+check_number e = 0
+
+abbrev pub number_of : Refusal → ℕ
+number_of (Parse e) = parse_number e
+number_of (Check e) = check_number e
+number_of e = 0

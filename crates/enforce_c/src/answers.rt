@@ -1,0 +1,72 @@
+// What a call leaves in the caller's memory.
+
+ghost use Rattle.std.specs.Prelude.{◌≡◌};
+ghost use Rattle.enforce_c.specs.Statuses.{status_of};
+ghost use Rattle.enforce_c.specs.Answers.{left_by_rows, left_by_bytes, refused_with};
+
+use crate::buffers::put;
+use crate::rows::{Answer, FactRow, PathRow};
+use crate::statuses::{DONE, Refusal, TOO_SMALL};
+use crate::telling::Rows;
+
+/// Writes the rows if there is room for them, and their sizes. Gives the status.
+pub(crate) fn write_rows(
+    rows: &Rows,
+    paths: &mut [PathRow],
+    facts: &mut [FactRow],
+    bytes: &mut [u8],
+    answer: &mut Answer,
+) -> u32
+    ensures { left_by_rows rows.now (record { paths = paths.old; facts = facts.old; bytes = bytes.old })
+        ≡ record { status = result; answer = answer.new; rows = record { paths = paths.new; facts = facts.new; bytes = bytes.new } } }
+{
+    *answer = Answer {
+        paths: rows.paths.len(),
+        facts: rows.facts.len(),
+        bytes: rows.bytes.len(),
+        number: 0,
+    };
+    if rows.paths.len() <= paths.len()
+        && rows.facts.len() <= facts.len()
+        && rows.bytes.len() <= bytes.len()
+    {
+        put(paths, rows.paths.as_slice());
+        put(facts, rows.facts.as_slice());
+        put(bytes, rows.bytes.as_slice());
+        DONE
+    } else {
+        TOO_SMALL
+    }
+}
+
+/// Writes bytes if there is room for them, and how many there are. Gives the status.
+pub(crate) fn write_bytes(bytes: &[u8], room: &mut [u8], answer: &mut Answer) -> u32
+    ensures { left_by_bytes bytes.now room.old ≡ record { status = result; answer = answer.new; bytes = room.new } }
+{
+    *answer = Answer {
+        paths: 0,
+        facts: 0,
+        bytes: bytes.len(),
+        number: 0,
+    };
+    if bytes.len() <= room.len() {
+        put(room, bytes);
+        DONE
+    } else {
+        TOO_SMALL
+    }
+}
+
+/// Writes the answer of a refusal. Gives its status.
+pub(crate) fn refuse(refusal: &Refusal, answer: &mut Answer) -> u32
+    ensures status { result ≡ status_of refusal.now }
+    ensures answer { answer.new ≡ refused_with refusal.now }
+{
+    *answer = Answer {
+        paths: 0,
+        facts: 0,
+        bytes: 0,
+        number: refusal.number(),
+    };
+    refusal.status()
+}

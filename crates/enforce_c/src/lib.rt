@@ -1,0 +1,102 @@
+//! The ways through a script and the scripts of BOLT 3, for programs in C, as a static library.
+//!
+//! Each export writes only to what it is given by a pointer that is not const, keeps no pointer, and may be called
+//! from several threads at once. No export has a `requires`: whatever bytes and lengths a caller gives, it is
+//! answered by a status. [`DONE`] is 0, and each other status is a family times 256 and the number of a refusal.
+//! A buffer that is too short is left as it was, and the [`Answer`] says how long it has to be.
+//!
+//! `paths` lists the ways through a script, `forms` has the scripts of BOLT 3, and `sighash` the program of a script.
+//! No crate depends on this one. `docs/BINDINGS.md` has the header, and callers in C, Rust and Python.
+//!
+//! ```text
+//! uint8_t script[] = {0x63, 0x51, 0x67, 0x52, 0x68};               // IF 1 ELSE 2 ENDIF
+//! enforce_script_list(script, 5, paths, 64, facts, 64, bytes, 64, &answer);  // 0, and answer.paths is 2
+//! ```
+//!
+//! `.ci/library` makes this call and many more from C, Rust and Python.
+#![tactic(auto)]
+
+ghost use Rattle.std.specs.Prelude.{◌≡◌};
+ghost use Rattle.sighash.specs.Programs.{script_hash_program};
+ghost use Rattle.enforce_c.specs.Listed.{AnswersListing};
+ghost use Rattle.enforce_c.specs.FormScripts.{AnswersForm};
+
+mod answers;
+mod buffers;
+mod forms_of_c;
+mod listing;
+mod rows;
+mod statuses;
+mod telling;
+
+use crate::answers::{refuse, write_bytes, write_rows};
+use crate::forms_of_c::form_bytes;
+use crate::listing::told;
+use digest::sha256;
+pub use forms_of_c::{
+    FORM_FUNDING, FORM_KEY_HASH, FORM_OFFERED, FORM_RECEIVED, FORM_TO_LOCAL, Form,
+};
+pub use rows::{Answer, FactRow, PathRow};
+pub use statuses::DONE;
+use std::alloc::Global;
+
+/// What declarations mean together: it is raised whenever one changes its meaning.
+pub const ABI: u32 = 1;
+
+/// The library's `ABI`, to be compared with that of the declarations once, at the start.
+#[unsafe(no_mangle)]
+pub extern "C" fn enforce_abi() -> u32
+    ensures { result ≡ ABI }
+{
+    ABI
+}
+
+/// Lists every way to spend an output with this script, and nothing else: rows of paths, rows of their facts, and the facts' bytes. The statuses of
+/// refusals are those of families 1 and 2, and `TOO_SMALL` if one of the three buffers is too short.
+#[unsafe(no_mangle)]
+#[tactic(auto, using(crate::proofs::Answering::listed_rows, crate::proofs::Answering::refused_rows))]
+pub extern "C" fn enforce_script_list(
+    alloc: Global,
+    script: &[u8],
+    paths: &mut [PathRow],
+    facts: &mut [FactRow],
+    bytes: &mut [u8],
+    answer: &mut Answer,
+) -> u32
+    ensures { AnswersListing script.now (record { paths = paths.old; facts = facts.old; bytes = bytes.old })
+        (record { status = result; answer = answer.new; rows = record { paths = paths.new; facts = facts.new; bytes = bytes.new } }) }
+{
+    match told(alloc, script) {
+        Ok(rows) => write_rows(&rows, paths, facts, bytes, answer),
+        Err(refusal) => refuse(&refusal, answer),
+    }
+}
+
+/// Writes the program that an output with this script has (BIP 141, P2WSH), 34 bytes: 00, 20 and the script's SHA-256 in the hash's own byte order.
+#[unsafe(no_mangle)]
+#[tactic(auto, unfolding(sighash::specs::Programs::script_hash_program))]
+pub extern "C" fn enforce_script_program(script: &[u8], program: &mut [u8; 34])
+    ensures { program.new ≡ script_hash_program script.now }
+{
+    *program = [0; 34];
+    program[1] = 0x20;
+    program[2..].copy_from_slice(&sha256(script));
+}
+
+/// Writes the script of a form. Its length is the answer's `bytes`. The statuses of refusals are those of family 4, in the order of their numbers, and
+/// `TOO_SMALL`.
+#[unsafe(no_mangle)]
+#[tactic(auto, using(crate::proofs::Answering::spelt_bytes, crate::proofs::Answering::refused_bytes))]
+pub extern "C" fn enforce_form_script(
+    alloc: Global,
+    form: &Form,
+    script: &mut [u8],
+    answer: &mut Answer,
+) -> u32
+    ensures { AnswersForm form.now script.old (record { status = result; answer = answer.new; bytes = script.new }) }
+{
+    match form_bytes(alloc, form) {
+        Ok(bytes) => write_bytes(bytes.bytes(), script, answer),
+        Err(refusal) => refuse(&refusal, answer),
+    }
+}
