@@ -19,6 +19,9 @@ FUNCTIONS = {
     "secp256k1_ec_pubkey_parse": (ctypes.c_char_p, ctypes.c_char_p, SIZE),
     "secp256k1_ec_pubkey_create": (ctypes.c_char_p, ctypes.c_char_p),
     "secp256k1_ec_pubkey_serialize": (ctypes.c_char_p, POINTER, ctypes.c_char_p, ctypes.c_uint),
+    "secp256k1_ec_pubkey_tweak_add": (ctypes.c_char_p, ctypes.c_char_p),
+    "secp256k1_ec_pubkey_tweak_mul": (ctypes.c_char_p, ctypes.c_char_p),
+    "secp256k1_ec_pubkey_combine": (ctypes.c_char_p, POINTER, SIZE),
     "secp256k1_ec_seckey_verify": (ctypes.c_char_p,),
     "secp256k1_ecdsa_signature_parse_der": (ctypes.c_char_p, ctypes.c_char_p, SIZE),
     "secp256k1_ecdsa_signature_serialize_der": (ctypes.c_char_p, POINTER, ctypes.c_char_p),
@@ -75,12 +78,42 @@ class Curve:
     def is_private(self, private):
         return len(private) == 32 and bool(self.call("ec_seckey_verify", private))
 
-    def public(self, private):
-        """The compressed public key of a private key."""
-        point, found, size = ctypes.create_string_buffer(64), ctypes.create_string_buffer(33), SIZE(33)
-        self.call("ec_pubkey_create", point, private)
+    def compressed(self, point):
+        found, size = ctypes.create_string_buffer(33), SIZE(33)
         self.call("ec_pubkey_serialize", found, ctypes.byref(size), point, COMPRESSED)
         return found.raw
+
+    def public(self, private):
+        """The compressed public key of a private key."""
+        point = ctypes.create_string_buffer(64)
+        self.call("ec_pubkey_create", point, private)
+        return self.compressed(point)
+
+    def read_point(self, key):
+        """A point by its compressed form; no bytes, which are no point, where there is none."""
+        point = ctypes.create_string_buffer(64)
+        return point if len(key) == 33 and self.call("ec_pubkey_parse", point, key, len(key)) else None
+
+    def is_point(self, key):
+        return self.read_point(key) is not None
+
+    def added(self, key, number):
+        """A point and a number of times the generator together; empty where there is no such key."""
+        point = self.read_point(key)
+        if point is None or not self.call("ec_pubkey_tweak_add", point, number):
+            return b""
+        return self.compressed(point)
+
+    def combined(self, first, one, second, other):
+        """The sum of two points, each so many times; empty where there is no such key."""
+        points = [self.read_point(first), self.read_point(second)]
+        for point, number in zip(points, (one, other)):
+            if point is None or not self.call("ec_pubkey_tweak_mul", point, number):
+                return b""
+        found, both = ctypes.create_string_buffer(64), (POINTER * 2)(*map(ctypes.addressof, points))
+        if not self.call("ec_pubkey_combine", found, both, 2):
+            return b""
+        return self.compressed(found)
 
     def sign(self, private, digest):
         """A signature in DER with a low s, without its hash type, whose nonce is that of RFC 6979."""
@@ -148,6 +181,15 @@ class Recorded(Record):
     def public(self, private):
         return self.asked_bytes("public", private)
 
+    def is_point(self, key):
+        return self.asked(bool, "point", key)
+
+    def added(self, key, number):
+        return self.asked_bytes("added", key, number)
+
+    def combined(self, first, one, second, other):
+        return self.asked_bytes("combined", first, one, second, other)
+
     def sign(self, private, digest):
         return self.asked_bytes("sign", private, digest)
 
@@ -174,6 +216,15 @@ class Recording(Record):
 
     def public(self, private):
         return self.noted("public", self.curve.public(private), private)
+
+    def is_point(self, key):
+        return self.noted("point", self.curve.is_point(key), key)
+
+    def added(self, key, number):
+        return self.noted("added", self.curve.added(key, number), key, number)
+
+    def combined(self, first, one, second, other):
+        return self.noted("combined", self.curve.combined(first, one, second, other), first, one, second, other)
 
     def sign(self, private, digest):
         return self.noted("sign", self.curve.sign(private, digest), private, digest)

@@ -1,0 +1,120 @@
+"""The outputs of a revoked commitment, by scripts that are built anew from its keys (BOLT 3, "Commitment Transaction Outputs"). Tested, not proved."""
+from dataclasses import dataclass
+from typing import List, Optional
+
+import derivation
+import scripts
+from errors import Refused
+from ripemd160 import ripemd160
+from transaction import hash160, sha256
+
+LOCKTIME_THRESHOLD = 500_000_000
+SIXTEEN, FIRST = 16, 0x50
+
+
+@dataclass
+class Htlc:
+    """An HTLC as the commitment's owner sees it."""
+
+    is_offered: bool
+    payment_hash: bytes
+    expiry_height: int
+
+
+@dataclass
+class Keys:
+    """The keys of a commitment (BOLT 3, "Key Derivation")."""
+
+    revocation: bytes
+    delayed: bytes
+    local_htlc: bytes
+    remote_htlc: bytes
+    remote: bytes
+
+
+@dataclass
+class Known:
+    """An output whose program is known: what it is, its script, and the items that stand between the signature and the script. The key signs."""
+
+    kind: str
+    program: bytes
+    script: bytes
+    items: List[bytes]
+    key: bytes
+    htlc: Optional[Htlc] = None
+
+
+def push(item):
+    return bytes([len(item)]) + item
+
+
+def number(value):
+    """The push of a number, minimally encoded."""
+    if value == 0:
+        return b"\x00"
+    if value <= SIXTEEN:
+        return bytes([FIRST + value])
+    return push(value.to_bytes(value.bit_length() // 8 + 1, "little"))
+
+
+def to_local_script(keys, delay_blocks):
+    return b"\x63" + push(keys.revocation) + b"\x67" + number(delay_blocks) + b"\xb2\x75" + push(keys.delayed) + b"\x68\xac"
+
+
+def htlc_script(keys, htlc):
+    start = b"\x76\xa9" + push(hash160(keys.revocation)) + b"\x87\x63\xac\x67" + push(keys.remote_htlc) + b"\x7c\x82\x01\x20\x87"
+    payment = push(ripemd160(htlc.payment_hash))
+    if htlc.is_offered:
+        return start + b"\x64\x75\x52\x7c" + push(keys.local_htlc) + b"\x52\xae\x67\xa9" + payment + b"\x88\xac\x68\x68"
+    timeout = number(htlc.expiry_height) + b"\xb1\x75\xac\x68\x68"
+    return start + b"\x63\xa9" + payment + b"\x88\x52\x7c" + push(keys.local_htlc) + b"\x52\xae\x67\x75" + timeout
+
+
+def program_of(script):
+    return b"\x00\x20" + sha256(script)
+
+
+def known_outputs(keys, delay_blocks, htlcs):
+    """The outputs whose programs are known, in the order in which a program is compared with theirs."""
+    script, payment = to_local_script(keys, delay_blocks), b"\x00\x14" + hash160(keys.remote)
+    yield Known("to_local", program_of(script), script, [b"\x01"], keys.revocation)
+    yield Known("to_remote", payment, scripts.key_script(payment), [], keys.remote)
+    for it in htlcs:
+        script = htlc_script(keys, it)
+        yield Known("offered" if it.is_offered else "received", program_of(script), script, [keys.revocation], keys.revocation, it)
+
+
+def table_of(keys, delay_blocks, htlcs):
+    """What is known of an output, by its program: of equal programs the first."""
+    found = {}
+    for it in known_outputs(keys, delay_blocks, htlcs):
+        found.setdefault(it.program, it)
+    return found
+
+
+def keys_of(curve, bases, point, is_legacy):
+    """The keys of the commitment with this per-commitment point. The remote key is the payment base point itself, unless the channel is older than static_remotekey."""
+    return Keys(
+        revocation=derivation.revocation(curve, bases["revocation"], point),
+        delayed=derivation.derived(curve, bases["owner_delayed"], point),
+        local_htlc=derivation.derived(curve, bases["owner_htlc"], point),
+        remote_htlc=derivation.derived(curve, bases["htlc"], point),
+        remote=derivation.derived(curve, bases["payment"], point) if is_legacy else bases["payment"],
+    )
+
+
+def privates_of(curve, bases, privates, secret, point, is_legacy):
+    """The private keys that sign penalties, by their public keys: from the private keys of the revocation and payment base points, in any order."""
+    found = {}
+    for place, private in enumerate(privates):
+        if not curve.is_private(private):
+            raise Refused(f"BadKey {place}")
+        base = curve.public(private)
+        if base == bases["revocation"]:
+            found[derivation.revocation(curve, base, point)] = derivation.revocation_private(private, base, secret, point)
+        elif base == bases["payment"]:
+            key = derivation.derived(curve, base, point) if is_legacy else base
+            found[key] = derivation.derived_private(private, base, point) if is_legacy else private
+        else:
+            raise Refused(f"UnusedKey {place}")
+    return found
