@@ -1,0 +1,100 @@
+"""What `trace` tells of a scenario or of a book, in sentences: the ones that the pictures have, and of a book what to claim first."""
+from story import PEER, many, millisatoshis, satoshis
+
+# how soon others can take an output, the soonest first
+ORDER = ("until", "blocks", "no_preimage", "always")
+WAYS = {
+    "payment": "by its own key",
+    "preimage": "by the preimage",
+    "timeout": "by the timeout",
+    "penalty": "by the penalty",
+}
+
+
+def scenario(told):
+    """The events of a scenario, a line each with what belongs to it, and how all stands at the end."""
+    lines = []
+    for row in told.rows:
+        place = f" (channel {row.channel})" if row.channel is not None and len(told.channels) > 1 else ""
+        lines.append(f"{row.number:>4}  {row.said}{place}")
+        lines += [f"      {it}" for it in row.more]
+    last = len(told.rows) - 1
+    lines.append("")
+    lines.append("At the end:")
+    lines += [f"  {told.cells.at(cell, last)}" if name == "height" else f"  {name}: {told.cells.at(cell, last)}" for name, cell in told.panel.items()]
+    for channel in told.channels:
+        lines += ended(told, channel, last)
+    return "".join(f"{it}\n" for it in lines)
+
+
+def ended(told, channel, last):
+    """How a channel stands after the last event."""
+    a, undecided, fees, b = channel.money[-1][1]
+    said = f"A {satoshis(a)}, B {satoshis(b)}" + (f", undecided {satoshis(undecided)}" if undecided else "") + (f", fees {satoshis(fees)}" if fees else "")
+    lines = [f"Channel {channel.number}: {said}"]
+    return lines + [f"  {name}: {told.cells.at(cell, last)}" for name, cell in channel.cells.items()]
+
+
+def book(lines):
+    """What a book has, and what it can claim, in the order in which its claims are to be released."""
+    told = []
+    for line in lines:
+        told += channel(line) if "channel" in line else [f"The book has {many(line['entries'], 'call')} and {many(line['channels'], 'channel')}."]
+    return "".join(f"{it}\n" for it in told)
+
+
+def channel(it):
+    """A channel of a book."""
+    side, peer = it["side"], PEER[it["side"]]
+    lines = [f"Channel {it['channel']}: {side}'s book, {satoshis(it['capacity'])}, opened by {it['opener']}. {peer} waits {many(it['peer_delay'], 'block')} for its own outputs."]
+    if it.get("closed") is not None:
+        lines.append(f"  {side} closed it with its commitment {it['closed']}.")
+    for name, owner in (("ours", side), ("theirs", peer), ("next", peer)):
+        if it[name]:
+            held = it[name]
+            lines.append(f"  {owner}'s commitment {held['number']}: {side} has {millisatoshis(held['balance'])}, {peer} {millisatoshis(held['peer_balance'])}, at a feerate of {held['feerate']:,}.")
+    for htlc in it["htlcs"]:
+        lines.append(f"  HTLC {htlc['id']}, {htlc['direction']}: {millisatoshis(htlc['amount'])} until {htlc['expiry']:,}, in {commitments(htlc)}.")
+    for close in it["closes"]:
+        lines += closing(close, side, peer)
+    return lines
+
+
+def commitments(htlc):
+    """The commitments that have an HTLC."""
+    return ", ".join(name for name in ("ours", "theirs", "next") if htlc[name]) or "none"
+
+
+def closing(close, side, peer):
+    """What a side can claim if its peer closes the channel with a commitment."""
+    state = {"theirs": "its newest", "next": "the one after its newest", "revoked": "which is revoked"}[close["commitment"]]
+    kept = {None: "", True: ", with the penalties kept", False: ", with the penalties not kept yet"}[close["kept"]]
+    lines = [f"  If {peer} broadcasts its commitment {close['number']}, {state}{kept}:"]
+    for claim in sorted(close["claims"], key=urgency):
+        lines.append(f"    {side} claims {satoshis(claim['value'])} ({output(claim)}) {WAYS[claim['by']]}{lock(claim)}: {alone(claim, peer)}.")
+    if not close["claims"]:
+        lines.append(f"    {side} can claim nothing.")
+    return lines
+
+
+def urgency(claim):
+    """What is released first: that which others can take soonest. Of two of a kind the lower number, then the greater value."""
+    return ORDER.index(claim["alone"]), claim["limit"] or 0, -claim["value"]
+
+
+def output(claim):
+    return claim["output"] if claim["id"] is None else f"HTLC {claim['id']}, {claim['output']}"
+
+
+def lock(claim):
+    return f" from height {claim['lock']:,} on" if claim["lock"] is not None else ""
+
+
+def alone(claim, peer):
+    """How long an output is a side's alone."""
+    return {
+        "always": "its own as long as it is unspent",
+        "blocks": f"its own until the output is {claim['limit']} blocks old",
+        "until": f"its own up to the block of height {claim['limit']}",
+        "no_preimage": f"its own while {peer} lacks the preimage",
+    }[claim["alone"]]
