@@ -20,7 +20,7 @@ echo '|---|---|---|---|'
 while IFS=$'\t' read -r what measured bound held; do
   echo "| $what | $measured | $bound | $([[ $held == held ]] && echo yes || echo '**no**') |"
 done <"$BOUNDS"
-passed=$(grep -c 'PASSED$' "$BOUNDS")
+bounds=$(wc -l <"$BOUNDS") held=$(grep -c 'held$' "$BOUNDS")
 echo
-echo "bench: $(wc -l <"$BOUNDS") bounds, $passed passed, ${#failed[@]} benchmarks failed${failed[*]:+: ${failed[*]}}"
-((passed == 0 && ${#failed[@]} == 0))
+echo "bench: $bounds bounds, $held held, ${#failed[@]} benchmarks failed${failed[*]:+: ${failed[*]}}"
+((held == bounds && ${#failed[@]} == 0))
