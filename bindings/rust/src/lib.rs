@@ -8,8 +8,8 @@
 //! # Ok::<(), enforce::Refused>(())
 //! ```
 //!
-//! What is proved of each call stands in `docs/CONTRACTS.md` of the repository, and beside each function here. The calls of `raw`, the copies
-//! between its rows and the types here, and the linker are trusted.
+//! What is proved of each call stands in `docs/BINDINGS.md` of the repository, and beside each function here. The calls of `raw`, the copies
+//! between the rows of `raw` and the types here, and the linker are trusted.
 use std::fmt;
 
 pub mod raw;
