@@ -15,11 +15,11 @@ use Rattle.claim.specs.Claims.{ClaimParts, TakesPath, path_of, lock_time_of, IsW
 use Rattle.claim.specs.Laws.{AcceptedSpend}
 use Rattle.claim.proofs.Judged.{accepted-sound, needed-low, taken-at, taken-shell}
 use Rattle.filling.specs.Filling.{greatest_of, open_transaction, lone_transaction, transaction_for}
-use Rattle.filling.specs.Refusals.{is_fixed, are_mixed}
+use Rattle.filling.specs.Refusals.{is_fixed, are_mixed, all_slots}
 use Rattle.filling.specs.Standing.{IsUnsigned, AllCanSpend}
 use Rattle.filling.specs.Filled.{FillingsFit}
 use Rattle.filling.proofs.Standing.{open-of, unsigned-open, unsigned-fixed}
-use Rattle.filling.proofs.Fitted.{all-fit}
+use Rattle.filling.proofs.Fitted.{all-fit, have-preimages}
 
 -- what an accepted claim takes: a path at its index, round which its shell stands; the lock time that it needs is a height
 record Taken (c : ClaimParts) : Type 0 where
@@ -76,4 +76,4 @@ all_spend sound spends (c ∷ claims) h =
 
 pub fillings_fit : ListedAreSound → AcceptedSpend → FillingsFit
 fillings_fit sound spends claims outputs r preimages whole passed fillable =
-    all-fit (transaction_for claims outputs) r preimages claims (unsigned_of sound claims outputs whole passed.unmixed) (all_spend sound spends claims whole) fillable
+    all-fit (transaction_for claims outputs) preimages claims (unsigned_of sound claims outputs whole passed.unmixed) (all_spend sound spends claims whole) (have-preimages r preimages (all_slots claims) fillable)

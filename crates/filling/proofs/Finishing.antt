@@ -14,7 +14,7 @@ use Rattle.filling.specs.Filling.{filled_input, transaction_for, signed_transact
 use Rattle.filling.specs.Filled.{Filling, AllRunClean, AllFit, IsFillingOf}
 use Rattle.filling.specs.Refusals.{AreFillable, Lacks, LacksFirst, UnlessMemory, all_slots, ArePassed, IsFirstRefusal}
 use Rattle.filling.specs.Standing.{IsUnsigned, AllCanSpend}
-use Rattle.filling.proofs.Fitted.{all-fit, all-clean}
+use Rattle.filling.proofs.Fitted.{all-fit, all-clean, have-preimages}
 
 none_lacks : (r : Rights) (ps : List (List ℕ)) (e : FillError) → ((slot : Slot) → Lacks r ps slot e → ⊥) → (slots : List Slot) → LacksFirst r ps slots e → ⊥
 none_lacks r ps e n [] l = l
@@ -48,7 +48,7 @@ abbrev pub with_inputs : Transaction → List TxIn → Transaction
 with_inputs t inputs = record { version = t.version; inputs = inputs; outputs = t.outputs; lock_time = t.lock_time }
 
 fit : (claims : List ClaimParts) (r : Rights) (ps : List (List ℕ)) (t : Transaction) (inputs : List TxIn) → IsUnsigned claims t → AllCanSpend claims → inputs ≡ map (filled_input t ps) claims → AreFillable r ps (all_slots claims) → AllFit (with_inputs t inputs) claims inputs
-fit claims r ps t inputs u o e f = subst (λ xs. AllFit (with_inputs t xs) claims xs) (sym e) (all-fit t r ps claims u o f)
+fit claims r ps t inputs u o e f = subst (λ xs. AllFit (with_inputs t xs) claims xs) (sym e) (all-fit t ps claims u o (have-preimages r ps (all_slots claims) f))
 
 pub clean : (claims : List ClaimParts) (r : Rights) (ps : List (List ℕ)) (t : Transaction) (inputs : List TxIn) (places : List Place) → IsUnsigned claims t → AllCanSpend claims → inputs ≡ map (filled_input t ps) claims → AreFillable r ps (all_slots claims) → places ≡ map (λ c. c.place) claims → AllRunClean (with_inputs t inputs) inputs places
 clean claims r ps t inputs places u o e f p = subst (AllRunClean (with_inputs t inputs) inputs) (sym p) (all-clean (with_inputs t inputs) claims inputs o (fit claims r ps t inputs u o e f))

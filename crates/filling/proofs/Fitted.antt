@@ -22,7 +22,7 @@ use Rattle.claim.specs.Judgement.{age_of}
 use Rattle.claim.specs.Fitting.{FillsSlot, FillsSlots, Fits, witness_for}
 use Rattle.claim.specs.Claims.{ClaimParts, path_of}
 use Rattle.filling.specs.Filling.{script_of, unsigned_input, preimage_of, digest_for, item_for, items_for, filled_input, signed_transaction}
-use Rattle.filling.specs.Refusals.{IsFillable, AreFillable, LacksFirst, all_slots}
+use Rattle.filling.specs.Refusals.{IsFillable, AreFillable, HasPreimage, HavePreimages, LacksFirst, all_slots}
 use Rattle.filling.specs.declared.errors.FillError.{FillError}
 use Rattle.filling.specs.Standing.{Stands, AllStand, IsUnsigned, CanSpend, AllCanSpend}
 use Rattle.filling.specs.Filled.{AllRunClean, AllFit}
@@ -64,18 +64,36 @@ pub preimage-found : (ps : List (List ℕ)) (h : List ℕ) → is_some (preimage
 preimage-found [] h i = absurd (false≢true i)
 preimage-found (x ∷ ps) h i = found_by (preimage_of ps h) x h (is_preimage x h) refl (preimage-found ps h) i
 
-fills_one : (spend : Spend) (digest : List ℕ) (r : Rights) (ps : List (List ℕ)) (slot : Slot) → spend.digest ≡ digest → IsFillable r ps slot → FillsSlot spend slot (item_for digest ps slot)
-fills_one spend digest r ps (Sig k) e f = ap (token_of k.bytes) (sym e)
-fills_one spend digest r ps (Preimage h) e f = let w = and_parts _ _ (preimage-found ps h f) in (eqb-true _ _ w.0, (bytes_eq-Decides _ _).0 w.1)
-fills_one spend digest r ps (Exact b) e f = refl
+fills_one : (spend : Spend) (digest : List ℕ) (ps : List (List ℕ)) (slot : Slot) → spend.digest ≡ digest → HasPreimage ps slot → FillsSlot spend slot (item_for digest ps slot)
+fills_one spend digest ps (Sig k) e f = ap (token_of k.bytes) (sym e)
+fills_one spend digest ps (Preimage h) e f = let w = and_parts _ _ (preimage-found ps h f) in (eqb-true _ _ w.0, (bytes_eq-Decides _ _).0 w.1)
+fills_one spend digest ps (Exact b) e f = refl
 
-fills : (spend : Spend) (digest : List ℕ) (r : Rights) (ps : List (List ℕ)) (slots : List Slot) → spend.digest ≡ digest → AreFillable r ps slots → FillsSlots spend slots (map (item_for digest ps) slots)
-fills spend digest r ps [] e f = tt
-fills spend digest r ps (slot ∷ slots) e f = (fills_one spend digest r ps slot e f.0, fills spend digest r ps slots e f.1)
+fills : (spend : Spend) (digest : List ℕ) (ps : List (List ℕ)) (slots : List Slot) → spend.digest ≡ digest → HavePreimages ps slots → FillsSlots spend slots (map (item_for digest ps) slots)
+fills spend digest ps [] e f = tt
+fills spend digest ps (slot ∷ slots) e f = (fills_one spend digest ps slot e f.0, fills spend digest ps slots e f.1)
+
+-- what can be filled has its preimages
+has-preimage : (r : Rights) (ps : List (List ℕ)) (slot : Slot) → IsFillable r ps slot → HasPreimage ps slot
+has-preimage r ps (Sig k) f = tt
+has-preimage r ps (Preimage h) f = f
+has-preimage r ps (Exact b) f = tt
+
+pub have-preimages : (r : Rights) (ps : List (List ℕ)) (slots : List Slot) → AreFillable r ps slots → HavePreimages ps slots
+have-preimages r ps [] f = tt
+have-preimages r ps (slot ∷ slots) f = (has-preimage r ps slot f.0, have-preimages r ps slots f.1)
+
+pub preimages-parted : (ps : List (List ℕ)) (slots others : List Slot) → HavePreimages ps (slots ++ others) → HavePreimages ps slots × HavePreimages ps others
+preimages-parted ps [] others f = (tt, f)
+preimages-parted ps (slot ∷ slots) others f = let w = preimages-parted ps slots others f.1 in ((f.0, w.0), w.1)
+
+pub preimages-joined : (ps : List (List ℕ)) (slots others : List Slot) → HavePreimages ps slots → HavePreimages ps others → HavePreimages ps (slots ++ others)
+preimages-joined ps [] others f g = g
+preimages-joined ps (slot ∷ slots) others f g = (f.0, preimages-joined ps slots others f.1 g)
 
 -- the input of a claim, signed over the unsigned transaction, fits it
-pub fits-of : (c : ClaimParts) (p : Path) (r : Rights) (ps : List (List ℕ)) (t u : Transaction) (x : TxIn) → path_of c ≡ Some p → unsigned_transaction u ≡ t → unsigned_transaction t ≡ t → Contains u.inputs x → x ≡ filled_input t ps c → AreFillable r ps c.slots → Stands t c → Fits (script_of c) p c.slots c.place c.shell u x
-fits-of c p r ps t u x at e b m f a s =
+pub fits-of : (c : ClaimParts) (p : Path) (ps : List (List ℕ)) (t u : Transaction) (x : TxIn) → path_of c ≡ Some p → unsigned_transaction u ≡ t → unsigned_transaction t ≡ t → Contains u.inputs x → x ≡ filled_input t ps c → HavePreimages ps c.slots → Stands t c → Fits (script_of c) p c.slots c.place c.shell u x
+fits-of c p ps t u x at e b m f a s =
     let spend = spend_of u x (script_of c) c.place.value in
     let items = map (item_for (digest_for t c) ps) c.slots in
     record {
@@ -85,7 +103,7 @@ fits-of c p r ps t u x at e b m f a s =
       stands = stands-signed p c.shell t u e b (s p at);
       items = items_for t ps c;
       witness = ap (λ i. i.witness) f;
-      filled = subst (FillsSlots spend c.slots) (sym (reverse-reverse items)) (fills spend (digest_for t c) r ps c.slots (digest-same c ps t u x e f) a);
+      filled = subst (FillsSlots spend c.slots) (sym (reverse-reverse items)) (fills spend (digest_for t c) ps c.slots (digest-same c ps t u x e f) a);
     }
 
 -- one input of the transaction gets its witness
@@ -106,33 +124,33 @@ filled-length spend (slot ∷ slots) [] f = absurd f
 filled-length spend (slot ∷ slots) (x ∷ w) f = ap suc (filled-length spend slots w f.1)
 
 -- so the slots of a claim are at most 1,000
-pub slots-short : (c : ClaimParts) (r : Rights) (ps : List (List ℕ)) (t : Transaction) (i : ℕ) → CanSpend c → slice_get t.inputs i ≡ Some (unsigned_input c) → unsigned_transaction t ≡ t → Stands t c → AreFillable r ps c.slots → length c.slots ≤ 1000
-slots-short c r ps t i o here bare s a =
+pub slots-short : (c : ClaimParts) (ps : List (List ℕ)) (t : Transaction) (i : ℕ) → CanSpend c → slice_get t.inputs i ≡ Some (unsigned_input c) → unsigned_transaction t ≡ t → Stands t c → HavePreimages ps c.slots → length c.slots ≤ 1000
+slots-short c ps t i o here bare s a =
     let w = witness_for c.place.program (script_of c) (items_for t ps c) in
     let u : Transaction = record { version = t.version; inputs = inputs_with_witness t.inputs i w; outputs = t.outputs; lock_time = t.lock_time } in
     let same : unsigned_transaction u ≡ t = ap (λ is. record { version = t.version; inputs = is; outputs = t.outputs; lock_time = t.lock_time }) (with_unsigned t.inputs i w) ∙ bare in
     let member = contains-at u.inputs i (filled_input t ps c) (with_at t.inputs i w (unsigned_input c) here) in
-    let f = fits-of c o.path r ps t u (filled_input t ps c) o.at same bare member refl a s in
+    let f = fits-of c o.path ps t u (filled_input t ps c) o.at same bare member refl a s in
     let low = (o.opens o.path o.taken).short u (filled_input t ps c) f in
     let n = filled-length (spend_of u (filled_input t ps c) (script_of c) c.place.value) c.slots (reverse f.items) f.filled in
     omega (arith, low, length-reverse f.items, n)
 
 -- the inputs of the whole, of which these are some
-all-fit_in : (u t : Transaction) (r : Rights) (ps : List (List ℕ)) (claims : List ClaimParts) → unsigned_transaction u ≡ t → unsigned_transaction t ≡ t → ((x : TxIn) → Contains (map (filled_input t ps) claims) x → Contains u.inputs x) → AllCanSpend claims → AllStand t claims → AreFillable r ps (all_slots claims) → AllFit u claims (map (filled_input t ps) claims)
-all-fit_in u t r ps [] e b m o s f = tt
-all-fit_in u t r ps (c ∷ claims) e b m o s f =
-    let w = parted r ps c.slots (all_slots claims) f in (
-      record { path = o.0.path; taken = o.0.taken; fits = fits-of c o.0.path r ps t u (filled_input t ps c) o.0.at e b (m (filled_input t ps c) (contains-first (filled_input t ps c) (map (filled_input t ps) claims))) refl w.0 s.0 },
-      all-fit_in u t r ps claims e b (λ x n. m x (contains-later (filled_input t ps c) (map (filled_input t ps) claims) x n)) o.1 s.1 w.1,
+all-fit_in : (u t : Transaction) (ps : List (List ℕ)) (claims : List ClaimParts) → unsigned_transaction u ≡ t → unsigned_transaction t ≡ t → ((x : TxIn) → Contains (map (filled_input t ps) claims) x → Contains u.inputs x) → AllCanSpend claims → AllStand t claims → HavePreimages ps (all_slots claims) → AllFit u claims (map (filled_input t ps) claims)
+all-fit_in u t ps [] e b m o s f = tt
+all-fit_in u t ps (c ∷ claims) e b m o s f =
+    let w = preimages-parted ps c.slots (all_slots claims) f in (
+      record { path = o.0.path; taken = o.0.taken; fits = fits-of c o.0.path ps t u (filled_input t ps c) o.0.at e b (m (filled_input t ps c) (contains-first (filled_input t ps c) (map (filled_input t ps) claims))) refl w.0 s.0 },
+      all-fit_in u t ps claims e b (λ x n. m x (contains-later (filled_input t ps c) (map (filled_input t ps) claims) x n)) o.1 s.1 w.1,
     )
 
 signed_bare : (t : Transaction) (ps : List (List ℕ)) (claims : List ClaimParts) → unsigned_inputs (map (filled_input t ps) claims) ≡ map unsigned_input claims
 signed_bare t ps [] = refl
 signed_bare t ps (c ∷ claims) = ap (λ l. unsigned_input c ∷ l) (signed_bare t ps claims)
 
-pub all-fit : (t : Transaction) (r : Rights) (ps : List (List ℕ)) (claims : List ClaimParts) → IsUnsigned claims t → AllCanSpend claims → AreFillable r ps (all_slots claims) → AllFit (signed_transaction t ps claims) claims (map (filled_input t ps) claims)
-all-fit t r ps claims i o f =
-    all-fit_in (signed_transaction t ps claims) t r ps claims
+pub all-fit : (t : Transaction) (ps : List (List ℕ)) (claims : List ClaimParts) → IsUnsigned claims t → AllCanSpend claims → HavePreimages ps (all_slots claims) → AllFit (signed_transaction t ps claims) claims (map (filled_input t ps) claims)
+all-fit t ps claims i o f =
+    all-fit_in (signed_transaction t ps claims) t ps claims
     (ap (λ is. record { version = t.version; inputs = is; outputs = t.outputs; lock_time = t.lock_time }) (signed_bare t ps claims ∙ sym i.inputs))
     (bare-of claims t i.inputs) (λ x n. n) o i.stands f
 

@@ -9,4 +9,9 @@ pub mod Repeated
 pub mod Indexing
 pub mod Going
 pub mod Finishing
+pub mod Lacking
+pub mod OpenSlots
+pub mod Signed
+pub mod Spending
 pub mod FillingExamples
+pub mod SpendsExamples

@@ -45,9 +45,9 @@ stands_open : (t : Transaction) (p : Path) (shell : Shell) → is_fixed shell �
 stands_open t p Open f v h b = (v, h, b)
 stands_open t p (Fixed u) f v h b = absurd (cc)
 
-no_left : (a b : Bool) → (a || b) ≡ false → (a ≡ false) × (b ≡ false)
-no_left true b e = absurd (cc)
-no_left false b e = (refl, e)
+pub no-left : (a b : Bool) → (a || b) ≡ false → (a ≡ false) × (b ≡ false)
+no-left true b e = absurd (cc)
+no-left false b e = (refl, e)
 
 open_at : (t : Transaction) (c : ClaimParts) → is_fixed c.shell ≡ false → t.version ≡ 2 → lock_time_of c ≤ t.lock_time → t.lock_time < 500000000 → Stands t c
 open_at t c f v h b p e = stands_open t p c.shell f v (subst (λ o. unwrap_or (option_map (λ q. needed_height q c.shell) o) 0 ≤ t.lock_time) e h) b
@@ -55,7 +55,7 @@ open_at t c f v h b p e = stands_open t p c.shell f v (subst (λ o. unwrap_or (o
 pub all-open : (t : Transaction) (claims : List ClaimParts) → has_fixed claims ≡ false → t.version ≡ 2 → greatest_of (map lock_time_of claims) ≤ t.lock_time → t.lock_time < 500000000 → AllStand t claims
 all-open t [] f v h b = tt
 all-open t (c ∷ claims) f v h b =
-    let w = no_left (is_fixed c.shell) (has_fixed claims) f in
+    let w = no-left (is_fixed c.shell) (has_fixed claims) f in
     (open_at t c w.0 v (omega (arith, h)) b, all-open t claims w.1 v (omega (arith, h)) b)
 
 no_both : (a b : Bool) → (a && b) ≡ false → a ≡ true → b ≡ false

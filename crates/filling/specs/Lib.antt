@@ -2,3 +2,4 @@ pub mod Refusals
 pub mod Filling
 pub mod Filled
 pub mod Standing
+pub mod Spends

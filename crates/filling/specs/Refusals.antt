@@ -63,6 +63,17 @@ abbrev pub AreFillable : Rights → List (List ℕ) → List Slot → Type 0
 AreFillable r preimages [] = Unit {0}
 AreFillable r preimages (slot ∷ slots) = IsFillable r preimages slot × AreFillable r preimages slots
 
+-- if the slot wants a preimage, it is given
+abbrev pub HasPreimage : List (List ℕ) → Slot → Type 0
+HasPreimage preimages (Sig k) = Unit {0}
+HasPreimage preimages (Preimage h) = IsTrue (is_some (preimage_of preimages h))
+HasPreimage preimages (Exact b) = Unit {0}
+
+-- so is that of each slot
+abbrev pub HavePreimages : List (List ℕ) → List Slot → Type 0
+HavePreimages preimages [] = Unit {0}
+HavePreimages preimages (slot ∷ slots) = HasPreimage preimages slot × HavePreimages preimages slots
+
 -- what a slot lacks
 abbrev pub Lacks : Rights → List (List ℕ) → Slot → FillError → Type 0
 Lacks r preimages (Sig k) NoRight = MaySign r k.bytes → ⊥

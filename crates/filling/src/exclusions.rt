@@ -19,8 +19,8 @@ fn is_fixed(shell: &Shell) -> bool
     }
 }
 
-// Whether a claim has a fixed transaction.
-fn has_fixed(claims: &[&Claim]) -> bool
+/// Whether a claim has a fixed transaction.
+pub(crate) fn has_fixed(claims: &[&Claim]) -> bool
     ensures { result ≡ has_fixed (map (λ c. c.now) claims.now) }
 {
     for claim in claims {
@@ -64,8 +64,8 @@ pub(crate) fn share_outpoint(alloc: Global, claims: &[&Claim]) -> Result<bool, A
     Ok(false)
 }
 
-// The satoshis of the claimed outputs together. The sum never overflows.
-fn total_claimed(claims: &[&Claim]) -> u128
+/// The satoshis of the claimed outputs together. The sum never overflows.
+pub fn total_claimed(claims: &[&Claim]) -> u128
     ensures { result ≡ total_claimed (map (λ c. c.now) claims.now) }
 {
     let mut total = 0;

@@ -43,8 +43,12 @@ fn greatest_lock_time(claims: &[&Claim]) -> u32
     greatest as u32
 }
 
-// The transaction of open claims.
-fn open_transaction(alloc: Global, claims: &[&Claim], outputs: Vec<TxOut>) -> Result<Tx, AllocError>
+/// The transaction of open claims.
+pub(crate) fn open_transaction(
+    alloc: Global,
+    claims: &[&Claim],
+    outputs: Vec<TxOut>,
+) -> Result<Tx, AllocError>
     requires some { 1 ≤ length claims.now }
     requires inputs { length claims.now ≤ max_inputs }
     requires outputs { length outputs.items ≤ max_outputs }

@@ -65,8 +65,8 @@ fn items(
     Ok(items)
 }
 
-// The witness of items. For P2WSH the script comes last (BIP 141).
-fn witness_of(
+/// The witness of items. For P2WSH the script comes last (BIP 141).
+pub(crate) fn witness_of(
     alloc: Global,
     program: &[u8],
     script: &[u8],
