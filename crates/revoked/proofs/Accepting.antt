@@ -15,9 +15,9 @@ use Rattle.claim.specs.declared.parts.Shell.TheVariants.{Open}
 use Rattle.claim.specs.Claims.{ClaimParts}
 use Rattle.claim.specs.Judgement.{is_key_program, is_program}
 use Rattle.forms.specs.declared.kinds.ClaimKind.{ClaimKind}
-use Rattle.forms.specs.declared.kinds.ClaimKind.TheVariants.{Penalty, HtlcPenalty, KeyHash}
-use Rattle.forms.specs.Claims.{Claims, of_penalty, of_offered_penalty, of_received_penalty, of_key, path_taken_by}
-use Rattle.forms.specs.Forms.{to_local_form, key_hash_form}
+use Rattle.forms.specs.declared.kinds.ClaimKind.TheVariants.{HtlcPenalty}
+use Rattle.forms.specs.Claims.{Claims, of_offered_penalty, of_received_penalty, path_taken_by}
+use Rattle.forms.specs.Forms.{key_hash_form}
 use Rattle.forms.specs.Fillings.{fillings_of}
 use Rattle.commit.specs.declared.fees.Direction.{Direction}
 use Rattle.commit.specs.declared.fees.Direction.TheVariants.{Offered, Received}
@@ -25,9 +25,8 @@ use Rattle.commit.specs.declared.derived.CommitmentKeys.{CommitmentKeys}
 use Rattle.commit.specs.Keys.{bytes_of}
 use Rattle.penalty.specs.Claimable.{Claimable}
 use Rattle.penalty.specs.Sets.{IsClaimOn}
-use Rattle.penalty.specs.Outputs.{HasWay}
 use Rattle.revoked.specs.declared.outputs.RevokedHtlc.{RevokedHtlc}
-use Rattle.revoked.specs.Programs.{form_by, form_of_htlc, htlc_program, claim_on_to_local, claim_on_to_remote, claim_on_htlc}
+use Rattle.revoked.specs.Programs.{form_by, form_of_htlc}
 
 same_bytes : (xs : List ℕ) → bytes_eq xs xs ≡ true
 same_bytes xs = (bytes_eq-Decides xs xs).1 refl

@@ -3,3 +3,5 @@ pub mod Accepting
 pub mod Walks
 pub mod Told
 pub mod Models
+pub mod Collisions
+mod AppendixExamples

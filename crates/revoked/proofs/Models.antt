@@ -1,15 +1,13 @@
 -- The commitments of views are read as penalties claim them.
-use Rattle.std.proofs.Common.{◌++◌, ◌≡◌, ℕ, zero, suc, ◌+◌, ◌<◌, Bool, true, false, cond, List, [], ◌∷◌, map, length, get_or, Option, Some, None, refl, sym, ap, subst, ◌∙◌, arith}
-use Rattle.std.specs.Prelude.{slice_get, slice_index_or, option_map, Contains}
-use Rattle.std.specs.List.{find, cons_option, All, AllByRecursion}
+use Rattle.std.proofs.Common.{◌++◌, ◌≡◌, ℕ, zero, suc, ◌+◌, ◌<◌, Bool, true, false, cond, List, [], ◌∷◌, map, length, get_or, Option, Some, refl, sym, ap, ◌∙◌, arith}
+use Rattle.std.specs.Prelude.{slice_get, option_map, Contains}
+use Rattle.std.specs.List.{find, cons_option, AllByRecursion}
 use Rattle.std.specs.Str.{bytes_eq}
 use Rattle.std.proofs.lemmas.List.Elements.{recursion_from_All}
 use Rattle.std.proofs.lemmas.Slice.Eq.{bytes_eq-Decides}
 use Rattle.tx.specs.Parts.{Output}
 use Rattle.tx.specs.Fields.{Transaction}
-use Rattle.digest.specs.Hash.{hash160}
 use Rattle.script.specs.Spelling.{spelling}
-use Rattle.script.specs.declared.opcode.Op.{Op}
 use Rattle.script.specs.declared.opcode.Op.TheVariants.{If, Dup, Equal, EqualVerify}
 use Rattle.sighash.specs.Programs.{script_hash_program, key_hash_program}
 use Rattle.terms.specs.declared.htlcs.Htlc.{Htlc}
@@ -24,19 +22,18 @@ use Rattle.commit.specs.declared.outputs.CommitmentOutput.{CommitmentOutput}
 use Rattle.commit.specs.declared.outputs.HtlcOutput.{HtlcOutput}
 use Rattle.commit.specs.Keys.{KeyBytes}
 use Rattle.commit.specs.Outputs.{to_local_script, htlc_script}
-use Rattle.commit.specs.Commitments.{Contents, tx_output, transaction_of, htlc_at, htlcs_from, htlcs_of, htlc_tx_of, htlc_tx_output}
-use Rattle.penalty.specs.declared.states.RevokedState.{RevokedState}
-use Rattle.penalty.specs.Claimable.{Claimable, place_in, htlc_form as penalty_form, penalty_on, payment_on, htlc_penalty_on, second_stage_penalty, claims_by, commitment_in}
+use Rattle.commit.specs.Commitments.{Contents, tx_output, transaction_of, htlc_at, htlcs_from, htlc_tx_of, htlc_tx_output}
+use Rattle.penalty.specs.Claimable.{Claimable, place_in, htlc_form as penalty_form, penalty_on, payment_on, htlc_penalty_on, claims_by, commitment_in}
 use Rattle.penalty.specs.Outputs.{program_of as penalty_program, IsOutput}
-use Rattle.penalty.specs.Worth.{stage_on, first_stage}
+use Rattle.penalty.specs.Worth.{stage_on}
 use Rattle.penalty.proofs.Standing.{outputs_stand, state_pays}
 use Rattle.revoked.specs.Parts.{RevokedParts}
 use Rattle.revoked.specs.declared.outputs.RevokedHtlc.{RevokedHtlc}
 use Rattle.revoked.specs.declared.outputs.RevokedOutput.{RevokedOutput}
 use Rattle.revoked.specs.declared.outputs.RevokedOutput.TheVariants.{ToLocal, ToRemote, ToHtlc}
-use Rattle.revoked.specs.Programs.{form_by, form_of_htlc, htlc_program, known_form, known_program, known_outputs, output_with, claim_on_to_local, claim_on_to_remote, claim_on_htlc, claim_on}
-use Rattle.revoked.specs.Reading.{claim_at, claimed_from, unless_found, others_from}
-use Rattle.revoked.specs.Telling.{IsAmong, KnowsAll, SharesNoProgram, ReadsCommitments, ReadsHtlcTransactions}
+use Rattle.revoked.specs.Programs.{form_by, form_of_htlc, known_form, known_program, known_outputs, output_with, claim_on_to_local, claim_on_to_remote, claim_on_htlc, claim_on}
+use Rattle.revoked.specs.Reading.{claimed_from, unless_found, others_from}
+use Rattle.revoked.specs.Telling.{IsAmong, SharesNoProgram, ReadsCommitments, ReadsHtlcTransactions}
 use Rattle.revoked.proofs.Table.{is_to_local}
 
 same_bytes : (xs : List ℕ) → bytes_eq xs xs ≡ true

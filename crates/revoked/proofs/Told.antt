@@ -1,5 +1,5 @@
 -- A transaction is read whole: each output is told, and told once.
-use Rattle.std.proofs.Common.{◌≡◌, ℕ, zero, suc, ◌+◌, ◌≤◌, List, [], ◌∷◌, map, length, Option, Some, None, refl, sym, ap, subst, ◌∙◌, arith}
+use Rattle.std.proofs.Common.{◌≡◌, ℕ, zero, suc, ◌+◌, ◌≤◌, List, [], ◌∷◌, map, length, Option, Some, None, refl, subst, arith}
 use Rattle.std.specs.Prelude.{slice_get, option_map, Contains, MatchOption}
 use Rattle.std.specs.List.{cons_option, AllByRecursion}
 use Rattle.std.proofs.lemmas.List.Elements.{Contains-append_right}
@@ -11,8 +11,8 @@ use Rattle.revoked.specs.Parts.{RevokedParts}
 use Rattle.revoked.specs.declared.outputs.RevokedOutput.{RevokedOutput}
 use Rattle.revoked.specs.declared.outputs.RevokedOutput.TheVariants.{ToLocal, ToRemote, ToHtlc}
 use Rattle.revoked.specs.Programs.{output_with, claim_on}
-use Rattle.revoked.specs.Reading.{claim_at, claimed_from, unless_found, others_from, claimed_in, others_in}
-use Rattle.revoked.specs.Telling.{EachOutputIsTold, RisesFrom, IsToldOnce, EachIsToldOnce, IsOnOutput, EachClaimIsOnItsOutput}
+use Rattle.revoked.specs.Reading.{claim_at, claimed_from, unless_found, others_from}
+use Rattle.revoked.specs.Telling.{EachOutputIsTold, RisesFrom, EachIsToldOnce, IsOnOutput, EachClaimIsOnItsOutput}
 
 some_is : {X : Type 0} (x y : X) → Some x ≡ Some y → x ≡ y
 some_is x y e = cc

@@ -10,7 +10,7 @@ use Rattle.paths.specs.Listing.{CheckedScript}
 use Rattle.claim.specs.declared.parts.Place.{Place}
 use Rattle.claim.specs.declared.parts.Shell.TheVariants.{Open}
 use Rattle.forms.specs.Forms.{to_local_form, key_hash_form, offered_form, received_form}
-use Rattle.forms.specs.Fillings.{Filling, Signature, Bytes}
+use Rattle.forms.specs.Fillings.{Signature, Bytes}
 use Rattle.commit.specs.declared.fees.Direction.{Direction}
 use Rattle.commit.specs.declared.fees.Direction.TheVariants.{Offered, Received}
 use Rattle.commit.specs.Keys.{KeyBytes}

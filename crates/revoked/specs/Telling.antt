@@ -1,7 +1,10 @@
 -- That a transaction is read whole, and that the commitments of views are read as penalties claim them
 -- (BOLT 5, "Revoked Transaction Close Handling").
-use Rattle.std.specs.Prelude.{◌≡◌, ℕ, ◌+◌, ◌≤◌, List, [], ◌∷◌, map, length, Some, slice_get, Contains, MatchOption}
+use Rattle.std.specs.Prelude.{◌≡◌, ◌⊎◌, ℕ, ◌+◌, ◌≤◌, List, [], ◌∷◌, map, length, Some, slice_get, Contains, MatchOption}
 use Rattle.std.specs.List.{AllByRecursion}
+use Rattle.sha2.specs.Sha256.{sha256}
+use Rattle.digest.specs.Hash.{Collide}
+use Rattle.script.specs.Spelling.{spelling}
 use Rattle.tx.specs.Parts.{Output}
 use Rattle.tx.specs.Fields.{Transaction}
 use Rattle.commit.specs.declared.outputs.HtlcOutput.{HtlcOutput}
@@ -69,6 +72,13 @@ abbrev pub SharesNoProgram : RevokedParts → Type 0
 SharesNoProgram r =
     (a b : RevokedOutput) → Contains (known_outputs r) a → Contains (known_outputs r) b
     → known_program r a ≡ known_program r b → known_form r a ≡ known_form r b
+
+-- which fails by a collision alone: outputs of one commitment that have one program have one form, or SHA-256 collides on their scripts
+abbrev pub SharingCollides : Type 0
+SharingCollides =
+    (r : RevokedParts) (a b : RevokedOutput) → known_program r a ≡ known_program r b
+    → (known_form r a ≡ known_form r b)
+    ⊎ Collide sha256 (spelling (known_form r a).ops) (spelling (known_form r b).ops)
 
 -- all of a revoked commitment is claimed, as the penalty claims it while none of its HTLC transactions is on the chain
 abbrev pub ReadsCommitments : Type 0

@@ -1,4 +1,4 @@
-use Rattle.std.proofs.Common.{sym, subst, ap, ◌∙◌}
+use Rattle.std.proofs.Common.{sym, subst}
 use Rattle.penalty.specs.Sets.{AreClaimsOn}
 use Rattle.revoked.specs.Reading.{claimed_from}
 use Rattle.revoked.proofs.Walks.{gathers_none, gathers_on, gathers_all}

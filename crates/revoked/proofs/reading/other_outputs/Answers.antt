@@ -1,4 +1,4 @@
-use Rattle.std.proofs.Common.{sym, ap, ◌∙◌}
+use Rattle.std.proofs.Common.{ap, ◌∙◌}
 use Rattle.revoked.specs.Reading.{others_from}
 use Rattle.revoked.proofs.Walks.{others_on, others_all}
 use Rattle.revoked.proofs.reading.other_outputs.Goals as goal

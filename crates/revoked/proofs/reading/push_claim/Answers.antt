@@ -1,4 +1,4 @@
-use Rattle.std.proofs.Common.{◌≡◌, Some, sym, ap, subst, ◌∙◌}
+use Rattle.std.proofs.Common.{sym, ap, subst, ◌∙◌}
 use Rattle.claim.specs.declared.parts.Place.{Place}
 use Rattle.penalty.specs.Sets.{IsClaimOn}
 use Rattle.revoked.specs.Programs.{output_with, claim_on}

@@ -1,10 +1,8 @@
-use Rattle.std.proofs.Common.{◌≡◌, List, ℕ, false, Some, None, rules, sym, subst, ◌∙◌, nat_cmp}
-use Rattle.std.specs.Str.{bytes_eq}
+use Rattle.std.proofs.Common.{◌≡◌, Some, None, rules, sym, subst, ◌∙◌, nat_cmp}
 use Rattle.std.specs.Cmp.Lexicographic.{slice_cmp}
 use Rattle.std.specs.BTreeMap.{get}
 use Rattle.revoked.specs.Parts.{RevokedParts}
-use Rattle.revoked.specs.Programs.{output_with, known_program, HasPrograms}
-use Rattle.revoked.specs.declared.outputs.RevokedOutput.TheVariants.{ToLocal, ToRemote}
+use Rattle.revoked.specs.Programs.{output_with, HasPrograms}
 use Rattle.revoked.proofs.Table.{found_local, not_local, found_remote, not_remote, is_of_htlcs, looked_up}
 use Rattle.revoked.proofs.commitments.Revoked.output_with.Goals as goal
 
