@@ -1,4 +1,5 @@
 mod Samples
+mod Ones
 mod Delays
 mod Limits
 mod Signatures
@@ -16,3 +17,12 @@ mod Premises
 mod Beginnings
 mod NumberExamples
 mod NodeExamples
+mod Queues
+mod Edges
+mod Replies
+mod Reports
+mod Rules
+mod Ledgers
+mod Breaks
+mod Resolutions
+mod Everybody

@@ -1,5 +1,5 @@
 -- Who satisfies a script of BOLT 3, and what has to be there: the block before a lock ends, another size, and an empty witness.
-use Rattle.std.proofs.Common.{◌≡◌, ℕ, zero, suc, ◌+◌, ◌^◌, List, [], ◌∷◌, length, replicate, ap, refl, subst, inl, inr, arith, lit<}
+use Rattle.std.proofs.Common.{◌≡◌, ◌≢◌, ℕ, zero, suc, ◌+◌, ◌^◌, List, [], ◌∷◌, length, replicate, sym, ap, refl, subst, inl, inr, arith, lit<}
 use Rattle.std.specs.List.{Contains}
 use Rattle.std.proofs.lemmas.Bool.{true≢false, false≢true}
 use Rattle.digest.specs.Hash.{hash160}
@@ -8,12 +8,13 @@ use Rattle.script.specs.declared.spending.Spend.{Spend}
 use Rattle.script.specs.Token.{token_of}
 use Rattle.script.specs.Step.{effect, lock_passes, age_passes}
 use Rattle.script.specs.Run.{state_after}
+use Rattle.sighash.proofs.Tokens.{one_token}
 use Rattle.tx.specs.declared.input.TxIn.{TxIn}
 use Rattle.tx.specs.Fields.{Transaction}
 use Rattle.commit.specs.Commitments.{Contents}
 use Rattle.penalty.specs.declared.states.RevokedState.{RevokedState}
 use Rattle.penalty.specs.Claimable.{Claimable, commitment_in}
-use Rattle.safety.specs.Satisfying.{HasToken, HasKeyOf, HasPreimage, OnSatisfied, SatisfiesToLocal, SatisfiesOffered, SatisfiesReceived}
+use Rattle.safety.specs.Satisfying.{HasToken, HasKeyOf, HasPreimage, OnSatisfied, SatisfiesToLocal, SatisfiesOffered, SatisfiesReceived, SatisfiesFunding}
 use Rattle.safety.specs.Signing.{AreSame, digest_of}
 use Rattle.safety.specs.Spending.{spend_on, IsPeerKeyOn, IsSignedBy, IsOwners, IsLate, CanSpend, by_peer, by_owner, by_collision, Waits}
 use Rattle.safety.specs.Ways.{by_owner as owner_takes, by_peer as peer_takes, by_htlc_transaction as htlc_takes, by_collision as collision_takes}
@@ -109,6 +110,30 @@ module _ (digest : List ℕ) where
     before_the_expiry witness n m (inl k) = n k
     before_the_expiry witness n m (inr (t, inl p)) = m p.1
     before_the_expiry witness n m (inr (t, inr l)) = false≢true l
+
+  module _ (first second : List ℕ) where
+    -- yes: SatisfiesFunding
+    by_both : SatisfiesFunding first second (spending 0 0) ([] ∷ token_of second digest ∷ token_of first digest ∷ [])
+    by_both = ((2, lit< tt, refl), (1, lit< tt, refl))
+
+    module _ (apart : first ≢ second) (length_is : length first ≡ length second) where
+      -- no: SatisfiesFunding
+      by_first_twice : SatisfiesFunding first second (spending 0 0) (token_of first digest ∷ token_of first digest ∷ []) → ⊥
+      by_first_twice (a, (zero, i, e)) = apart (one_token first second digest digest length_is e).0
+      by_first_twice (a, (suc zero, i, e)) = apart (one_token first second digest digest length_is e).0
+      by_first_twice (a, (suc (suc n), i, e)) = omega (arith, i)
+
+      -- no: SatisfiesFunding
+      by_second_alone : SatisfiesFunding first second (spending 0 0) (token_of second digest ∷ []) → ⊥
+      by_second_alone ((zero, i, e), b) = apart (sym (one_token second first digest digest (sym length_is) e).0)
+      by_second_alone ((suc n, i, e), b) = omega (arith, i)
+
+      -- the second key's is over another digest
+      -- no: SatisfiesFunding
+      by_another_digest : (other : List ℕ) → other ≢ digest → SatisfiesFunding first second (spending 0 0) (token_of first digest ∷ token_of second other ∷ []) → ⊥
+      by_another_digest other n (a, (zero, i, e)) = apart (one_token first second digest digest length_is e).0
+      by_another_digest other n (a, (suc zero, i, e)) = n (one_token second second other digest refl e).1
+      by_another_digest other n (a, (suc (suc m), i, e)) = omega (arith, i)
 
 -- ---- inputs
 

@@ -46,6 +46,7 @@ use Rattle.safety.proofs.Limits.{limited, few_in}
 use Rattle.safety.proofs.Standing.{block_in}
 use Rattle.safety.proofs.Fates.{bare_second}
 use Rattle.safety.proofs.Seconds.{bare_commitment}
+use Rattle.safety.proofs.Newest.{unrefused}
 use Rattle.safety.proofs.Whereabouts.{nothing_is_lost}
 use Rattle.safety.proofs.Examples.{same_eq, shown, passes, state, on_htlc, coin_of, offer, timeout, timed_out, timeout_takes, timeout_shows, timeout_signed, second_is, offer_among}
 
@@ -68,13 +69,7 @@ hidden_final height x inputs =
 hidden_old : (height x coin : ℕ) → is_old_enough height 2 (0x80 * 2 ^ 24 + x % 2 ^ 24) coin ≡ true
 hidden_old height x coin = rw (eq-eqb ((0x80 * 2 ^ 24 + x % 2 ^ 24) / 2 ^ 31 % 2) 1 (omega arith)) refl
 
--- ---- a transaction of one input
-
-unrefused : (blocks : List Block) (version lock_time : ℕ) (input : TxIn) (outputs : List Output) → has_id blocks (transaction_id (record { version = version; inputs = input ∷ []; outputs = outputs; lock_time = lock_time })) ≡ false
-    → input_refusal blocks (height_of blocks) (record { version = version; inputs = input ∷ []; outputs = outputs; lock_time = lock_time }) input ≡ None → nat_le (paid_out outputs) (paid_in blocks (input ∷ [])) ≡ true
-    → transaction_refusal blocks (record { version = version; inputs = input ∷ []; outputs = outputs; lock_time = lock_time }) ≡ None
-unfolding transaction_refusal
-unrefused blocks version lock_time input outputs new passed covered = rw (new, passed, covered) refl
+-- ---- bytes and lists
 
 other_way : (a b : List ℕ) → bytes_eq a b ≡ false → bytes_eq b a ≡ false
 other_way a b e = by (bytes_eq b a) refl

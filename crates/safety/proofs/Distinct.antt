@@ -73,7 +73,7 @@ in_block older (x ∷ xs) t u e i j same =
     (λ (k : Contains xs u). in_block older xs t u (next_passed older x xs e).1 l k same) (contains_cases x xs u j))
     (contains_cases x xs t i)
 
-one_of_id : (blocks : List Block) (b d : Block) (t u : Transaction) → is_checked blocks ≡ true → Contains blocks b → Contains b.transactions t → Contains blocks d → Contains d.transactions u → transaction_id t ≡ transaction_id u → t ≡ u
+pub one_of_id : (blocks : List Block) (b d : Block) (t u : Transaction) → is_checked blocks ≡ true → Contains blocks b → Contains b.transactions t → Contains blocks d → Contains d.transactions u → transaction_id t ≡ transaction_id u → t ≡ u
 one_of_id [] b d t u e i k j l same = absurd (contains_none b i)
 one_of_id (x ∷ older) b d t u e i k j l same =
     let parts = and_parts (have_passed older x.transactions) (is_checked older) e in
@@ -115,7 +115,7 @@ not_second : (state : RevokedState) (h : HtlcOutput) → transaction_of (commitm
 unfolding transaction_of htlc_tx_of commitment_of
 not_second state h e = let f = ap (λ (t : Transaction). first_sequence t.inputs) e in omega (arith, f)
 
-one_index : (c : Contents) (h g : HtlcOutput) → htlc_tx_of c h ≡ htlc_tx_of c g → h.index ≡ g.index
+pub one_index : (c : Contents) (h g : HtlcOutput) → htlc_tx_of c h ≡ htlc_tx_of c g → h.index ≡ g.index
 unfolding htlc_tx_of
 one_index c h g e = ap (λ (t : Transaction). first_index t.inputs) e
 

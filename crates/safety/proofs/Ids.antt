@@ -57,7 +57,7 @@ same_or_collide hash a b e = by (bytes_eq a b) refl
     by true f = inl ((bytes_eq-Decides a b).0 f)
     by false f = inr (λ d. false≢true (sym f ∙ (bytes_eq-Decides a b).1 d), e)
 
-id_is : (t : Transaction) → transaction_id t ≡ sha256d (stripped_spelling t)
+pub id_is : (t : Transaction) → transaction_id t ≡ sha256d (stripped_spelling t)
 unfolding transaction_id
 id_is t = refl
 

@@ -54,7 +54,7 @@ no_longer bytes ops e = by (nat_le (length bytes) MAX_SCRIPT_SIZE) refl e
     by true f g = leb-true (length bytes) MAX_SCRIPT_SIZE f
     by false f g = absurd (none_some ops g)
 
-htlc_short : (c : Contents) (direction : Direction) (h : Htlc) → AreKeys c.keys → h.expiry_height < 2 ^ 32 → length (spelling (htlc_form c.keys direction h).ops) ≤ MAX_SCRIPT_SIZE
+pub htlc_short : (c : Contents) (direction : Direction) (h : Htlc) → AreKeys c.keys → h.expiry_height < 2 ^ 32 → length (spelling (htlc_form c.keys direction h).ops) ≤ MAX_SCRIPT_SIZE
 htlc_short c Offered h k l = no_longer _ _ (offered_ops (hash160 c.keys.revocation) c.keys.remote_htlc c.keys.local_htlc (ripemd160 h.hash) (length-ripemd160 _) (length-ripemd160 _) k.remote_htlc k.local_htlc)
 htlc_short c Received h k l =
     no_longer _ _ (received_ops (hash160 c.keys.revocation) c.keys.remote_htlc c.keys.local_htlc (ripemd160 h.hash) h.expiry_height l (length-ripemd160 _) (length-ripemd160 _) k.remote_htlc k.local_htlc)
@@ -124,7 +124,7 @@ second_limits c h i l v = record {
   lock_time = low_lock h.direction h.htlc l;
 }
 
-signable : (c : Contents) (h : HtlcOutput) → AreKeys c.keys → h.index < 2 ^ 32 → h.htlc.expiry_height < 2 ^ 32 → satoshis_of h.htlc.amount_msat ≤ MAX_VALUE → IsSignable (htlc_signed c h)
+pub signable : (c : Contents) (h : HtlcOutput) → AreKeys c.keys → h.index < 2 ^ 32 → h.htlc.expiry_height < 2 ^ 32 → satoshis_of h.htlc.amount_msat ≤ MAX_VALUE → IsSignable (htlc_signed c h)
 signable c h k i l v = record {
   transaction = second_limits c h i l v;
   input = record { txid = id_length c; index = i; sequence = omega arith; witness = record { count = omega arith; each = tt } };

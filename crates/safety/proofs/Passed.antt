@@ -95,7 +95,7 @@ in_block older (u ∷ us) e t c input i =
     (contains_cases u us t c)))
 
 -- an element of a list with one more at its end
-last_cases : {X : Type 0} (xs : List X) (y x : X) (k : ℕ) → slice_get (xs ++ y ∷ []) k ≡ Some x → (slice_get xs k ≡ Some x) ⊎ ((k ≡ length xs) × (y ≡ x))
+pub last_cases : {X : Type 0} (xs : List X) (y x : X) (k : ℕ) → slice_get (xs ++ y ∷ []) k ≡ Some x → (slice_get xs k ≡ Some x) ⊎ ((k ≡ length xs) × (y ≡ x))
 last_cases [] y x zero e = inr (refl, some_is y x e)
 last_cases {X} [] y x (suc k) e = absurd (none_some x (sym (slice_get_past (y ∷ []) (suc k) (omega arith)) ∙ e))
 last_cases (z ∷ zs) y x zero e = inl e

@@ -25,7 +25,7 @@ use Rattle.safety.specs.Places.{IsOutPointOf, of_output, of_second_stage, Owners
 
 -- ---- lists of one and of two
 
-contains_one : {X : Type 0} (y x : X) → Contains (y ∷ []) x → x ≡ y
+pub contains_one : {X : Type 0} (y x : X) → Contains (y ∷ []) x → x ≡ y
 contains_one {X} y x i = ⊎_elim {C = x ≡ y} (λ (e : y ≡ x). sym e) (λ (j : Contains [] x). absurd (contains_none x j)) (contains_cases y [] x i)
 
 contains_two : {X : Type 0} (y z x : X) → Contains (y ∷ z ∷ []) x → (x ≡ y) ⊎ (x ≡ z)
@@ -38,7 +38,7 @@ contains_if false xs x i = absurd (contains_none x i)
 -- ---- the output that a claim is on
 
 -- what an output gives by a rule
-abbrev Rule : Type 0
+abbrev pub Rule : Type 0
 Rule = ℕ → Place → OutputKind → List Claimable
 
 -- one of the outputs, of which the first has this index, gives the claim
@@ -67,13 +67,13 @@ from on c index (p ∷ os) o i =
     (Contains-append_cases (on index (place_at c index p) p.kind) (claims_by on c (index + 1) os) o i)
 
 -- an output of the commitment gives the claim
-record IsGiven (on : Rule) (c : Contents) (o : Claimable) : Type 0 where
-  index : ℕ
-  output : CommitmentOutput
-  there : slice_get c.outputs index ≡ Some output
-  given : Contains (on index (place_at c index output) output.kind) o
+pub record IsGiven (on : Rule) (c : Contents) (o : Claimable) : Type 0 where
+  pub index : ℕ
+  pub output : CommitmentOutput
+  pub there : slice_get c.outputs index ≡ Some output
+  pub given : Contains (on index (place_at c index output) output.kind) o
 
-given_by : (on : Rule) (c : Contents) (o : Claimable) → Contains (claims_by on c 0 c.outputs) o → IsGiven on c o
+pub given_by : (on : Rule) (c : Contents) (o : Claimable) → Contains (claims_by on c 0 c.outputs) o → IsGiven on c o
 given_by on c o i =
     let f = from on c 0 c.outputs o i in
     let at : 0 + f.place ≡ f.place = omega arith in

@@ -80,7 +80,7 @@ not_refused terms k p = shared terms k.view k.owner k.number k.point.bytes p.who
 pub few_in : (terms : Terms) (k : CommitmentState) → CanPay terms k.view → length (contents_of terms k).outputs ≤ MAX_OUTPUTS
 few_in terms k p = few_outputs (contents_of terms k).outputs (not_refused terms k p)
 
-limited : (terms : Terms) (k : CommitmentState) → CanPay terms k.view → All (λ o. IsOutputOf (contents_of terms k).keys o) (contents_of terms k).outputs
+pub limited : (terms : Terms) (k : CommitmentState) → CanPay terms k.view → All (λ o. IsOutputOf (contents_of terms k).keys o) (contents_of terms k).outputs
 unfolding commitment_of
 limited terms k p = each_output (party k.owner terms).delay_blocks (keys_of terms k.owner k.point.bytes) (amounts_of terms k.view k.owner) (not_refused terms k p)
 

@@ -1,20 +1,21 @@
 -- Who satisfies the forms: by the listing of their paths.
 use Rattle.std.proofs.Common.{◌≡◌, ℕ, zero, suc, ◌<◌, Bool, true, false, List, [], ◌∷◌, length, reverse, sym, refl, subst, inl, inr, arith}
-use Rattle.std.specs.Prelude.{◌&&◌, ◌||◌, ◌==◌}
+use Rattle.std.specs.Prelude.{◌&&◌, ◌||◌, ◌==◌, if◌then◌else◌}
 use Rattle.std.specs.List.{Any}
 use Rattle.std.specs.Str.{bytes_eq}
 use Rattle.std.proofs.lemmas.Bool.{false≢true, eqb-true}
 use Rattle.digest.specs.Hash.{hash160}
 use Rattle.script.specs.declared.spending.Spend.{Spend}
-use Rattle.script.specs.Token.{token_of, assigned}
+use Rattle.script.specs.Token.{token_of, is_key, assigned}
+use Rattle.script.specs.Run.{Clean, outcome}
 use Rattle.facts.specs.Meaning.{slot_of}
 use Rattle.paths.specs.Exhaustive.{SatisfiesBy}
 use Rattle.paths.proofs.ForcedWalk.{listing-exhaustive}
-use Rattle.terms.specs.Scripts.{to_local, key_hash, offered, received}
-use Rattle.forms.specs.Ways.{to_local_ways, key_hash_ways, offered_ways, received_ways}
+use Rattle.terms.specs.Scripts.{is_lesser, two_of_two, to_local, key_hash, offered, received}
+use Rattle.forms.specs.Ways.{two_of_two_ways, to_local_ways, key_hash_ways, offered_ways, received_ways}
 use Rattle.forms.proofs.Forms.{key_length}
-use Rattle.forms.proofs.Listed.{to_local-listed, key_hash-listed, offered-listed, received-listed}
-use Rattle.safety.specs.Satisfying.{HasToken, HasKeyOf, HasPreimage, SatisfiesToLocal, ToLocalSatisfied, KeyHashSatisfied, SatisfiesOffered, OfferedSatisfied, SatisfiesReceived, ReceivedSatisfied}
+use Rattle.forms.proofs.Listed.{two_of_two-listed, to_local-listed, key_hash-listed, offered-listed, received-listed}
+use Rattle.safety.specs.Satisfying.{HasToken, HasKeyOf, HasPreimage, SatisfiesToLocal, ToLocalSatisfied, KeyHashSatisfied, SatisfiesOffered, OfferedSatisfied, SatisfiesReceived, ReceivedSatisfied, OnSatisfied, SatisfiesFunding, FundingSatisfied}
 use Rattle.safety.proofs.Slots.{slot_contained, same_bytes, slot_token}
 
 pub to_local_satisfied : ToLocalSatisfied
@@ -112,3 +113,23 @@ received_satisfied revocation_hash remote local payment_hash expiry_height h m n
         let o = subst (SatisfiesBy spend witness counted height) (sym f) p in
         inr (slot_token spend witness 1 remote (omega (arith, o.meets.exact)) o.meets.holds.1.1.1.1.0, inr o.meets.holds.1.1.0)
     opened (suc (suc (suc j)), y, i, f, p) = absurd (omega (arith, i))
+
+-- ---- the funding output
+
+two_satisfied : (first second : List ℕ) → is_key first ≡ true → is_key second ≡ true → OnSatisfied (two_of_two first second) (SatisfiesFunding first second)
+two_satisfied first second k l spend witness counted height e =
+    opened (listing-exhaustive (two_of_two first second) (two_of_two_ways first second) (two_of_two-listed first second k l (key_length first k) (key_length second l)) spend witness counted height e)
+  where
+    opened : Any (SatisfiesBy spend witness counted height) (two_of_two_ways first second) → SatisfiesFunding first second spend witness
+    opened (zero, y, i, f, p) =
+        let o = subst (SatisfiesBy spend witness counted height) (sym f) p in
+        let b = both_assigned (slot_of (reverse witness) 1) (slot_of (reverse witness) 0) first second spend.digest o.meets.holds.1.1.1.0 in
+        (slot_token spend witness 1 first (omega (arith, o.meets.exact)) b.0, slot_token spend witness 0 second (omega (arith, o.meets.exact)) b.1)
+    opened (suc n, y, i, f, p) = absurd (omega (arith, i))
+
+pub funding_satisfied : FundingSatisfied
+funding_satisfied first second k l spend witness counted height e = by_order (is_lesser second first) e
+  where
+    by_order : (b : Bool) → outcome spend (if b then two_of_two second first else two_of_two first second) witness ≡ Clean counted height → SatisfiesFunding first second spend witness
+    by_order true h = let r = two_satisfied second first l k spend witness counted height h in (r.1, r.0)
+    by_order false h = two_satisfied first second k l spend witness counted height h

@@ -51,7 +51,7 @@ bare t k = record {
   spelled = sym (unsigned_bytes t);
 }
 
-same_stripped : (t u : Transaction) → KeepsLimits t → KeepsLimits u → stripped_spelling t ≡ stripped_spelling u → unsigned_transaction t ≡ unsigned_transaction u
+pub same_stripped : (t u : Transaction) → KeepsLimits t → KeepsLimits u → stripped_spelling t ≡ stripped_spelling u → unsigned_transaction t ≡ unsigned_transaction u
 same_stripped t u k l e =
     let b = bare u l in
     one_stripped_value (unsigned_transaction t) (unsigned_transaction u) (stripped_spelling t) (bare t k) (record { limits = b.limits; unsigned = b.unsigned; spelled = e ∙ b.spelled })

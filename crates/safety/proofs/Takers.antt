@@ -55,7 +55,7 @@ use Rattle.safety.proofs.Seeds.{sides_differ}
 
 -- ---- the block of an HTLC transaction
 
-low_lock : (direction : Direction) (h : Htlc) → h.expiry_height < LOCKTIME_THRESHOLD → lock_time_of direction h < LOCKTIME_THRESHOLD
+pub low_lock : (direction : Direction) (h : Htlc) → h.expiry_height < LOCKTIME_THRESHOLD → lock_time_of direction h < LOCKTIME_THRESHOLD
 low_lock Offered h l = l
 low_lock Received h l = omega arith
 
@@ -64,7 +64,7 @@ first_sequence [] = 1
 first_sequence (i ∷ is) = i.sequence
 
 -- an input of sequence 0 is not final
-not_final : (inputs : List TxIn) (o : OutPoint) → unsigned_inputs inputs ≡ record { outpoint = o; sequence = 0; witness = [] } ∷ [] → list_all (λ i. i.sequence == 0xffffffff) inputs ≡ false
+pub not_final : (inputs : List TxIn) (o : OutPoint) → unsigned_inputs inputs ≡ record { outpoint = o; sequence = 0; witness = [] } ∷ [] → list_all (λ i. i.sequence == 0xffffffff) inputs ≡ false
 not_final [] o e = absurd (omega (arith, ap first_sequence e))
 not_final (i ∷ is) o e = let s : i.sequence ≡ 0 = ap first_sequence e in rw s refl
 
@@ -108,7 +108,7 @@ htlc_transaction_at terms k p h i o at height t input coin s passes = record {
 -- ---- one outpoint of two commitments
 
 -- they have one transaction
-one_of_two : (c d : Contents) (o : OutPoint) (a : IsOutPointOf c o) (b : IsOutPointOf d o) → IsOneOutput c d o a b → transaction_of c ≡ transaction_of d
+pub one_of_two : (c d : Contents) (o : OutPoint) (a : IsOutPointOf c o) (b : IsOutPointOf d o) → IsOneOutput c d o a b → transaction_of c ≡ transaction_of d
 one_of_two c d o (of_output i x a e) (of_output j y b f) s = s.0
 one_of_two c d o (of_second_stage h a e) (of_second_stage g b f) s = s.0
 one_of_two c d o (of_output i x a e) (of_second_stage g b f) s = absurd s
@@ -151,7 +151,7 @@ abbrev first_outpoint : OutPoint → List TxIn → OutPoint
 first_outpoint o [] = o
 first_outpoint o (i ∷ is) = i.outpoint
 
-same_funding : (terms others : Terms) (k m : CommitmentState) → transaction_of (contents_of terms k) ≡ transaction_of (contents_of others m) → terms.funding ≡ others.funding
+pub same_funding : (terms others : Terms) (k m : CommitmentState) → transaction_of (contents_of terms k) ≡ transaction_of (contents_of others m) → terms.funding ≡ others.funding
 unfolding transaction_of commitment_of
 same_funding terms others k m e = ap (λ (t : Transaction). first_outpoint terms.funding t.inputs) e
 
@@ -222,7 +222,7 @@ short_of : (terms : Terms) (side : Side) → (party side terms).delay_blocks < 2
 short_of terms A = terms.short_a
 short_of terms B = terms.short_b
 
-short : (terms : Terms) (k : CommitmentState) → (contents_of terms k).delay_blocks < 2 ^ 16
+pub short : (terms : Terms) (k : CommitmentState) → (contents_of terms k).delay_blocks < 2 ^ 16
 unfolding commitment_of
 short terms k = short_of terms k.owner
 
@@ -275,7 +275,7 @@ spent_at : (d : Contents) (h : HtlcOutput) (t : Transaction) (input : TxIn) → 
 unfolding htlc_tx_of
 spent_at d h t input e i = only_input t.inputs input _ 0 (ap (λ (u : Transaction). u.inputs) e) i
 
-named_by : (d : Contents) (h : HtlcOutput) (o : OutPoint) → Contains (htlcs_of d) h → o ≡ record { txid = id_of d; index = h.index } → IsOutPointOf d o
+pub named_by : (d : Contents) (h : HtlcOutput) (o : OutPoint) → Contains (htlcs_of d) h → o ≡ record { txid = id_of d; index = h.index } → IsOutPointOf d o
 named_by d h o i e =
     let at = htlc_in 0 d.outputs h i in
     let place : at.place ≡ h.index = let n = at.at in omega (arith, n) in

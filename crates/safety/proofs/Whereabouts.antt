@@ -61,7 +61,7 @@ other_start : (revocation : List ℕ) (delay_blocks : ℕ) (delayed : List ℕ) 
 other_start revocation delay_blocks delayed c Offered h e = let f : 0x63 ≡ 0x76 = ap first_byte e in omega (arith, f)
 other_start revocation delay_blocks delayed c Received h e = let f : 0x63 ≡ 0x76 = ap first_byte e in omega (arith, f)
 
-not_on_to_local : (c : Contents) (place : Place) (t : Transaction) (input : TxIn) → IsForHtlc c (penalty_on c place) t input → ⊥
+pub not_on_to_local : (c : Contents) (place : Place) (t : Transaction) (input : TxIn) → IsForHtlc c (penalty_on c place) t input → ⊥
 not_on_to_local c place t input f =
     let s = f.same in
     other_start c.keys.revocation c.delay_blocks c.keys.delayed c f.htlc.direction f.htlc.htlc (s.code ∙ same_htlc c.keys f.htlc.direction f.htlc.htlc)
@@ -77,7 +77,7 @@ longer : (c : Contents) (direction : Direction) (h : Htlc) → spelling (key_has
 longer c Offered h e = longer_offered (hash160 c.keys.remote) (hash160 c.keys.revocation) c.keys.remote_htlc c.keys.local_htlc (ripemd160 h.hash) (length-ripemd160 _) (length-ripemd160 _) e
 longer c Received h e = longer_received (hash160 c.keys.remote) (hash160 c.keys.revocation) c.keys.remote_htlc c.keys.local_htlc (ripemd160 h.hash) h.expiry_height (length-ripemd160 _) (length-ripemd160 _) e
 
-not_on_to_remote : (c : Contents) (place : Place) (t : Transaction) (input : TxIn) → IsForHtlc c (payment_on c place) t input → ⊥
+pub not_on_to_remote : (c : Contents) (place : Place) (t : Transaction) (input : TxIn) → IsForHtlc c (payment_on c place) t input → ⊥
 not_on_to_remote c place t input f = let s = f.same in longer c f.htlc.direction f.htlc.htlc (s.code ∙ same_htlc c.keys f.htlc.direction f.htlc.htlc)
 
 -- ---- what transactions pay
@@ -87,12 +87,12 @@ unfolding transaction_of
 outputs_are c = refl
 
 -- the commitment's output at an index, in a transaction that is it but for witnesses
-commitment_pays : (c : Contents) (t : Transaction) (index : ℕ) (o : CommitmentOutput) → unsigned_transaction t ≡ transaction_of c → slice_get c.outputs index ≡ Some o → slice_get t.outputs index ≡ Some (tx_output o)
+pub commitment_pays : (c : Contents) (t : Transaction) (index : ℕ) (o : CommitmentOutput) → unsigned_transaction t ≡ transaction_of c → slice_get c.outputs index ≡ Some o → slice_get t.outputs index ≡ Some (tx_output o)
 commitment_pays c t index o s e =
     let outputs : t.outputs ≡ map tx_output c.outputs = ap (λ (u : Transaction). u.outputs) s ∙ outputs_are c in
     ap (λ os. slice_get os index) outputs ∙ slice_get-map tx_output c.outputs index ∙ ap (option_map tx_output) e
 
-second_pays : (c : Contents) (t : Transaction) (h : HtlcOutput) → unsigned_transaction t ≡ htlc_tx_of c h → slice_get t.outputs 0 ≡ Some (htlc_tx_output c h)
+pub second_pays : (c : Contents) (t : Transaction) (h : HtlcOutput) → unsigned_transaction t ≡ htlc_tx_of c h → slice_get t.outputs 0 ≡ Some (htlc_tx_output c h)
 second_pays c t h s = first_output c h (unsigned_transaction t) s
 
 -- what stands at a place
@@ -104,7 +104,7 @@ at_place blocks o id index own same at coin there is = record {
 }
 
 -- whoever names an HTLC's output as the HTLC's own transaction does, stands there
-none_stands : (blocks : List Block) (c : Contents) (index : ℕ) (o : Claimable) → o.place.outpoint ≡ record { txid = id_of c; index = index } → standing blocks c index ≡ false
+pub none_stands : (blocks : List Block) (c : Contents) (index : ℕ) (o : Claimable) → o.place.outpoint ≡ record { txid = id_of c; index = index } → standing blocks c index ≡ false
     → (height : ℕ) (t : Transaction) (input : TxIn) → IsNamedBy blocks o height t input → IsForHtlc c o t input → ⊥
 none_stands blocks c index o at e height t input n f =
     let s = f.same in

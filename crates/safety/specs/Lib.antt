@@ -16,3 +16,12 @@ pub mod Outputs
 pub mod Seeds
 pub mod Takers
 pub mod Taken
+pub mod Holdings
+pub mod Given
+pub mod Premises
+pub mod Ledgers
+pub mod Breaks
+pub mod Closers
+pub mod Passing
+pub mod Resolutions
+pub mod Everybody

@@ -7,7 +7,7 @@ use Rattle.script.specs.declared.spending.Spend.{Spend}
 use Rattle.script.specs.Token.{token_of, is_key}
 use Rattle.script.specs.Step.{lock_passes, age_passes}
 use Rattle.script.specs.Run.{Clean, outcome}
-use Rattle.terms.specs.Scripts.{to_local, key_hash, offered, received}
+use Rattle.terms.specs.Scripts.{funding, to_local, key_hash, offered, received}
 
 -- an item of the witness is the key's token over the digest
 abbrev pub HasToken : Spend → List (List ℕ) → List ℕ → Type 0
@@ -66,3 +66,10 @@ ReceivedSatisfied =
     (revocation_hash remote local payment_hash : List ℕ) (expiry_height : ℕ) → expiry_height < 2 ^ 32 → length revocation_hash ≡ 20 → length payment_hash ≡ 20
     → is_key remote ≡ true → is_key local ≡ true
     → OnSatisfied (received revocation_hash remote local payment_hash expiry_height) (SatisfiesReceived revocation_hash remote local payment_hash expiry_height)
+
+-- the tokens of both keys
+abbrev pub SatisfiesFunding : (first second : List ℕ) → Spend → List (List ℕ) → Type 0
+SatisfiesFunding first second spend witness = HasToken spend witness first × HasToken spend witness second
+
+abbrev pub FundingSatisfied : Type 0
+FundingSatisfied = (first second : List ℕ) → is_key first ≡ true → is_key second ≡ true → OnSatisfied (funding first second) (SatisfiesFunding first second)

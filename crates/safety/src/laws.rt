@@ -3,7 +3,7 @@
 ghost use Rattle.std.specs.Prelude.{ℕ, List};
 ghost use Rattle.chain.specs.Blocks.{Contents as Block};
 ghost use Rattle.penalty.specs.declared.states.RevokedState.{RevokedState as State};
-ghost use Rattle.safety.specs.Satisfying.{ToLocalSatisfied, KeyHashSatisfied, OfferedSatisfied, ReceivedSatisfied};
+ghost use Rattle.safety.specs.Satisfying.{FundingSatisfied, ToLocalSatisfied, KeyHashSatisfied, OfferedSatisfied, ReceivedSatisfied};
 ghost use Rattle.safety.specs.Signing.{OneDigest, OneToken};
 ghost use Rattle.safety.specs.Spending.{WhoCanSpend, WhoSpends};
 ghost use Rattle.safety.specs.Owning.{OnlyPeerSigns};
@@ -18,7 +18,19 @@ ghost use Rattle.safety.specs.Places.{OwnersPlaces, PeersPlaces, RevokedPlaces, 
 ghost use Rattle.safety.specs.Outputs.{OneOutput};
 ghost use Rattle.safety.specs.Seeds.{SidesDiffer};
 ghost use Rattle.safety.specs.Taken.{NumberedAreOwn, GrantsAreOutPoints, Taken, TakenOnChains};
+ghost use Rattle.safety.specs.Ledgers.{CheckedAreLedgers};
+ghost use Rattle.safety.specs.Closers.{WhoCloses};
+ghost use Rattle.safety.specs.Passing.{NewestPasses};
+ghost use Rattle.safety.specs.Resolutions.{RevokedAreResolved, PeersAreResolved};
+ghost use Rattle.safety.specs.Everybody.{EachChannelStands, RevokedAgainstEverybody};
 ghost use Rattle.safety.specs.Takers.{OwnersTake, HtlcTransactionsTake, SidesAreApart, ChannelsAreApart, OutputsAreNoGrants, CommitmentsSpendFundings, HtlcTransactionsSpendOutputs};
+
+use publish::laws::commitments_spend;
+
+/// Whatever runs clean on the funding script has the tokens of both keys.
+pub fn who_satisfies_a_funding()
+    ensures { FundingSatisfied }
+{}
 
 /// Whatever runs clean on to_local has a token of the revocation key; or one of the delayed key, and a sequence that CHECKSEQUENCEVERIFY accepts for the
 /// delay.
@@ -182,3 +194,47 @@ pub fn taken()
     ensures inputs { Taken }
     ensures chains { TakenOnChains }
 {}
+
+/// A chain that passed its tests, whose transactions keep the limits, is a ledger of any outputs: an input that names one ran clean on the coin there and keeps its locks, and the transaction that makes one is the
+/// only one of its id.
+pub fn checked_chains_are_ledgers()
+    ensures { CheckedAreLedgers }
+{}
+
+/// Who closes a channel, whatever peers and blocks do. Say that on a chain, in the inputs that name outputs of a node's channels, each token of a key of the node's is one that it gave out. Then whatever takes the
+/// funding output of a channel is, but for witnesses, a commitment of the peer's that is revoked, its newest, or the next one; or the node's own newest one, with which it closed the channel. Otherwise two named
+/// byte strings collide.
+pub fn who_closes()
+    ensures { WhoCloses }
+{}
+
+/// Where the funding output of a channel is unspent, the node's newest commitment with both signatures passes all tests of the next block, whatever peers and blocks did before. It has to have an output: no block of
+/// Bitcoin's may hold a transaction without one. Otherwise a transaction on the chain has its id, and what is hashed for the two collides.
+pub fn newest_passes()
+    ensures { NewestPasses }
+{
+    commitments_spend();
+}
+
+/// What becomes of the outputs of a peer's commitment that stands on such a chain, whatever peers and blocks do. For each of its outputs there is one, on the chain and at an outpoint of its own, that the node could
+/// claim if the commitment is revoked: the output itself or, if its HTLC transaction stands there, the output of that. It is unspent; or a transaction that the node released took it; or it is in to_local's form,
+/// and the owner took it after the delay. And to_remote and each HTLC's output is unspent; or a transaction that the node released took it; or it is an HTLC that the node had offered, and whoever took it
+/// showed the preimage; or one that was offered to the node, and the block is above the expiry. Otherwise two named byte strings collide.
+pub fn what_becomes_of_outputs()
+    ensures revoked { RevokedAreResolved }
+    ensures peers { PeersAreResolved }
+{}
+
+/// A revoked commitment against everybody: the outputs that the node can claim are worth the whole capacity, less fees, dust and what was rounded off. Each is unspent, or the node took it, or the owner did after
+/// the delay.
+pub fn revoked_against_everybody()
+    ensures { RevokedAgainstEverybody }
+{}
+
+/// One node against everybody: how each of its channels stands on such a chain. Its funding output is not there; or it is unspent, and the node's newest commitment passes all tests of the next block; or a
+/// commitment closed the channel that may do so, and of the peer's commitments each output is accounted for. Otherwise two named byte strings collide.
+pub fn one_against_everybody()
+    ensures { EachChannelStands }
+{
+    commitments_spend();
+}
