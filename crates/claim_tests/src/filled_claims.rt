@@ -1,9 +1,9 @@
-//! A filled claim. The program `closing` fills claims of every kind and several together, with each refusal, and `timing` fills many.
+//! A filled claim, and one that is ready to be signed. The program `closing` fills claims of every kind and several together, with each refusal, and `timing` fills many.
 
 use crate::fixtures::{checked_parts, claimed, key_slots};
 use claim::Claim;
 use digest::hash160;
-use filling::{Filled, fill};
+use filling::{Filled, UnsignedSpend, fill, unsigned_spend};
 use keys::{Base, Key, Signer};
 use lists::ByteString;
 use sighash::programs::key_hash_program;
@@ -45,4 +45,28 @@ fn fills_a_claim(rt: HostRuntime) {
     let signer = Signer::new(rt.alloc(), &[1; 32]);
     let claim = claim(&rt, rt.alloc(), &signer.base(Base::Payment));
     assert!(rt; fills(&rt, rt.alloc(), &claim, &signer));
+}
+
+// The claim, with one output, ready to be signed.
+fn unsigned(rt: &impl Abort, alloc: Global, claim: &Claim) -> UnsignedSpend {
+    let output = TxOut::new(900, ByteString::new(alloc)).expect(rt, "an output");
+    let outputs = vec![in alloc; output].expect(rt, "memory");
+    assert!(rt; outputs.len() <= MAX_OUTPUTS);
+    unsigned_spend(alloc, &[claim], outputs, &[]).expect(rt, "a spend")
+}
+
+// The example of the page of `filling`: whether one signature is missing, of this key, in the first item of the first input.
+fn lacks_one(rt: &impl Abort, alloc: Global, claim: &Claim, key: &Key) -> bool {
+    let spend = unsigned(rt, alloc, claim);
+    match spend.signatures.values() {
+        [missing] => missing.input == 0 && missing.item == 0 && missing.key == *key,
+        _ => false,
+    }
+}
+
+#[test]
+fn lacks_a_signature(rt: HostRuntime) {
+    let key = Signer::new(rt.alloc(), &[1; 32]).base(Base::Payment);
+    let claim = claim(&rt, rt.alloc(), &key);
+    assert!(rt; lacks_one(&rt, rt.alloc(), &claim, &key));
 }

@@ -4,7 +4,7 @@
 //! rule that is stricter than consensus, and which paths no witness meets. It is a pure function, proved not to panic. What it says is tested, not proved. [`Kept`] is a
 //! reader that keeps what passes through it.
 //!
-//! `enforce` writes the notes on standard error, after all that `enforce_words` printed. They change no status.
+//! `script_notes` makes the notes on scripts. `enforce` writes the notes on standard error, after all that `enforce_words` printed. They change no status.
 //!
 //! ```rust
 //! let notes = notes_of(alloc, words, 1, Some(&[]))?; // of `paths 51b3`
@@ -14,19 +14,12 @@
 //! The test `names_opcodes_outside_the_table` of `notes_tests` has these lines.
 #![tactic(auto)]
 
-mod branches;
-mod conflicts;
-mod entries;
 mod forms;
-mod names;
-mod pushes;
 mod readers;
 mod scenarios;
-mod scripts;
-mod signatures;
-mod sizes;
 
 pub use readers::Kept;
+use script_notes::notes;
 use std::alloc::{AllocError, Global};
 
 /// The notes on a call, a line each; empty if there are none. `words` are those of the call (without the program's name), `status` is its exit status, and `input` is all
@@ -38,7 +31,7 @@ pub fn notes_of(
     input: Option<&[u8]>,
 ) -> Result<String, AllocError> {
     match words {
-        [name, text] if name.as_str() == "paths" => scripts::notes(alloc, text.as_str()),
+        [name, text] if name.as_str() == "paths" => notes(alloc, text.as_str()),
         [name] if name.as_str() == "run" && status == 1 => scenario_notes(alloc, input),
         [name, _] if name.as_str() == "node" && status == 1 => scenario_notes(alloc, input),
         _ => Ok(String::new(alloc)),

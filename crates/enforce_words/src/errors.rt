@@ -1,10 +1,8 @@
 // Why input is refused.
 
-use paths::CheckError;
 use scenario::ScenarioError;
-use script::ParseError;
-use std::alloc::{AllocError, Global};
-use std::fmt::Write;
+use script_words::ScriptError;
+use std::alloc::AllocError;
 use thiserror::Error;
 use world::errors::WorldError;
 
@@ -14,15 +12,9 @@ pub enum CommandError {
     /// Memory ran out.
     #[error("NoMemory")]
     NoMemory,
-    /// A text is not hexadecimal.
-    #[error("BadHex")]
-    BadHex,
-    /// The bytes are not a script.
+    /// A message or a script is refused.
     #[error("{0}")]
-    Parse(ParseError),
-    /// The script's paths can't be listed.
-    #[error("{0}")]
-    Check(CheckError),
+    Script(ScriptError),
     /// The input has more than 4,194,304 bytes.
     #[error("TooLong")]
     TooLong,
@@ -35,13 +27,6 @@ pub enum CommandError {
     /// The world of the scenario does not begin.
     #[error("{0}")]
     World(WorldError),
-}
-
-impl CommandError {
-    /// The line that is printed.
-    pub fn line(&self, alloc: Global) -> Result<String, AllocError> {
-        format!(in alloc; "refused {self}\n")
-    }
 }
 
 impl From<AllocError> for CommandError {

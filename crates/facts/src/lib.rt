@@ -4,7 +4,7 @@
 //! [`Stated`] fact, with whether it is to hold, prints exactly its text.
 //!
 //! `script` defines the runs that the facts are about. `paths` writes down as facts what each opcode asks, `claim`
-//! says which of them its slots meet, and `enforce_words` prints them.
+//! says which of them its slots meet, and `script_words` prints them.
 //!
 //! ```
 //! let truth = Stated { fact: Fact::Truth(0), holds: true };
