@@ -8,7 +8,7 @@
 bench/dumps.txt has books of the examples as they stand at the end: of each kind of claim and of HTLC the shortest dump, and one dump with a claim that no script has. Three of them stand there again with
 a close of the channel: before a fulfil, before a signature (which is refused), and twice at the end. bench/unlike_channels.json has the calls of two channels of which each term, amount, height and number is unlike the others: their dumps are made
 anew by bench/histories.py.
-Commitments, balances, HTLCs and amounts are found here by rules of this file's own, from BOLT 2, 3 and 5 and docs/TRACE.md: a commitment is how many updates of each side it has.
+Commitments, balances, HTLCs and amounts are found here by rules of this file's own, from BOLT 2, 3 and 5 and docs/TRACE_DUMP.md: a commitment is how many updates of each side it has.
 """
 import hashlib
 import json

@@ -3,15 +3,19 @@
 
   bench/notes.py    status 1 where a call notes something else
 
-Opcodes have the names of Bitcoin Core's script.h. Which branches end by a rule that is stricter than consensus is worked by hand from BIPs 65, 66, 112, 141 and 147, and from docs/ENFORCE.md. That two facts of a path contradict
+Opcodes have the names of Bitcoin Core's script.h. Which branches end by a rule that is stricter than consensus is worked by hand from BIPs 65, 66, 112, 141 and 147, and from docs/ENFORCE.md. A script whose branches all end as in
+consensus is run by consensus, on items that are unlike: none of its runs may end well. That two facts of a path contradict
 each other is found by trying items that are unlike in their bytes, their length, what they hash to, and whether they are true, a key or a token. The parts of scenarios are those of docs/SCENARIOS.md.
 """
 import json
 import os
+import random
 import subprocess
 import sys
 
 from answers import LIMIT, program
+from consensus import HASHES, goes_past, is_taken
+from histories import hash160
 
 TOP = os.path.dirname(os.path.dirname(os.path.abspath(__file__)))
 
@@ -42,6 +46,7 @@ def opcode_rows():
 KEY = "02" + "11" * 32
 OTHER = "03" + "22" * 32
 THIRD = "02" + "55" * 32
+DER = "300602010102010101"
 LONG = "04" + "11" * 32 + "22" * 32
 NO_KEY = "no key here, which has 33 bytes and begins with 02 or 03"
 NO_SIGNATURE = "no signature here, where signatures are tokens"
@@ -78,6 +83,11 @@ def signature(*sizes):
 CHECK = push(LONG) + "ac"
 # two numbers that differ, so that the branch ends as in consensus
 DEAD = "515288"
+
+
+def branching(count):
+    """Opcodes with this number of branches."""
+    return "" if count == 1 else f"63{branching(count // 2)}67{branching(count - count // 2)}68"
 
 
 def many_keys(count, number):
@@ -151,19 +161,72 @@ ENDS = [
     (f"76a9{push('77' * 19)}88{CHECK}", EXACT),
     (f"76a9{push('77' * 21)}88{CHECK}", EXACT),
     (f"820088{CHECK}", strict((4, LONG, NO_KEY))),
-    (f"8202080288{CHECK}", strict((4, LONG, NO_KEY))),
-    (f"8202090288{CHECK}", EXACT),
+    (f"820208028875{CHECK}", strict((5, LONG, NO_KEY))),
+    (f"820209028875{CHECK}", EXACT),
     (f"82018188{CHECK}", EXACT),
     (f"8202140088{CHECK}", EXACT),
     # ends with a script that has a path too
     (f"63{CHECK}67{push(KEY)}ac68", [end(2, LONG, NO_KEY)]),
     (f"63{push(KEY)}ac67{CHECK}68", [end(5, LONG, NO_KEY)]),
 ]
+ENDS += [
+    # a key of 75 bytes, the longest push
+    (f"{push('07' * 75)}ac", strict((1, "07" * 75, NO_KEY))),
+    # constants in CHECKMULTISIG: a signature that is none, alone and below one of the witness, which is checked first; one in DER
+    (f"00{push('aabb')}51{push(LONG)}51ae", EXACT),
+    (f"{push('aabb')}7c52{push(KEY)}{push(LONG)}52ae", strict((6, LONG, NO_KEY))),
+    (f"00{push(DER)}51{push(LONG)}51ae", strict((5, LONG, NO_KEY))),
+    # no signature of one key is true, and the empty signature is false
+    (f"0000{push(KEY)}51ae64{CHECK}6800", EXACT),
+    (f"0000{push(KEY)}51ae63{CHECK}6800", strict((7, LONG, NO_KEY))),
+    (f"00{push(KEY)}ac63{CHECK}6800", EXACT),
+    (f"00{push(KEY)}ac64{CHECK}6800", strict((5, LONG, NO_KEY))),
+    # the length of a hash, of a constant and of the empty item; what a constant hashes to
+    (f"76a98201148875{CHECK}", strict((7, LONG, NO_KEY))),
+    (f"76a98201158875{CHECK}", EXACT),
+    (f"5582518875{CHECK}", strict((6, LONG, NO_KEY))),
+    (f"5582528875{CHECK}", EXACT),
+    (f"0082008875{CHECK}", strict((6, LONG, NO_KEY))),
+    (f"0082518875{CHECK}", EXACT),
+    (f"00a9{push(hash160(b'').hex())}88{CHECK}", strict((5, LONG, NO_KEY))),
+    (f"51a9{push(hash160(b'').hex())}88{CHECK}", EXACT),
+    # zero with a sign is false, and so is zero of two bytes; one of two bytes is true
+    *((f"{push(it)}63{CHECK}6800", EXACT) for it in ("80", "0080", "0000")),
+    *((f"{push(it)}63{CHECK}6800", strict((3, LONG, NO_KEY))) for it in ("81", "0100", "8000")),
+    # two branches that come to one opcode: each rule is named once, with the bytes of the branch that is followed first
+    (f"63{push(LONG)}67{push('02aa')}68ac", strict((5, LONG, NO_KEY))),
+    (f"63{push(DER)}{push(KEY)}67{push(LONG)}68ac", strict((6, DER, NO_SIGNATURE), (6, LONG, NO_KEY))),
+    # the 64th branch is followed
+    (f"63{branching(63)}67{CHECK}68", [end(branching(63).count("6") + 3, LONG, NO_KEY)]),
+]
 # no signature in consensus (BIP 66): a tag, a length, a negative or padded integer, none, a second tag, more bytes after it
 ENDS += [
     (f"{push(it)}{push(KEY)}ac", EXACT)
     for it in ("310602010102010101", "300702010102010101", "300502010102010101", "300602018002010101", "30070202000102010101", "3005020002010101", "300602010103010101", "30070201010201010101", "30060201010201")
 ]
+
+# ---- what consensus takes
+
+# items of a witness that are unlike in whether they are true, a key, a signature, a length, or what they hash to
+TRIED = [*map(bytes.fromhex, ("", "01", KEY, LONG, DER, "00" * 520)), *HASHES]
+PIECES = ["00", "51", "52", push("80"), push("0100"), push(KEY), push(LONG), push(DER), push("aabb"), *("63 64 67 68 75 76 7c 82 87 88 a9 ac ae b1 b2 63 68 ac ae".split())]
+
+
+def mixed(count):
+    """Scripts of opcodes that are drawn from the pieces, each with an end that is false or has two elements; the same ones in each call."""
+    drawn = random.Random(count)
+    return ["".join(drawn.choices(PIECES, k=drawn.randint(3, 9))) + drawn.choice(("00", "5151", "7500", "5288")) for _ in range(count)]
+
+
+def is_right(code, notes):
+    """Whether notes agree with consensus: where they say that each branch ends as there, no run is taken, and the runs go on after each opcode at which they say that consensus is laxer."""
+    script = bytes.fromhex(code)
+    ends = [int(it.split()[5][:-1]) for it in notes if it.startswith("a branch ends")]
+    well = not (notes == EXACT and is_taken(script, TRIED, 3)) and all(goes_past(script, index, TRIED, 3) for index in ends)
+    if not well:
+        print(f"{code[:400]}\n  by consensus it is not so: {notes}")
+    return well
+
 
 # ---- facts that contradict each other
 
@@ -378,7 +441,10 @@ def main():
     wrong += sum(not is_noted(command, ["paths", code], "", notes, facts) for code, facts, notes in pairs)
     wrong += sum(not is_noted(command, ["run"], given, notes) for given, notes in texts)
     wrong += sum(not is_noted(command, ["node", "1"], given, notes) for given, notes in texts[:1])
-    print(f"notes: {len(scripts)} scripts, {len(pairs)} pairs of facts, {sum(bool(it[2]) for it in pairs)} of them contradictory, {len(texts)} texts that are no scenario: {wrong} noted otherwise")
+    drawn = [(code, noted(subprocess.run([command, "paths", code], capture_output=True))) for code in mixed(600)]
+    wrong += sum(not is_right(code, notes) for code, notes in ENDS)
+    wrong += sum(notes == EXACT and not is_right(code, notes) for code, notes in drawn)
+    print(f"notes: {len(scripts)} scripts, {sum(it[1] == EXACT for it in drawn)} more that end as in consensus, {len(pairs)} pairs of facts, {sum(bool(it[2]) for it in pairs)} of them contradictory, {len(texts)} texts that are no scenario: {wrong} noted otherwise")
     return int(wrong > 0)
 
 

@@ -1,5 +1,6 @@
 #!/usr/bin/env python3
-"""Times the penalty set of a state with many HTLCs and SHA-256 of 1 MiB in one run, and prints both and their ratio. Then the same with half as many HTLCs.
+"""Times the penalty set of a state with many HTLCs and SHA-256 of 1 MiB in one run, and prints both and their ratio. Then the same with half as many HTLCs, and what a tower
+does with that state's commitment by its keys and HTLCs alone (`revoked`): its table is made anew each time, and its outputs claimed, without and with its HTLC transactions'.
 
 Wants the toolchain's `rt`: `.ci/program` proves and builds bench/programs/penalty_costs in a copy of the repository.
 """
@@ -30,6 +31,16 @@ def each(program, line, times):
     return (best - start) / times * 1e3
 
 
+def towers(program, penalties):
+    """What a tower does with the commitment of a state with 483 HTLCs, beside its penalties."""
+    for word, what in (("tower", "the commitment"), ("stages", "the commitment and its HTLC transactions")):
+        line = word + " {} " + state(483) + "\n"
+        print(seconds(program, line.format(1))[1].strip())
+        took = each(program, line, SETS)
+        print(f"a tower, 483 HTLCs    {took:8.2f} ms")
+        bounded(f"what a tower does with {what} of 483 HTLCs to the penalties", took / penalties, 1.5)
+
+
 def state(htlcs):
     """A state of ten million satoshis, half of its HTLCs offered by each side."""
     words = [f"{'AB'[i % 2]}:{(2000 + i) * 1000}:{500 + i}:{i % 256}" for i in range(htlcs)]
@@ -50,6 +61,7 @@ def main():
         print(f"penalties, {htlcs} HTLCs {took[htlcs]:8.2f} ms")
     bounded("the penalties of 966 HTLCs to SHA-256 of 1 MiB", took[966] / hashing, 4)
     bounded("the penalties of 966 HTLCs to those of 483", took[966] / took[483], 2.4)
+    towers(program, took[483])
 
 
 if __name__ == "__main__":

@@ -5,7 +5,7 @@
   bench/traces.py --write    writes them
 
 A page shows a listing as './enforce paths HEX' with its output. The opcodes, what pushes look like, sentences and weights are computed here by rules of this file's own, from
-BIP 141, 144 and 65, 68, 112 and docs/TRACE.md.
+BIP 141, 144 and 65, 68, 112 and docs/TRACE_SCRIPT.md.
 """
 import glob
 import json
@@ -32,14 +32,20 @@ NUMBERS = "".join(f"{len(it) // 2:02x}{it}75" for it in ("ffffff7f", "ffffffff",
 KEY = "02" + "11" * 32
 # CHECKMULTISIG of no signature and 20 keys after 160 opcodes that count, with a SWAP, and after 162: with it and its keys 201 count, and 202
 FEW_KEYS, MANY_KEYS = (f"0000{'7675' * pairs}{swap}21{KEY}{'76' * 19}0114ae" for pairs, swap in ((80, "7c"), (81, "")))
-MORE = [*SIZES, NUMBERS, FEW_KEYS, MANY_KEYS, "", "6351", "5193", "5102ff", "0g", "00", "0181", "01ff75", "02ff0075", "4b" + "00" * 75 + "75", "63" * 3 + "68" * 3, "67", "68", "5167", "51758282",
+# an item that is a preimage and true, one that is true and a preimage, and one of two bytes
+HASH = "5a" * 20
+HASHED, TRUE, BYTES = f"76a914{HASH}88", f"766368a914{HASH}87", "7602aabb88"
+MORE = [*SIZES, NUMBERS, FEW_KEYS, MANY_KEYS, HASHED, TRUE, BYTES, "", "6351", "5193", "5102ff", "0g", "00", "0181", "01ff75", "02ff0075", "4b" + "00" * 75 + "75", "63" * 3 + "68" * 3, "67", "68", "5167", "63676768", "51758282",
         "01000000", "7675" * 101, "51" * 1001, "636768" * 7, "51" * 10001]
-REFUSED = {"6351": "OpenBranch", "5193": "BadOpcode 1", "5102ff": "Truncated 1", "0g": "BadHex", "67": "OpenBranch", "68": "OpenBranch", "5167": "OpenBranch", "51758282": "Undecided 3",
+REFUSED = {"6351": "OpenBranch", "5193": "BadOpcode 1", "5102ff": "Truncated 1", "0g": "BadHex", "67": "OpenBranch", "68": "OpenBranch", "5167": "OpenBranch", "63676768": "OpenBranch", "51758282": "Undecided 3",
            "7675" * 101: "TooManyOps", MANY_KEYS: "TooManyOps", "51" * 1001: "TooTall", "636768" * 7: "TooManyPaths", "51" * 10001: "TooLong"}
 LISTED = {
     **{it: [f"path 0 arity 1 counted {counted} height 2 lock - age -", "  truth 0 yes"] for it, counted in zip(SIZES, (4, 4, 4, 7))},
     NUMBERS: ["path 0 arity 1 counted 9 height 2 lock - age -", "  truth 0 yes"],
     FEW_KEYS: ["path 0 arity 0 counted 201 height 23 lock - age -"],
+    HASHED: ["path 0 arity 1 counted 3 height 3 lock - age -", f"  hash 0 {HASH} yes", "  truth 0 yes"],
+    TRUE: ["path 0 arity 1 counted 5 height 2 lock - age -", "  truth 0 yes", f"  hash 0 {HASH} yes", "path 1 arity 1 counted 5 height 2 lock - age -", "  truth 0 no", f"  hash 0 {HASH} yes"],
+    BYTES: ["path 0 arity 1 counted 2 height 3 lock - age -", "  is 0 aabb yes", "  truth 0 yes"],
     "": ["path 0 arity 1 counted 0 height 1 lock - age -", "  truth 0 yes"],
     "00": [],
     "0181": ["path 0 arity 0 counted 0 height 1 lock - age -"],

@@ -187,6 +187,8 @@ def penalties(state, privates, curve, trace, is_one=False, is_legacy=False):
     keys = commitment.keys_of(curve, state.bases, point, is_legacy)
     signing = commitment.privates_of(curve, state.bases, privates, state.secret, point, is_legacy)
     takes, others = found_in(state, commitment.table_of(keys, state.delay_blocks, state.htlcs))
+    # the judge lists all scripts by one call
+    trace.paths([it.known.script for it in takes])
     for batch in batches(takes, state, is_one):
         transaction, fee = unsigned(state, batch)
         if transaction is not None:
