@@ -93,7 +93,9 @@ class Browser:
     def open(self, path, wide, high, dark=False, scripts=True, seconds=60):
         """Opens a file in a window of this size, and gives the seconds until it is loaded and, where its scripts run, drawn."""
         self.ask("Emulation.setDeviceMetricsOverride", width=wide, height=high, deviceScaleFactor=1, mobile=False)
-        self.ask("Emulation.setEmulatedMedia", features=[{"name": "prefers-color-scheme", "value": "dark" if dark else "light"}])
+        # with reduced motion nothing is still moving when it is looked at
+        wanted = {"prefers-color-scheme": "dark" if dark else "light", "prefers-reduced-motion": "reduce"}
+        self.ask("Emulation.setEmulatedMedia", features=[{"name": name, "value": value} for name, value in wanted.items()])
         self.events.clear()
         started, until = time.monotonic(), time.monotonic() + seconds
         self.ask("Page.navigate", url=f"file://{path}")

@@ -2,7 +2,7 @@
 (() => {
   const style = document.createElement('style');
   // everything is laid out at once: nothing sticks, and nothing has to be scrolled in a part of the page
-  style.textContent = '.controls, .heads, .state { position: static !important; max-height: none !important; overflow: visible !important }';
+  style.textContent = '.controls, .heads, .events, .state { position: static !important; max-height: none !important; overflow: visible !important }';
   document.head.append(style);
   const faults = [], texts = [];
   const add = (box, text, holder) => {

@@ -4,10 +4,11 @@
   const data = JSON.parse(document.getElementById('data').textContent);
   const by = (id) => document.getElementById(id);
   const slider = by('event'), said = by('said'), rows = document.querySelector('.rows'), sequence = document.querySelector('svg.sequence');
-  const count = data.rows.length, WINDOW = 200;
+  const count = data.rows.length, WINDOW = 200, LONG = 80;
+  const controls = document.querySelector('.controls'), box = document.querySelector('.events'), heads = document.querySelector('.heads');
   const calm = matchMedia('(prefers-reduced-motion: reduce)');
   const places = data.cells.map(() => []);
-  let first = data.first, last = first + rows.children.length - 1, now = -1;
+  let first = 0, last = rows.children.length - 1, now = -1;
 
   // The last value of a cell that came at event n or before: cells are lists of events and values in turn.
   const value = (cell, n) => {
@@ -21,6 +22,13 @@
   const shown = [];
   for (const place of document.querySelectorAll('[data-c]')) places[place.dataset.c].push(place);
 
+  // A tree ends below its last part that is there at the moment.
+  const trees = [...document.querySelectorAll('svg.tree')].map((tree) => [tree, [...tree.children].filter((it) => ['g', 'text'].includes(it.tagName))]);
+  const trim = ([tree, parts]) => {
+    const last = parts.findLast((it) => !it.classList.contains('absent')).getBBox();
+    tree.setAttribute('height', Math.ceil(last.y + last.height) + 4);
+  };
+
   const fill = (n) => {
     data.cells.forEach((cell, number) => {
       const text = value(cell, n);
@@ -32,6 +40,7 @@
         else place.textContent = part;
       }
     });
+    for (const tree of trees) trim(tree);
     const x = (100 * (n + 1.5) / (count + 1)).toFixed(3) + '%';
     for (const line of document.querySelectorAll('.nowline')) { line.setAttribute('x1', x); line.setAttribute('x2', x); }
   };
@@ -49,6 +58,16 @@
     by('window').textContent = `Events ${first.toLocaleString('en')} to ${last.toLocaleString('en')} of ${count.toLocaleString('en')} are drawn.`;
   };
 
+  // Other parts stick below the slider.
+  const settle = () => document.documentElement.style.setProperty('--controls', controls.offsetHeight + 'px');
+
+  // The sentence of an event. Where it is long, it is told without its details, which stand in the row.
+  const brief = (row, words) => {
+    if (words.length <= LONG) return words;
+    const main = [...row.querySelectorAll('text.said')].map((line) => line.textContent).join(' ');
+    return words.slice(0, words.indexOf(': ') + 2) + main;
+  };
+
   const go = (n, scroll) => {
     n = Math.max(0, Math.min(count - 1, n));
     if (n === now) return;
@@ -59,15 +78,21 @@
     row.setAttribute('class', 'row now');
     fill(n);
     const words = row.querySelector('title').textContent;
-    said.textContent = words;
+    said.textContent = brief(row, words);
+    settle();
     slider.value = n;
     slider.setAttribute('aria-valuetext', words);
     if (scroll) show(row);
   };
 
+  // Brings a row into sight: in a narrow window within the box of the events, and else within the window.
   const show = (row) => {
-    const box = row.getBoundingClientRect(), top = document.querySelector('.controls').offsetHeight + 40;
-    if (box.top < top || box.bottom > innerHeight - 20) scrollBy({ top: box.top - innerHeight / 2, behavior: calm.matches || data.rows.length > 200 ? 'auto' : 'smooth' });
+    const place = row.getBoundingClientRect(), frame = box.getBoundingClientRect();
+    const boxed = getComputedStyle(box).overflowY === 'auto';
+    const top = (boxed ? frame.top : controls.offsetHeight) + heads.offsetHeight, bottom = boxed ? frame.bottom : innerHeight - 20;
+    if (place.top >= top && place.bottom <= bottom) return;
+    const behavior = calm.matches || count > WINDOW ? 'auto' : 'smooth';
+    (boxed ? box : window).scrollBy({ top: (place.top + place.bottom - top - bottom) / 2, behavior });
   };
 
   slider.addEventListener('input', () => go(Number(slider.value), true));
@@ -90,10 +115,8 @@
       go(Math.floor((click.clientX - box.left) / box.width * (count + 1)) - 1, true);
     });
   }
-  const heads = document.querySelector('.heads');
-  const settle = () => { heads.style.top = document.querySelector('.controls').offsetHeight + 'px'; };
   addEventListener('resize', settle);
   document.documentElement.classList.remove('noscript');
-  settle();
-  go(data.now, false);
+  document.querySelector('.legend').open = innerWidth >= 960;
+  go(0, false);
 })();

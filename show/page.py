@@ -12,7 +12,9 @@ from story import many, satoshis
 
 HERE = pathlib.Path(__file__).resolve().parent
 WINDOW = 200
-NARROW, WIDE, OPCODES = 328, 820, 328
+# the widths of a tree of paths: for a phone, for a window of up to 1,239 pixels, and for a wider one
+TREES = (("narrow", 328), ("medium", 560), ("wide", 820))
+OPCODES = 328
 
 
 def part(name):
@@ -47,47 +49,74 @@ def definitions():
     return f'<svg width="0" height="0" style="position:absolute" aria-hidden="true">{sequence.markers()}{band.stripes()}</svg>'
 
 
-def scenario(story):
-    """The page of a scenario."""
+def scenario(story, name=""):
+    """The page of a scenario. Without scripts it shows the last event that is drawn; its script begins at the first one."""
     count = len(story.rows)
     rows = [sequence.drawn(row, len(story.channels)) for row in story.rows]
     now = min(count, WINDOW) - 1
-    title = f"A scenario of {many(count, 'event')} and {many(len(story.channels), 'channel')}"
+    size = f"{many(count, 'event')} and {many(len(story.channels), 'channel')}"
+    left, right = left_part(story, rows, now), right_part(story, now)
+    inside = [definitions(), headline(name or f"A scenario of {size}", size if name else ""), "<main>", controls(story, now), '<div class="parts">', *left, *right, "</div>", "</main>"]
+    if count:
+        inside += [data(story, rows), f"<script>\n{part('page.js')}</script>"]
+    return document(name or f"A scenario of {size}", inside)
+
+
+def headline(title, more):
+    """The head of a page: its name, and what it is of where that is not its name."""
+    more = f'<p class="soft">{escaped(more[:1].upper() + more[1:])}.</p>' if more else ""
+    return f"<header><h1>{escaped(title)}</h1>{more}</header>"
+
+
+def right_part(story, now):
+    """How all stands: who owns the money, the outputs, and the rest in words."""
     bands = [band.picture(story, channel, now)[1] for channel in story.channels]
     trees = [(channel, outputs.picture(story, channel, now)[1]) for channel in story.channels]
-    left = [*left_part(story, rows, now)]
-    right = ['<section class="state" aria-label="How all stands after this event" tabindex="0">', "<h2>Who owns the money</h2>"]
-    right += ['<p class="soft">Off the chain by each side\'s newest commitment, before its fees. On the chain an output is undecided while both sides can spend it.</p>', *bands]
-    right.append(panel(story, now))
-    for channel, tree in trees:
-        right += [f"<h2>Outputs of channel {channel.number}</h2>", tree]
-    right.append("</section>")
-    head = [f"<header><h1>{escaped(title)}</h1>", f'<p class="soft">{escaped(ending(story))}</p></header>']
-    inside = [definitions(), *head, "<main>", controls(story, now), '<div class="parts">', *left, *right, "</div>", "</main>", foot()]
-    if count:
-        inside += [data(story, rows, now), f"<script>\n{part('page.js')}</script>"]
-    return document(title, inside)
+    found = ['<section class="state" aria-label="How all stands after this event" tabindex="0">', "<h2>Who owns the money</h2>", *bands]
+    found.append('<p class="soft">Off the chain each side has what its newest commitment gives it, before fees. On the chain an output is undecided while both sides can spend it.</p>')
+    for number, (channel, tree) in enumerate(trees):
+        found.append(f"<h2>Outputs of channel {channel.number}</h2>")
+        if number == 0:
+            found.append('<p class="soft">The letters say who can spend an output, and the lines below it how, and from which block on. A pale one is spent.</p>')
+        found.append(tree)
+    return [*found, panel(story, now), f'<p class="soft">{escaped(ending(story))}</p>', "</section>"]
 
 
 def left_part(story, rows, now):
-    """The sequence, or the first part of a long one."""
+    """The sequence, or the first part of a long one. In a narrow window it scrolls in a box of its own."""
     high, picture = sequence.picture(story, rows[:WINDOW], 0, now)
     note = f"Events 0 to {WINDOW - 1} of {len(rows):,} are drawn." if len(rows) > WINDOW else ""
-    choose = '<span class="more">The slider, the arrow keys or a click choose an event.</span>'
     heads = element("svg", *sequence.heads(), width="100%", height=sequence.HEAD, aria_hidden="true")
-    return ['<section aria-label="What happens">', "<h2>What happens</h2>", f'<p class="soft"><span id="window">{note}</span> {choose}</p>', f'<div class="heads">{heads}</div>', picture, "</section>"]
+    box = ['<div class="events" tabindex="-1">', f'<div class="heads">{heads}</div>', picture, "</div>"]
+    return ['<section aria-label="What happens">', "<h2>What happens</h2>", legend(), f'<p class="soft" id="window">{note}</p>', *box, "</section>"]
+
+
+def legend():
+    """What the signs of the sequence mean. The script of the page folds it in a narrow window."""
+    arrow = {"x1": 2, "x2": 34, "y1": 8, "y2": 8, "marker_end": "url(#head-A)"}
+    signs = [
+        (element("circle", cx=4, cy=8, r=3, class_="dot A") + element("line", **arrow, class_="arrow way A"), "a message leaves"),
+        (element("line", **arrow, class_="arrow A"), "a message arrives, or a transaction or a look reaches the chain"),
+        (element("rect", x=13, y=3, width=10, height=10, rx=2, class_="mark A"), "a side keeps penalties or takes jobs"),
+        (element("rect", x=2, y=2, width=32, height=12, rx=4, class_="block"), "blocks"),
+        ("".join(element("line", x1=13, y1=start, x2=23, y2=16 - start, class_="cross") for start in (3, 13)), "refused"),
+    ]
+    rows = "".join(f"<li>{element('svg', sign, width=36, height=16, aria_hidden='true')}<span>{said}</span></li>" for sign, said in signs)
+    more = "Blue and A: side A. Orange and B: side B. HTLC A0 is the first one that A offered in its channel."
+    choose = ' <span class="more">The slider, the arrow keys, Home, End or a click choose an event.</span>'
+    return f'<details class="legend" open><summary>Signs</summary><ul>{rows}</ul><p>{more}{choose}</p></details>'
 
 
 def controls(story, now):
     """The slider over the events, and the sentence of the event that it is on."""
     if not story.rows:
         return '<p class="soft">There are no events.</p>'
-    said = escaped(sequence.heard(story.rows[now], len(story.channels)))
+    said, brief = (escaped(tell(story.rows[now], len(story.channels))) for tell in (sequence.heard, sequence.brief))
     return (
         '<div class="controls"><div class="bar"><button id="before" type="button" aria-label="The event before">&#8592;</button>'
         f'<input id="event" type="range" min="0" max="{len(story.rows) - 1}" value="{now}" step="1" aria-label="Event" aria-valuetext="{said}">'
         '<button id="after" type="button" aria-label="The next event">&#8594;</button></div>'
-        f'<output id="said" for="event" aria-live="polite">{said}</output></div>'
+        f'<output id="said" for="event" aria-live="polite">{brief}</output></div>'
     )
 
 
@@ -119,15 +148,7 @@ def ending(story):
     return said + (f" {many(refused, 'event')} {'was' if refused == 1 else 'were'} refused." if refused else "")
 
 
-def foot():
-    return (
-        "<footer><p>The arrow keys, Home and End move over the events, as the slider does. Blue and the letter A mean side A, orange and the letter B side B. "
-        "A dashed arrow is a message that leaves, a whole one a message that arrives, or a transaction or a look that reaches the chain; a square is something that a side does for itself, a cross a refusal. "
-        "HTLC A0 is the first one that A offered in its channel.</p></footer>"
-    )
-
-
-def data(story, rows, now):
+def data(story, rows):
     """All rows and cells, for the script of the page."""
     texts, numbers, cells = [], {}, []
     for history in story.cells.histories:
@@ -139,27 +160,27 @@ def data(story, rows, now):
                 texts.append(value)
             line += [event, numbers[value]]
         cells.append(line)
-    text = json.dumps({"first": 0, "now": now, "rows": rows, "texts": texts, "cells": cells}, separators=(",", ":"), ensure_ascii=False)
+    text = json.dumps({"rows": rows, "texts": texts, "cells": cells}, separators=(",", ":"), ensure_ascii=False)
     return f'<script type="application/json" id="data">{text.replace("<", chr(92) + "u003c")}</script>'
 
 
-def scripts(objects):
+def scripts(objects, name=""):
     """The page of scripts."""
-    title = headed(objects[0]) if len(objects) == 1 else many(len(objects), "script")
-    inside = [f"<header><h1>{escaped(title)}</h1></header>", "<main>"]
+    size = headed(objects[0]) if len(objects) == 1 else many(len(objects), "script")
+    inside = [headline(name or size, size if name else ""), "<main>"]
     for number, script in enumerate(objects):
         if len(objects) > 1:
             inside.append(f"<h2>{number}: {headed(script)}</h2>")
         inside += ['<div class="parts script">', '<section aria-label="Opcodes">', "<h2>Opcodes</h2>", script_tree.opcodes(script, OPCODES), "</section>"]
         inside += ['<section aria-label="Paths">', "<h2>Paths</h2>"]
         if "paths" in script:
-            for kind, wide in (("narrow", NARROW), ("wide", WIDE)):
+            for kind, wide in TREES:
                 inside.append(f'<div class="{kind}">{script_tree.paths(script, wide)}</div>')
         else:
-            inside.append(f"<p>{escaped(script_tree.refusal(script))}</p>")
+            inside.append("<p>None are listed: the script is refused.</p>")
         inside += ["</section>", "</div>"]
     inside += ["</main>"]
-    return document(title, inside)
+    return document(name or size, inside)
 
 
 def headed(script):

@@ -44,8 +44,11 @@ def size_of(script):
 
 
 def refusal(script):
-    where = "" if script["byte"] is None else f" at byte {script['byte']}"
-    return f"refused: {script['refused']}{where}"
+    said, byte = script["refused"], script["byte"]
+    if byte is None:
+        return f"refused: {said}"
+    # some refusals have the byte after their name
+    return f"refused: {said.removesuffix(f' {byte}')} at byte {byte}"
 
 
 def same(fact):

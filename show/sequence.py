@@ -2,6 +2,7 @@
 from drawing import element, figure, lines, told, words
 from story import PEER, many
 
+LONG = 80
 PLACES = {"A": 17, "chain": 56, "B": 95}
 GUTTER = 42
 ROOM = 328 - GUTTER - 8
@@ -55,8 +56,14 @@ def drawn(row, channels):
 
 def heard(row, channels):
     place = f", channel {row.channel}" if channels > 1 and row.channel is not None else ""
-    said = "; ".join([row.said, *row.more]).replace("; takes", " takes", 1).replace("; of", " of", 1)
+    said = "; ".join([row.said, *row.more]).replace("; takes", " takes", 1).replace("; of", " of", 1).replace("; until", " until", 1)
     return f"Event {row.number}{place}: {said}"
+
+
+def brief(row, channels):
+    """The sentence of an event. Where it is long, it is told without its details, as the page's script does."""
+    whole = heard(row, channels)
+    return whole if len(whole) <= LONG else whole[: whole.index(": ") + 2] + row.said
 
 
 def marks(row, y):

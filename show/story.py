@@ -354,7 +354,7 @@ def wanted(event):
 
 def tell_offer(story, line, event, before):
     it = line["htlc"]
-    return f"{event[1]} offers HTLC {event[1]}{it['id']}: {millisatoshis(it['amount'])} until {it['expiry']:,}", [], [("sends", event[1])]
+    return f"{event[1]} offers HTLC {event[1]}{it['id']}: {millisatoshis(it['amount'])}", [f"until height {it['expiry']:,}"], [("sends", event[1])]
 
 
 def tell_fulfil(story, line, event, before):

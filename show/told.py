@@ -54,7 +54,7 @@ def channel(it):
             held = it[name]
             lines.append(f"  {owner}'s commitment {held['number']}: {side} has {millisatoshis(held['balance'])}, {peer} {millisatoshis(held['peer_balance'])}, at a feerate of {held['feerate']:,}.")
     for htlc in it["htlcs"]:
-        lines.append(f"  HTLC {htlc['id']}, {htlc['direction']}: {millisatoshis(htlc['amount'])} until {htlc['expiry']:,}, in {commitments(htlc)}.")
+        lines.append(f"  HTLC {htlc['id']}, {htlc['direction']}: {millisatoshis(htlc['amount'])} until height {htlc['expiry']:,}, in {commitments(htlc)}.")
     for close in it["closes"]:
         lines += closing(close, side, peer)
     return lines
