@@ -3,6 +3,7 @@
 
   docs/reading.py WORD             WORD is a public function or law, as world::World::play or world::laws::claims_spend,
                                    or a word of the definitions, as Rattle.world.specs.Theorem.HoldsAt
+  docs/reading.py --beyond WORD.. WORD   the list of the last word, without what stands in the lists of the words before it
   docs/reading.py --facts WORD..   which facts show, of each relation of these words' lists, where it holds and where it does not; crate::module::* is each function there
 
 It walks from word to word. It begins with the word itself, of a function with its clauses (requires and ensures)
@@ -518,7 +519,7 @@ def functions(file):
         head = re.sub(r"<[^<>]*(?:<[^<>]*>[^<>]*)*>", "", it[0])
         kind = re.search(r"(?:\bfor\s+|impl\s+|trait\s+)(?:\w+::)*(\w+)[^{]*\{$", head)
         blocks.append((it.start(), closing(text, it.end() - 1), kind[1] if kind else ""))
-    for it in re.finditer(r"^ *(?:pub(?:\([a-z]+\))? )?(?:const )?fn (\w+)", text, re.M):
+    for it in re.finditer(r"^ *(?:pub(?:\([a-z]+\))? )?(?:const )?(?:extern \"C\" )?fn (\w+)", text, re.M):
         kind, ghost = "", heads_of(text)
         for start, stop, name in blocks:
             if start < it.start() < stop:
@@ -591,23 +592,28 @@ def each_of(word):
 
 
 def main(words):
-    wants_facts = words[:1] == ["--facts"]
-    words = words[wants_facts:]
-    if not words or words[0].startswith("-") or len(words) > 1 and not wants_facts:
+    asked = words[0] if words[:1] in (["--facts"], ["--beyond"]) else ""
+    words = words[bool(asked) :]
+    if not words or words[0].startswith("-") or len(words) > 1 and not asked:
         print(__doc__.strip())
         return 0 if words in (["-h"], ["--help"]) else 2
-    walk = Walk()
-    if wants_facts:
+    walk, known = Walk(), Walk()
+    if asked == "--facts":
         return report_facts(walk, [walked(it, walk) for word in words for it in each_of(word)])
-    report(walk, walked(words[0], walk))
+    for word in words[:-1]:
+        walked(word, known)
+    report(walk, walked(words[-1], walk), known)
     return 0
 
 
-def report(walk, root):
+def report(walk, root, known):
+    """Prints the list of a word, without what another walk has seen."""
     sums = {".antt": [0, 0, 0], ".rt": [0, 0, 0]}
     rows, comments = [], 0
     for file in walk.files(root):
-        own = walk.in_order(file)
+        own = [it for it in walk.in_order(file) if it not in known.seen]
+        if not own:
+            continue
         lines = sum(walk.seen[it] for it in own)
         rows.append(f"{lines:5}  {file}: {', '.join(it[1] for it in own)}")
         comments += sum(definitions(file)[it[1]].comments for it in own) if file.endswith(".antt") else 0
@@ -621,7 +627,9 @@ def report(walk, root):
         print(f"{lines:5}  lines of {count} {what} in {files} {kind} files")
     print(f"{sum(it[0] for it in sums.values()):5}  lines together")
     for crate in sorted(walk.kit):
-        print(f"of the kit, {crate}: {', '.join(sorted(walk.kit[crate]))}")
+        words = sorted(walk.kit[crate] - known.kit.get(crate, set()))
+        if words:
+            print(f"of the kit, {crate}: {', '.join(words)}")
 
 
 if __name__ == "__main__":
