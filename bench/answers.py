@@ -39,13 +39,13 @@ path 0: 1 items, 12 weight units (12 with tokens)
     0  PUSH 81 (number -1)
 refused BadOpcode 2 at byte 2
     0  PUSH - (the empty item, number 0)
-no path: no witness satisfies this script
+no path: by the rules here no witness satisfies this script
 refused BadHex
 """
 PAGE = """    0  PUSH 0aff (number -32522)
     3  DROP
     4  PUSH - (the empty item, number 0)
-no path: no witness satisfies this script
+no path: by the rules here no witness satisfies this script
 """
 # numbers of four, of five and of six bytes in a nested branch: six are no number
 NUMBERS = """    0  IF

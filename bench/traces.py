@@ -145,10 +145,10 @@ def fact_object(line):
         n = int(words[1])
         one.update(role="when", value=n)
         if kind == "lock":
-            at_time = f"at the time {n} in seconds since 1970, which this profile never reaches"
+            at_time = f"once the median time past is above {n} seconds since 1970 (BIP 113)"
             one["says"] = f"in block {n + 1} at the earliest" if n < 500_000_000 else at_time
         else:
-            units = " units of 512 seconds, which this profile never reaches" if n >> 22 & 1 else " blocks"
+            units = " units of 512 seconds of median time past (BIP 68)" if n >> 22 & 1 else " blocks"
             one["says"] = f"after {n & 0xFFFF}{units}"
         return one
     one["slots"] = [int(it) for it in words[1].split(",")]

@@ -53,11 +53,11 @@ SAYS = {
     "TooManyOps": "more than 201 opcodes are counted",
     "StackTooTall": "more than 1,000 elements would stand on the stack",
     "ItemTooLong": "an item of the witness has more than 520 bytes",
-    "Truncated 1": "the last item of the witness is not a script",
+    "Truncated 1": "the last item of the witness is no script of the opcodes here",
     "FailedCheck Verify": "the two elements on top differ",
     "FailedCheck TokenForm": "a signature is neither empty nor a token of 66 bytes",
-    "FailedCheck LockTime": "the transaction's lock time does not reach the one on top, or the input is final",
-    "FailedCheck Sequence": "the input's sequence does not reach the relative lock on top",
+    "FailedCheck LockTime": "the lock on top is negative, of the other kind or above the transaction's lock time, or the input is final",
+    "FailedCheck Sequence": "the version is below 2, the input's sequence is disabled, or the relative lock on top is negative, of the other kind or above it",
     "OpenBranch": "an IF, ELSE or ENDIF stands alone",
     "NotOneValue": "the run ends with another number of elements than one",
     "FalseEnd": "the run ends with a false element, as after a signature that is not the key's over the digest",
@@ -65,7 +65,7 @@ SAYS = {
     "NotTwoItems": "the program has the hash of a key, and the witness has not two items",
     "NoScript": "the program has the hash of a script, and the witness has no item",
     "OtherScript": "the last item of the witness has another hash than the program",
-    "BadOpcode 1": "the last item of the witness is not a script",
+    "BadOpcode 1": "the last item of the witness is no script of the opcodes here",
 }
 
 

@@ -83,10 +83,10 @@ others i j = refl
 -- the greatest lock by height and the least by time, the greatest number of blocks, and units of time
 locks : map sentence_of (yes (Lock 499999999) ∷ yes (Lock 500000000) ∷ yes (Age 0xffff) ∷ yes (Age 0x10003) ∷ yes (Age 0x400003) ∷ []) ≡
     (codes "in block " ++ (decimal 500000000 ++ codes " at the earliest"))
-    ∷ (codes "at the time " ++ (decimal 500000000 ++ codes " in seconds since 1970, which this profile never reaches"))
+    ∷ (codes "once the median time past is above " ++ (decimal 500000000 ++ codes " seconds since 1970 (BIP 113)"))
     ∷ (codes "after " ++ (decimal 65535 ++ codes " blocks"))
     ∷ (codes "after " ++ (decimal 3 ++ codes " blocks"))
-    ∷ (codes "after " ++ (decimal 3 ++ codes " units of 512 seconds, which this profile never reaches"))
+    ∷ (codes "after " ++ (decimal 3 ++ codes " units of 512 seconds of median time past (BIP 68)"))
     ∷ []
 locks = refl
 

@@ -44,19 +44,19 @@ abbrev pub item_words : List ℕ → List ℕ
 item_words [] = codes "the empty item"
 item_words (b ∷ bytes) = codes "the bytes " ++ hex_text (b ∷ bytes)
 
--- an output that is locked to height n is spent in block n + 1 at the earliest (BIP 65)
+-- An output that is locked to height n is spent in block n + 1 at the earliest, and one that is locked to a time in a block after which the median time of eleven blocks is past it (BIP 65, 113)
 abbrev pub lock_words : ℕ → List ℕ
 lock_words n =
     if nat_lt n LOCKTIME_THRESHOLD
     then codes "in block " ++ (decimal (n + 1) ++ codes " at the earliest")
-    else codes "at the time " ++ (decimal n ++ codes " in seconds since 1970, which this profile never reaches")
+    else codes "once the median time past is above " ++ (decimal n ++ codes " seconds since 1970 (BIP 113)")
 
 -- the low 16 bits count blocks, or units of 512 seconds where bit 22 is set (BIP 68)
 abbrev pub age_words : ℕ → List ℕ
 age_words n =
     if n / 0x400000 % 2 == 0
     then codes "after " ++ (decimal (n % 0x10000) ++ codes " blocks")
-    else codes "after " ++ (decimal (n % 0x10000) ++ codes " units of 512 seconds, which this profile never reaches")
+    else codes "after " ++ (decimal (n % 0x10000) ++ codes " units of 512 seconds of median time past (BIP 68)")
 
 -- the words about one slot
 abbrev pub slot_words : ℕ → List ℕ → List ℕ → List ℕ

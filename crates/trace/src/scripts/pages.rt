@@ -43,7 +43,7 @@ fn tell_path(line: &mut Page, path: &Path, number: usize, size: usize) {
 /// Writes the paths through a script of this number of bytes, each with its number.
 pub fn tell_paths(line: &mut Page, paths: &[Path], size: usize) {
     if paths.is_empty() {
-        line.push("no path: no witness satisfies this script\n");
+        line.push("no path: by the rules here no witness satisfies this script\n");
     }
     for (number, path) in paths.iter().enumerate() {
         tell_path(line, path, number, size);

@@ -214,8 +214,8 @@ fn write_lock<W: fmt::Write>(f: &mut fmt::Formatter<W>, lock: u64, holds: bool) 
     if lock < LOCKTIME_THRESHOLD {
         return write_number(f, "in block ", lock + 1, " at the earliest");
     }
-    let never = " in seconds since 1970, which this profile never reaches";
-    write_number(f, "at the time ", lock, never)
+    let start = "once the median time past is above ";
+    write_number(f, start, lock, " seconds since 1970 (BIP 113)")
 }
 
 // Writes that a relative lock holds (BIP 112), or that its check fails.
@@ -230,8 +230,8 @@ fn write_age<W: fmt::Write>(f: &mut fmt::Formatter<W>, age: u32, holds: bool) ->
     if age / 0x40_0000 % 2 == 0 {
         return write_number(f, "after ", units, " blocks");
     }
-    let never = " units of 512 seconds, which this profile never reaches";
-    write_number(f, "after ", units, never)
+    let unit = " units of 512 seconds of median time past (BIP 68)";
+    write_number(f, "after ", units, unit)
 }
 
 /// A fact, printed as a sentence.

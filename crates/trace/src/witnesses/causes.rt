@@ -17,9 +17,9 @@ pub fn cause_sentence(cause: Cause) -> &'static str {
         Cause::FailedCheck(Kind::KeyForm) => "a key is not 33 bytes that begin with 02 or 03",
         Cause::FailedCheck(Kind::Extra) => "the extra item of CHECKMULTISIG is not empty",
         Cause::FailedCheck(Kind::LockTime) =>
-            "the transaction's lock time does not reach the one on top, or the input is final",
+            "the lock on top is negative, of the other kind or above the transaction's lock time, or the input is final",
         Cause::FailedCheck(Kind::Sequence) =>
-            "the input's sequence does not reach the relative lock on top",
+            "the version is below 2, the input's sequence is disabled, or the relative lock on top is negative, of the other kind or above it",
         Cause::OpenBranch => "an IF, ELSE or ENDIF stands alone",
         Cause::TooManyOps => "more than 201 opcodes are counted",
         Cause::StackTooTall => "more than 1,000 elements would stand on the stack",

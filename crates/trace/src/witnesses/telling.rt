@@ -125,7 +125,10 @@ fn tell_fault(line: &mut Page, form: Form, fault: &Fault) {
             "OtherScript",
             "the last item of the witness has another hash than the program",
         ),
-        Fault::BadScript(_) => ("", "the last item of the witness is not a script"),
+        Fault::BadScript(_) => (
+            "",
+            "the last item of the witness is no script of the opcodes here",
+        ),
     };
     line.write(before, &[Text(name)]);
     if let Fault::BadScript(error) = fault {
