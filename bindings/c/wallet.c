@@ -27,6 +27,13 @@ static bool is_form(const uint8_t *script, size_t length, const enforce_form *fo
 }
 
 /* Prints who can spend an output with this script, in short. */
+/* Whether a path has a relative lock in units of 512 seconds (BIP 68, bit 22), which stands among its facts alone. */
+static int is_timed(const enforce_fact_row *facts, size_t count) {
+    for (size_t k = 0; k < count; k++)
+        if (facts[k].kind == ENFORCE_FACT_AGE && facts[k].holds && facts[k].number >> 22 & 1) return 1;
+    return 0;
+}
+
 static int tell(const uint8_t *script, size_t length) {
     static enforce_path_row paths[64];
     static enforce_fact_row facts[4096];
@@ -37,8 +44,12 @@ static int tell(const uint8_t *script, size_t length) {
         printf("not listed: %s %zu\n", enforce_name(status), answer.number);
         return 1;
     }
-    for (size_t k = 0; k < answer.paths; k++)
-        printf("path %zu: %zu items, after %u blocks, not before %llu\n", k, paths[k].arity, paths[k].age, (unsigned long long)paths[k].lock);
+    for (size_t k = 0; k < answer.paths; k++) {
+        printf("path %zu: %zu items", k, paths[k].arity);
+        if (paths[k].has_age) printf(", after %u blocks", paths[k].age);
+        if (paths[k].has_lock) printf(", not before %llu", (unsigned long long)paths[k].lock);
+        printf("%s\n", is_timed(facts + paths[k].first_fact, paths[k].facts) ? ", after units of 512 seconds" : "");
+    }
     return 0;
 }
 

@@ -105,7 +105,7 @@ class _Rows:
 
 
 def paths(script: bytes) -> List[Path]:
-    """Every way to spend an output with this script, in the text order of its branches, and nothing else.
+    """Every way to spend an output with this script by the rules here, in the text order of its branches, and nothing else. Consensus is laxer: it may take a spend by a branch that is not listed.
 
     Proved of enforce_script_list: whatever meets a listed path runs clean, and whatever runs clean meets a listed path. Raises Refused.
     """

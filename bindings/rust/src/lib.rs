@@ -182,7 +182,8 @@ impl Rows {
     }
 }
 
-/// Every way to spend an output with this script, in the text order of its branches, and nothing else.
+/// Every way to spend an output with this script by the rules of the machine here, in the text order of its branches, and nothing else. Consensus is
+/// laxer: it may take a spend by a branch that is not listed.
 ///
 /// Proved (`enforce_script_list`): whatever meets a listed path runs clean, with that path's counted opcodes and height, and whatever runs clean meets a
 /// listed path. A refusal is the first fault from the left of the bytes, or else that of the listing.

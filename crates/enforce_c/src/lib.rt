@@ -51,8 +51,9 @@ pub extern "C" fn enforce_abi() -> u32
     ABI
 }
 
-/// Lists every way to spend an output with this script, and nothing else: rows of paths, rows of their facts, and the facts' bytes. The statuses of
-/// refusals are those of families 1 and 2, and `TOO_SMALL` if one of the three buffers is too short.
+/// Lists every way to spend an output with this script by the rules of the machine here, which are stricter than consensus, and nothing else: rows of
+/// paths, rows of their facts, and the facts' bytes. The statuses of refusals are those of families 1 and 2, and `TOO_SMALL` if one of the three
+/// buffers is too short.
 #[unsafe(no_mangle)]
 #[tactic(auto, using(crate::proofs::Answering::listed_rows, crate::proofs::Answering::refused_rows))]
 pub extern "C" fn enforce_script_list(
