@@ -1,4 +1,4 @@
-"""Calls of real/judge, real/psbt and real/sign with hostile or wrong input: what each prints and its status, worked by hand from docs/REAL.md. Tested, not proved."""
+"""Calls of real/judge, real/psbt, real/sign and real/revoked with hostile or wrong input: what each prints and its status, worked by hand from docs/REAL.md. Tested, not proved."""
 import base64
 import json
 import os
@@ -6,7 +6,7 @@ import subprocess
 import sys
 
 from partial import FINAL_SCRIPTWITNESS, HASH160, MAGIC, NON_WITNESS_UTXO, PARTIAL_SIG, SIGHASH_TYPE, VERSION, WITNESS_SCRIPT, WITNESS_UTXO, Partial, key_of, output_field
-from transaction import MAX_MONEY, Input, Output, Transaction, sha256, text
+from transaction import MAX_MONEY, Input, Output, Transaction, read_transaction, sha256, text
 
 HERE = os.path.dirname(os.path.abspath(__file__))
 RECORD = os.path.join(HERE, "tests", "record.json")
@@ -15,6 +15,7 @@ USAGES = {
     "judge": "usage: real/judge [--text] [--recorded FILE]\n",
     "psbt": "usage: real/psbt make | finish [--recorded FILE]\n",
     "sign": "usage: real/sign [--recorded FILE], with private keys on standard input alone\n",
+    "revoked": "usage: real/revoked [--one] [--legacy] [--recorded FILE] | --number, with private keys on standard input alone\n",
 }
 SCRIPT = b"\x51"
 PROGRAM = b"\x00\x20" + sha256(SCRIPT)
@@ -167,6 +168,13 @@ PSBT = [
     ("make", other_input(witness=[None, "51"], signatures=[{"item": 0, "key": "02" * 33, "digest": "00" * 32}]), "refused OtherDigest 0\n", 1),
     ("make", other_input(previous=HEX), "refused OtherTransaction 0\n", 1),
     ("make", other_input(derivations=[{"key": "02" * 33, "fingerprint": "00000000", "path": "m/x"}]), "refused BadShape inputs[0].derivations[0].path\n", 1),
+    ("make", changed(fees=1), "refused BadShape fees\n", 1),
+    ("make", other_input(path=0), MADE + "\n", 0),
+    ("make", other_input(path="0"), "refused BadShape inputs[0].path\n", 1),
+    ("make", other_input(prevoius=HEX), "refused BadShape inputs[0].prevoius\n", 1),
+    ("make", other_input(**{"a\nrefused": HEX}), "refused BadShape inputs[0].?\n", 1),
+    ("make", other_input(signatures=[{"item": 0, "key": "02" * 33, "digest": "00" * 32, "hash": 1}]), "refused BadShape inputs[0].signatures[0].hash\n", 1),
+    ("make", other_input(derivations=[{"key": "02" * 33, "fingerprint": "00000000", "path": "m/1", "root": 1}]), "refused BadShape inputs[0].derivations[0].root\n", 1),
     (f"finish {BY_RECORD}", json.dumps(PLAN), "refused BadMagic\n", 1),
     (f"finish {BY_RECORD}", f"{json.dumps(PLAN)}\n{MADE}", LINES, 0),
     (f"finish {BY_RECORD}", f"{json.dumps(PLAN)}\n{partially({key_of(0x13): b''})}", "refused TaprootField 0 TAP_KEY_SIG\n", 1),
@@ -194,6 +202,61 @@ SIGN = [
     ("", f"{MADE}\n{'0g' * 32}", "refused BadKey 0\n", 1),
     ("07", MADE, USAGES["sign"], 2),
     ("--recorded", MADE, USAGES["sign"], 2),
+]
+with open(os.path.join(HERE, "tests", "backup.json"), encoding="utf-8") as file:
+    BACKUP = json.load(file)
+with open(os.path.join(HERE, "tests", "seen.txt"), encoding="utf-8") as file:
+    SEEN = read_transaction(bytes.fromhex(file.read().strip()), marked=False)
+# private keys of revocation and payment base points, which everybody knows, and the number of BOLT 3's commitments
+REVOCATION_KEY, PAYMENT_KEY = "22" * 32, "44" * 32
+PAYMENTS = {"opener_payment": BACKUP["bases"]["owner_htlc"], "other_payment": BACKUP["bases"]["payment"]}
+NUMBER = {"transaction": SEEN.txid(), "commitment_number": 42, "secret_index": 281_474_976_710_613}
+
+
+def seen(*places):
+    """The transaction of the page with some of its outputs, the second of which is to_remote; a value may be told."""
+    outputs = [Output(value or SEEN.outputs[at].value, SEEN.outputs[at].program) for at, value in places]
+    return Transaction(SEEN.version, SEEN.inputs, outputs, SEEN.lock_time)
+
+
+def revoked(transaction, *keys, **members):
+    """What real/revoked reads."""
+    return "\n".join([json.dumps({**BACKUP, "transaction": transaction.stripped().hex(), **members}), *keys])
+
+
+def told(transaction, *answers, taken=(), too_little=(), no_key=(), others=()):
+    """What real/revoked prints where it makes no transaction."""
+    last = {"transaction": transaction.txid(), "taken": [*taken], "too_little": [*too_little], "no_key": [*no_key], "others": [*others]}
+    return "".join(map(line, [*answers, last]))
+
+
+# to_remote alone, with one satoshi less than what is passed on, and among outputs of nobody's
+REMOTE, LITTLE, NOBODYS = seen((1, None)), seen((1, 111 + 293)), Transaction(2, SEEN.inputs, [Output(5, b"\x51")], 0)
+ANSWER = {"outputs": [0], "kinds": ["to_remote"], "value": 3_000_000, "fee": 111}
+NO_PAYMENT = {**ANSWER, "answer": "no key", "deadline_blocks": None, "key": "payment"}
+REVOKED = [
+    ("--number", json.dumps({"transaction": SEEN.stripped().hex(), **PAYMENTS}), line(NUMBER), 0),
+    ("--number", "", refused("NotJson"), 1),
+    ("--number", json.dumps({"transaction": HEX, **PAYMENTS}), refused("NotCommitment"), 1),
+    ("--number", json.dumps({"transaction": HEX[:-2], **PAYMENTS}), refused("Truncated"), 1),
+    ("--number", json.dumps({**PAYMENTS, "transaction": HEX, "opener_payment": "02" * 32}), refused("BadShape seen.opener_payment"), 1),
+    ("--number", revoked(SEEN), refused("BadShape seen.secret"), 1),
+    ("", "", refused("NotJson"), 1),
+    (BY_RECORD, revoked(SEEN), refused("NoKey"), 1),
+    (BY_RECORD, revoked(SEEN, "07"), refused("BadKey 0"), 1),
+    (BY_RECORD, revoked(SEEN, "0g" * 32), refused("BadKey 0"), 1),
+    (BY_RECORD, revoked(SEEN, PAYMENT_KEY, confirmed_height=502), refused("BadShape state.confirmed_height"), 1),
+    (BY_RECORD, revoked(SEEN, PAYMENT_KEY, confirmed_hieght=501), refused("BadShape state.confirmed_hieght"), 1),
+    (BY_RECORD, revoked(SEEN, PAYMENT_KEY, destination="6a"), refused("BadShape state.destination"), 1),
+    (BY_RECORD, revoked(SEEN, PAYMENT_KEY, secret="zz"), refused("BadShape state.secret"), 1),
+    (BY_RECORD, revoked(REMOTE, REVOCATION_KEY), told(REMOTE, NO_PAYMENT, no_key=[0]), 1),
+    (f"--one {BY_RECORD}", revoked(REMOTE, REVOCATION_KEY), told(REMOTE, NO_PAYMENT, no_key=[0]), 1),
+    (BY_RECORD, revoked(LITTLE, PAYMENT_KEY), told(LITTLE, {**ANSWER, "value": 404, "answer": "too little to be passed on"}, too_little=[0]), 0),
+    (BY_RECORD, revoked(NOBODYS, PAYMENT_KEY), told(NOBODYS, others=[0]), 1),
+    ("--number --one", "", USAGES["revoked"], 2),
+    ("--one --one", "", USAGES["revoked"], 2),
+    ("--recorded", "", USAGES["revoked"], 2),
+    (PAYMENT_KEY, "", USAGES["revoked"], 2),
 ]
 
 
@@ -224,7 +287,7 @@ def fails_to_write(tool, words, given):
 
 def run():
     """How many calls there are, and how many answer otherwise. The first of each status 0 and 1 is made again where nothing can be written."""
-    rows = [(tool, *row) for tool, rows in (("judge", JUDGE), ("psbt", PSBT), ("sign", SIGN)) for row in rows]
+    rows = [(tool, *row) for tool, rows in (("judge", JUDGE), ("psbt", PSBT), ("sign", SIGN), ("revoked", REVOKED)) for row in rows]
     again = {(tool, status): (tool, words, given) for tool, words, given, _, status in reversed(rows) if status < 2}
     differ = sum(not answers(*row) for row in rows) + sum(not fails_to_write(*row) for row in again.values())
     return len(rows) + len(again), differ

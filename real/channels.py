@@ -6,7 +6,7 @@ everywhere. Nothing here was made from the answers of a program of this reposito
 import functools
 import hashlib
 from dataclasses import dataclass
-from typing import Dict, List
+from typing import Dict, List, Optional
 
 from claims import Key, serialized
 from electrum import bitcoin, ecc, lnutil
@@ -17,6 +17,9 @@ DELAYS = (0, 1, 6, 16, 17, 127, 128, 144, 255, 256, 720, 1_008, 2_016, 32_767, 3
 EXPIRIES = (1, 16, 17, 127, 128, 32_767, 32_768, 8_388_607, 8_388_608, 499_999_999)
 FEERATES_PER_KW, DUST_LIMITS_SAT = (253, 500, 1_000, 2_500, 7_500, 15_000), (354, 546, 573, 1_000)
 MOST_HTLCS, COMMITMENTS = 20, 2**48
+# the height of the chain, and that of the block which has what a tower sees: in turn none has it yet, the newest has it, and older ones
+HEIGHT = 700_000
+CONFIRMED_HEIGHTS = (None, HEIGHT, HEIGHT - 1, HEIGHT - 143, HEIGHT - 1_008)
 
 
 class Draws:
@@ -69,6 +72,10 @@ class Channel:
     owner_msat: int
     peer_msat: int
 
+    def confirmed_height(self):
+        """The height of the block that has what is seen; None where none has it yet."""
+        return CONFIRMED_HEIGHTS[self.number % len(CONFIRMED_HEIGHTS)]
+
     def capacity_sat(self):
         return -(-(self.owner_msat + self.peer_msat + sum(it.amount_msat for it in self.htlcs)) // 1000)
 
@@ -94,12 +101,14 @@ class Keys:
 
 @dataclass
 class Known:
-    """What Electrum makes of an output: its kind, its program, the script or key that its witness ends with, and the key that takes it."""
+    """What Electrum makes of an output: its kind, its program, the script or key that its witness ends with, and the key that takes it. With it the first block in which somebody else's transaction
+    can take it, None where none can."""
 
     kind: str
     program: bytes
     last: bytes
     key: bytes
+    first_height: Optional[int]
 
 
 def drawn_htlc(draws, channel):
@@ -173,23 +182,37 @@ def known_outputs(channel):
     """What Electrum makes of each output that the commitment may have."""
     keys = keys_of(channel)
     script = lnutil.make_commitment_output_to_local_witness_script(keys.revocation, channel.delay_blocks, keys.delayed)
-    yield Known("to_local", script_program(script), script, keys.revocation)
-    yield Known("to_remote", program_at(lnutil.make_commitment_output_to_remote_address(keys.payment)), keys.payment, keys.payment)
+    # a sequence of so many blocks is met that many blocks above the output's (BIP 68)
+    in_block = HEIGHT + 1 if channel.confirmed_height() is None else channel.confirmed_height()
+    yield Known("to_local", script_program(script), script, keys.revocation, in_block + channel.delay_blocks)
+    yield Known("to_remote", program_at(lnutil.make_commitment_output_to_remote_address(keys.payment)), keys.payment, keys.payment, None)
     for it in channel.htlcs:
         script = htlc_script(keys, it)
-        yield Known("received" if it.is_received else "offered", script_program(script), script, keys.revocation)
+        # whoever knows the preimage may come in the next block; a lock time is below the height of its block (BIP 65)
+        first_height = HEIGHT + 1 if it.is_received else it.expiry_height + 1
+        yield Known("received" if it.is_received else "offered", script_program(script), script, keys.revocation, first_height)
 
 
 def known(channel):
-    """The same by programs."""
-    return {it.program: it for it in known_outputs(channel)}
+    """The same by programs. Several HTLCs may have one: then the first height of all of them counts."""
+    found = {}
+    for it in known_outputs(channel):
+        other = found.get(it.program)
+        if other is None or it.first_height < other.first_height:
+            found[it.program] = it
+    return found
+
+
+def payment_bases(channel):
+    """The payment base points, first that of the side that opened the channel."""
+    found = [Key(f"payment base of the owner of channel {channel.number}").public, public(channel.privates["payment"])]
+    return found if channel.is_owner_opener else found[::-1]
 
 
 def commitment_of(channel):
     """The commitment's transaction, by lnutil, signed by both funding keys."""
     keys, funding = keys_of(channel), [Key(f"funding {side} of channel {channel.number}") for side in range(2)]
-    payments = [Key(f"payment base of the owner of channel {channel.number}").public, public(channel.privates["payment"])]
-    opener, other = payments if channel.is_owner_opener else payments[::-1]
+    opener, other = payment_bases(channel)
     htlcs = channel.untrimmed()
     found = lnutil.make_commitment(
         ctn=channel.commitment_number,

@@ -85,9 +85,10 @@ def known_outputs(keys, delay_blocks, htlcs):
 
 
 def table_of(keys, delay_blocks, htlcs):
-    """What is known of an output, by its program: of equal programs the first."""
+    """What is known of an output, by its program. The script of an offered HTLC has no expiry, so those with one hash have one program, and nothing tells which output is whose: of these the HTLC that
+    expires first is kept, so that no deadline is too late."""
     found = {}
-    for it in known_outputs(keys, delay_blocks, htlcs):
+    for it in known_outputs(keys, delay_blocks, sorted(htlcs, key=lambda it: it.expiry_height)):
         found.setdefault(it.program, it)
     return found
 
@@ -104,7 +105,9 @@ def keys_of(curve, bases, point, is_legacy):
 
 
 def privates_of(curve, bases, privates, secret, point, is_legacy):
-    """The private keys that sign penalties, by their public keys: from the private keys of the revocation and payment base points, in any order."""
+    """The private keys that sign penalties, by their public keys: from the private keys of the revocation and payment base points, in any order, of which one may be missing."""
+    if not privates:
+        raise Refused("NoKey")
     found = {}
     for place, private in enumerate(privates):
         if not curve.is_private(private):

@@ -4,9 +4,12 @@ import random
 
 import assembling
 import bolt3
+import calls
 import consensus
 import judging
+import numbering
 import partial
+import punishing
 import signatures
 from errors import Refused
 from plan import read_plan
@@ -56,6 +59,8 @@ def read_hostile(count):
     survives(count, "changed plans", lambda it: assembling.make(read_plan(it)), plan)
     survives(count, "changed partially signed transactions", read_whole, assembling.make(read_plan(plan)).bytes())
     survives(count, "changed base64", lambda it: read_whole(partial.decoded(it)), assembling.make(read_plan(plan)).base64().encode())
+    survives(count, "changed revoked states", punishing.read_state, calls.revoked(calls.SEEN).encode())
+    survives(count, "changed commitments with payment base points", numbering.told, json.dumps({"transaction": calls.SEEN.stripped().hex(), **calls.PAYMENTS}).encode())
 
 
 def encoded(r, s):

@@ -1,6 +1,7 @@
 """Plans of unsigned spends, each one JSON object: the transaction, and of each input what it spends, its witness and the signatures that are wanted. Tested, not proved."""
 import json
 import math
+import re
 from dataclasses import dataclass, field
 from typing import Dict, List, Optional
 
@@ -11,6 +12,10 @@ from transaction import MAX_MONEY, Digests, Output, Transaction, read_transactio
 KEY_SIZE, FINGERPRINT_SIZE, HARDENED = 33, 4, 1 << 31
 # more digits than any number of a plan has
 DIGITS = 20
+# more paths than a script may have
+MAX_PATH = 1 << 32
+# the names of members that are said where they are unknown
+NAME = re.compile(r"\w{1,40}", re.ASCII)
 
 
 @dataclass
@@ -57,6 +62,13 @@ class Shape:
 
     def bad(self, name):
         return Refused(f"BadShape {self.place}.{name}".replace("plan.", ""))
+
+    def only(self, *names):
+        """The same; a member with another name is refused, since it may be one of these that is misspelled."""
+        for name in self.value:
+            if name not in names:
+                raise self.bad(name if NAME.fullmatch(name) else "?")
+        return self
 
     def member(self, name, kind, optional=False):
         found = self.value.get(name)
@@ -110,17 +122,25 @@ def read_path(text):
 def read_derivations(shape):
     found = {}
     for it in shape.objects("derivations", optional=True):
-        path = read_path(it.member("path", str))
+        path = read_path(it.only("key", "fingerprint", "path").member("path", str))
         if path is None:
             raise it.bad("path")
         found[it.bytes("key", KEY_SIZE)] = it.bytes("fingerprint", FINGERPRINT_SIZE) + path
     return found
 
 
+def read_wanted(shape, items):
+    shape.only("item", "key", "digest")
+    return Wanted(shape.number("item", items), shape.bytes("key", KEY_SIZE), shape.bytes("digest", 32))
+
+
 def read_input(shape):
+    shape.only("value", "program", "script", "path", "witness", "signatures", "previous", "derivations")
+    # who makes a plan may say which path its witness takes; nothing follows from it here
+    shape.number("path", MAX_PATH, optional=True)
     output = Output(shape.number("value", MAX_MONEY), shape.bytes("program"))
     witness = read_witness(shape)
-    wanted = [Wanted(it.number("item", len(witness)), it.bytes("key", KEY_SIZE), it.bytes("digest", 32)) for it in shape.objects("signatures")]
+    wanted = [read_wanted(it, len(witness)) for it in shape.objects("signatures")]
     return Spent(output, shape.bytes("script"), witness, wanted, shape.bytes("previous", optional=True), read_derivations(shape))
 
 
@@ -151,13 +171,18 @@ def whole_number(digits):
     return int(digits) if len(digits) <= DIGITS else math.inf
 
 
-def read_plan(given):
-    """The plan that a JSON text tells."""
+def read_object(given, place):
+    """The object that a JSON text tells."""
     try:
         value = json.loads(given, object_pairs_hook=members, parse_int=whole_number)
     except (ValueError, RecursionError):
         raise Refused("NotJson") from None
-    shape = Shape(value, "plan")
+    return Shape(value, place)
+
+
+def read_plan(given):
+    """The plan that a JSON text tells."""
+    shape = read_object(given, "plan").only("transaction", "fee", "inputs")
     transaction = read_transaction(shape.bytes("transaction"), marked=False)
     plan = Plan(transaction, shape.number("fee", MAX_MONEY, optional=True), [read_input(it) for it in shape.objects("inputs")])
     if len(plan.inputs) != len(transaction.inputs) or any(it.script for it in transaction.inputs):

@@ -1,26 +1,29 @@
 """Penalties on a revoked commitment's outputs: built, signed, and judged before they are told (BOLT 5, "Revoked Transaction Close Handling"). Tested, not proved."""
-import json
 from dataclasses import dataclass
 from typing import Dict, List, Optional
 
 import commitment
 import judging
+import scripts
 import signatures
 import whole
 from errors import Refused
-from plan import Shape, members, whole_number
+from plan import Shape, read_object
 from transaction import MAX_MONEY, Digests, Input, Output, Transaction, compact, read_transaction, text
 
 VERSION, SEQUENCE = 2, 0
 # the longest signature that is made: DER with a low s, and the hash type
 SIGNATURE_SIZE = 72
 BASE_SIZE, MARKER_SIZE, INPUT_SIZE = 8, 2, 41
-# no node passes on an output of any kind below it
-DUST_SAT = 546
+# Bitcoin Core's default feerate for dust, and the sizes that it takes for the input that spends an output (GetDustThreshold)
+DUST_FEERATE_PER_KVB, PLAIN_INPUT_SIZE, WITNESS_INPUT_SIZE = 3_000, 148, 67
 MAX_FEERATE, MAX_HEIGHT, MAX_DELAY = 10_000_000, commitment.LOCKTIME_THRESHOLD - 1, 65_535
+MEMBERS = ("transaction", "secret", "delay_blocks", "htlcs", "bases", "destination", "feerate_per_kw", "height", "confirmed_height")
 BASES = ("revocation", "payment", "htlc", "owner_delayed", "owner_htlc")
 # more HTLCs than two sides of a channel may have (BOLT 2)
 MAX_HTLCS = 966
+# what is answered of outputs
+TAKEN, TOO_LITTLE, NO_KEY = "taken", "too little to be passed on", "no key"
 
 
 @dataclass
@@ -49,7 +52,7 @@ class Take:
 
 
 def read_htlc(shape):
-    direction = shape.member("direction", str)
+    direction = shape.only("direction", "hash", "expiry_height").member("direction", str)
     if direction not in ("offered", "received"):
         raise shape.bad("direction")
     return commitment.Htlc(direction == "offered", shape.bytes("hash", 32), shape.number("expiry_height", MAX_HEIGHT))
@@ -57,17 +60,13 @@ def read_htlc(shape):
 
 def read_state(given):
     """The state that a JSON text tells."""
-    try:
-        value = json.loads(given, object_pairs_hook=members, parse_int=whole_number)
-    except (ValueError, RecursionError):
-        raise Refused("NotJson") from None
-    shape = Shape(value, "state")
+    shape = read_object(given, "state").only(*MEMBERS)
     transaction = read_transaction(shape.bytes("transaction"))
-    bases = Shape(shape.member("bases", dict), "state.bases")
+    bases = Shape(shape.member("bases", dict), "state.bases").only(*BASES)
     htlcs = [read_htlc(it) for it in shape.objects("htlcs")]
     if len(htlcs) > MAX_HTLCS:
         raise Refused("TooManyHtlcs")
-    return State(
+    found = State(
         transaction,
         shape.bytes("secret", 32),
         shape.number("delay_blocks", MAX_DELAY),
@@ -78,11 +77,16 @@ def read_state(given):
         shape.number("height", MAX_HEIGHT),
         shape.number("confirmed_height", MAX_HEIGHT, optional=True),
     )
+    if not scripts.is_address(found.destination):
+        raise shape.bad("destination")
+    if found.confirmed_height is not None and found.confirmed_height > found.height:
+        raise shape.bad("confirmed_height")
+    return found
 
 
 def deadline_of(known, state):
-    """How many of the next blocks nobody else's transaction can be in; None where it never can. The owner takes to_local in the block that is the delay above the transaction's (BIP 68); HTLC-timeout
-    is in a block above the expiry (BIP 65); HTLC-success may be in any."""
+    """The number of next blocks in which nobody else can take an output; None where nobody else ever can. The owner takes to_local in the block that is the delay above the transaction's (BIP 68);
+    HTLC-timeout is in a block above the expiry (BIP 65); HTLC-success may be in any."""
     if known.kind == "to_remote":
         return None
     if known.kind == "to_local":
@@ -108,47 +112,61 @@ def found_in(state, table):
     return takes, others
 
 
-def batches(takes, state, is_one):
-    """One transaction for each output; or one for all that nobody else can take yet, and one for each that somebody can."""
-    if not is_one:
-        return [[it] for it in takes]
-    together = [it for it in takes if deadline_of(it.known, state) != 0]
-    return ([together] if together else []) + [[it] for it in takes if deadline_of(it.known, state) == 0]
-
-
 def witness_of(known, signature):
     ends = [known.key] if known.kind == "to_remote" else [*known.items, known.script]
     return [signature, *ends]
 
 
+def input_weight(known):
+    """The greatest weight of the input that takes an output (BIP 141)."""
+    items = witness_of(known, bytes(SIGNATURE_SIZE))
+    return 4 * INPUT_SIZE + len(compact(len(items))) + sum(len(text(it)) for it in items)
+
+
 def weight_of(takes, destination):
-    """The greatest weight of a transaction that takes outputs (BIP 141)."""
-    outputs = compact(1) + Output(0, destination).bytes()
-    plain = BASE_SIZE + len(compact(len(takes))) + INPUT_SIZE * len(takes) + len(outputs)
-    items = [witness_of(it.known, bytes(SIGNATURE_SIZE)) for it in takes]
-    return 4 * plain + MARKER_SIZE + sum(len(compact(len(it))) + sum(len(text(each)) for each in it) for it in items)
+    """The greatest weight of a transaction that takes outputs."""
+    plain = BASE_SIZE + len(compact(len(takes))) + len(compact(1) + Output(0, destination).bytes())
+    return 4 * plain + MARKER_SIZE + sum(input_weight(it.known) for it in takes)
+
+
+def dust_sat(program):
+    """The least value of an output with this program that Bitcoin Core passes on by default."""
+    spending = WITNESS_INPUT_SIZE if scripts.is_witness_program(program) else PLAIN_INPUT_SIZE
+    return DUST_FEERATE_PER_KVB * (len(Output(0, program).bytes()) + spending) // 1000
 
 
 def unsigned(state, takes):
     """The transaction that takes outputs, and its fee; None where too little is left to be passed on."""
     value = sum(it.output.value for it in takes)
     fee = -(-weight_of(takes, state.destination) * state.feerate_per_kw // 1000)
-    if value > MAX_MONEY or value - fee < DUST_SAT:
+    if value > MAX_MONEY or value - fee < dust_sat(state.destination):
         return None, fee
     txid = bytes.fromhex(state.transaction.txid())[::-1]
     inputs = [Input(txid + it.index.to_bytes(4, "little"), b"", SEQUENCE) for it in takes]
     return Transaction(VERSION, inputs, [Output(value - fee, state.destination)], 0), fee
 
 
-def signed(transaction, takes, privates, curve):
+def is_joined(it, state, signing):
+    """Whether an output goes into the transaction of several: its key is there, nobody else can take it yet, and it has no less than what its input costs."""
+    is_safe = it.known.key in signing and deadline_of(it.known, state) != 0
+    return is_safe and input_weight(it.known) * state.feerate_per_kw <= 1000 * it.output.value
+
+
+def batches(takes, state, signing, is_one):
+    """One transaction for each output. Or one for all that can be joined, unless they have too little together, and one for each other output."""
+    joined = [it for it in takes if is_one and is_joined(it, state, signing)]
+    if unsigned(state, joined)[0] is None:
+        joined = []
+    places = {it.index for it in joined}
+    return ([joined] if joined else []) + [[it] for it in takes if it.index not in places]
+
+
+def signed(transaction, takes, signing, curve):
     """The same with a signature in each input, each verified."""
     digests = Digests(transaction)
     for index, it in enumerate(takes):
-        private = privates.get(it.known.key)
-        if private is None:
-            raise Refused(f"MissingKey {'payment' if it.known.kind == 'to_remote' else 'revocation'}")
         digest = digests.of(index, it.known.script, it.output.value)
-        der = curve.sign(private, digest)
+        der = curve.sign(signing[it.known.key], digest)
         if not curve.verify(it.known.key, digest, der):
             raise Refused(f"BadSignature {it.index}")
         transaction.inputs[index].witness = witness_of(it.known, der + bytes([signatures.ALL]))
@@ -166,18 +184,22 @@ def judged(transaction, takes, curve, trace):
             raise Refused(f"NotClean {it.index} {found.get('reason', 'another path')}")
 
 
-def told(takes, state, fee, transaction):
-    """What is said of outputs and the transaction that takes them."""
-    value = sum(it.output.value for it in takes)
+def told(takes, state, signing, curve, trace):
+    """What is said of outputs: the transaction that takes them, after the judge found each of its inputs clean; or why there is none."""
+    transaction, fee = unsigned(state, takes)
+    value, deadline = sum(it.output.value for it in takes), soonest(deadline_of(it.known, state) for it in takes)
     answer = {"outputs": [it.index for it in takes], "kinds": [it.known.kind for it in takes], "value": value, "fee": fee}
+    missing = ["payment" if it.known.kind == "to_remote" else "revocation" for it in takes if it.known.key not in signing]
+    if missing:
+        return {**answer, "answer": NO_KEY, "deadline_blocks": deadline, "key": missing[0]}
     if transaction is None:
-        return {**answer, "answer": "too little to be passed on"}
-    deadline = soonest(deadline_of(it.known, state) for it in takes)
-    return {**answer, "answer": "taken", "deadline_blocks": deadline, "txid": transaction.txid(), "transaction": transaction.bytes().hex()}
+        return {**answer, "answer": TOO_LITTLE}
+    judged(signed(transaction, takes, signing, curve), takes, curve, trace)
+    return {**answer, "answer": TAKEN, "deadline_blocks": deadline, "txid": transaction.txid(), "transaction": transaction.bytes().hex()}
 
 
 def penalties(state, privates, curve, trace, is_one=False, is_legacy=False):
-    """All that is said: each transaction of penalties, after the judge found each of its inputs clean, and last the outputs that are not the commitment's."""
+    """All that is said: of each transaction of penalties, and of each output that none takes; and last of all outputs."""
     if not curve.is_private(state.secret):
         raise Refused("BadSecret")
     for name, base in state.bases.items():
@@ -189,9 +211,10 @@ def penalties(state, privates, curve, trace, is_one=False, is_legacy=False):
     takes, others = found_in(state, commitment.table_of(keys, state.delay_blocks, state.htlcs))
     # the judge lists all scripts by one call
     trace.paths([it.known.script for it in takes])
-    for batch in batches(takes, state, is_one):
-        transaction, fee = unsigned(state, batch)
-        if transaction is not None:
-            judged(signed(transaction, batch, signing, curve), batch, curve, trace)
-        yield told(batch, state, fee, transaction)
-    yield {"transaction": state.transaction.txid(), "taken": [it.index for it in takes], "others": others}
+    found = {TAKEN: [], TOO_LITTLE: [], NO_KEY: []}
+    for batch in batches(takes, state, signing, is_one):
+        answer = told(batch, state, signing, curve, trace)
+        found[answer["answer"]] += answer["outputs"]
+        yield answer
+    taken, too_little, no_key = map(sorted, found.values())
+    yield {"transaction": state.transaction.txid(), "taken": taken, "too_little": too_little, "no_key": no_key, "others": others}

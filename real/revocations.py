@@ -4,9 +4,10 @@ import json
 import bolt3
 import commitment
 import derivation
+import numbering
 import punishing
 from errors import Refused
-from transaction import hash160, read_transaction
+from transaction import Output, hash160, read_transaction
 
 # BOLT 3, Appendix E
 BASE_SECRET = bytes(range(32))
@@ -18,6 +19,35 @@ REVOCATION, REVOCATION_PRIVATE = "02916e326636d19c33f13e8c0c3a03dd157f332f3e99c3
 PRIVATES = {"revocation": 0x22, "payment": 0x44, "htlc": 0x44, "owner_delayed": 0x33, "owner_htlc": 0x11}
 DESTINATION = "0014" + "c7" * 20
 HEIGHT = 501
+# BOLT 3, "Dust Limits": the least value of an output by its kind; and what Bitcoin Core's policy has of taproot and of the shortest witness program
+DUST_SAT = {
+    DESTINATION: 294,
+    "76a914" + "c7" * 20 + "88ac": 546,
+    "a914" + "c7" * 20 + "87": 540,
+    "0020" + "c7" * 32: 330,
+    "5120" + "c7" * 32: 330,
+    "51024e73": 240,
+    "6028" + "c7" * 40: 354,
+}
+# no hash of a key or a script, no witness program of BIP 141
+NO_ADDRESSES = (
+    *("", "6a", "51", "00", "4f02c7c7", "6102c7c7", "5101c7", "5103c7c7", "5102c7c7c7", "21" + "c7" * 33 + "ac"),
+    *("0014" + "c7" * 19, "0014" + "c7" * 21, "0013" + "c7" * 19, "0020" + "c7" * 31, "0021" + "c7" * 33, "6029" + "c7" * 41),
+    *("76a914" + "c7" * 19 + "88ac", "76a914" + "c7" * 20 + "88ad", "a914" + "c7" * 20 + "88", "a914" + "c7" * 21 + "87"),
+)
+# Appendix C's commitment with two offered HTLCs of one preimage: its outputs
+SHARED_HTLCS, SHARED_PROGRAM = (5, 6), "0020305c12e1a0bc21e283c131cea1c66d68857d28b7b2fce0a6fbc40c164852121b"
+SHARED = (
+    (2_000, "0020748eba944fedc8827f6b06bc44678f93c0f9e6078b35c6331ed31e75f8ce0c2d"),
+    (5_000, SHARED_PROGRAM),
+    (5_000, SHARED_PROGRAM),
+    (3_000_000, "0014cc1b07838e387deacd0e5232e1e8b49f4c29e484"),
+    (6_987_686, "00204adb4e2f00643db396dd120d4e7dc17625f5f2c11a40d857accc862d6b7dd80e"),
+)
+# what inputs weigh that take an offered HTLC and to_local, with signatures of 72 bytes: 41 bytes of four units, and a witness (scripts of 133 and 77 bytes)
+OFFERED_WEIGHT, TO_LOCAL_WEIGHT = 4 * 41 + 1 + 73 + 34 + 134, 4 * 41 + 1 + 73 + 2 + 78
+# the same of all that a transaction to the hash of a key has beside its inputs
+REST_WEIGHT = 4 * (8 + 1 + 1 + 8 + 23) + 2
 
 
 def private(name):
@@ -65,23 +95,39 @@ def taken(given, curve, trace, privates=None, **options):
 
 
 def check_case(count, told, case, curve, trace):
-    """Each output of a case is taken on its own, in the order of outputs, with the value and the script of the appendix, and its deadline."""
+    """Each output of a case is taken on its own, in the order of outputs, with the value and the script of the appendix, its fee and its deadline."""
     found = taken(state(told, case, curve), curve, trace)
     kinds, wanted = [it["kinds"] for it in found[:-1]], [[it["kind"]] for it in case["outputs"]]
-    count.check(found[-1]["others"] == [] and kinds == wanted, f"{case['name']}: {kinds}")
+    count.check(kinds == wanted, f"{case['name']}: {kinds}")
+    check_last(count, case["name"], found, range(len(wanted)))
     for index, (it, output) in enumerate(zip(found, case["outputs"])):
         where = f"{case['name']}: output {index}"
         count.check(it["outputs"] == [index] and it["value"] == output["value_sat"], where)
-        if output["value_sat"] < punishing.DUST_SAT + it["fee"]:
-            count.check(it["answer"] == "too little to be passed on", f"{where} is too little")
-            continue
         made = read_transaction(bytes.fromhex(it["transaction"]))
+        weight = 3 * len(made.stripped()) + len(made.bytes())
+        count.check(253 * weight <= 1000 * it["fee"] < 253 * (weight + 3) + 1000, f"{where}: its fee")
         count.check(made.inputs[0].shown_outpoint() == f"{bytes.fromhex(case['txid_hash_order'])[::-1].hex()}:{index}", f"{where}: its outpoint")
         count.check(made.outputs[0].value == output["value_sat"] - it["fee"] and made.outputs[0].program.hex() == DESTINATION, f"{where}: what is paid")
         script = output.get("witness_script") or told["terms"]["keys"]["remote_payment_basepoint"]
         count.check(made.inputs[0].witness[-1].hex() == script, f"{where}: its script")
-        deadlines = {"to_local": 144, "to_remote": None, "received": 0, "offered": max(0, output.get("cltv_expiry", 0) - HEIGHT)}
-        count.check(it["deadline_blocks"] == deadlines[output["kind"]], f"{where}: its deadline")
+        count.check(it["deadline_blocks"] == deadline_of(output), f"{where}: its deadline")
+
+
+def deadline_of(output):
+    """The blocks after HEIGHT in which nobody else can take an output of a case that the next block has."""
+    return {"to_local": 144, "to_remote": None, "received": 0, "offered": max(0, output.get("cltv_expiry", 0) - HEIGHT)}[output["kind"]]
+
+
+def check_last(count, name, found, taken=(), too_little=(), no_key=(), others=()):
+    """What the last line says of all outputs, and that each of the lines before it has an answer that fits."""
+    wanted = {"taken": [*taken], "too_little": [*too_little], "no_key": [*no_key], "others": [*others]}
+    told = {it: value for it, value in found[-1].items() if it != "transaction"}
+    count.check(told == wanted, f"{name}: {told}, and not {wanted}")
+    answers = {"taken": "taken", "too_little": "too little to be passed on", "no_key": "no key"}
+    by_line = {it: sorted(at for line in found[:-1] if line["answer"] == answer for at in line["outputs"]) for it, answer in answers.items()}
+    count.check(by_line == {it: wanted[it] for it in answers}, f"{name}: {by_line}, and not {wanted}")
+    sent = {it["answer"] for it in found[:-1] if "transaction" in it}
+    count.check(sent <= {"taken"}, f"{name}: transactions of {sent}")
 
 
 def check_one(count, told, case, curve, trace):
@@ -93,14 +139,122 @@ def check_one(count, told, case, curve, trace):
     count.check(rest == [[at] for at in range(len(case["outputs"])) if at not in free], f"{case['name']}: one by one {rest}")
 
 
+def with_outputs(case, outputs):
+    """A case's transaction with other outputs."""
+    found = read_transaction(bytes.fromhex(case["unsigned_tx_no_witness"]), marked=False)
+    found.outputs = [Output(value, bytes.fromhex(program)) for value, program in outputs]
+    return found.bytes().hex()
+
+
+def check_shared(count, told, case, curve, trace):
+    """Two offered HTLCs of one hash have one program: the deadline of both outputs is by the least expiry, in whatever order they are told."""
+    transaction = with_outputs(case, SHARED)
+    for numbers in (SHARED_HTLCS, SHARED_HTLCS[::-1]):
+        for height, left in ((503, 2), (504, 1), (505, 0), (506, 0)):
+            where = f"HTLCs {numbers} at {height}"
+            given = state(told, case, curve, transaction=transaction, htlcs=[htlc(told, it) for it in (1, *numbers)], height=height, confirmed_height=503)
+            found = taken(given, curve, trace, is_one=True)
+            joined = [1, 2, 3, 4] if left else [3, 4]
+            check_last(count, where, found, range(5))
+            count.check([it["outputs"] for it in found[:-1]] == [joined, *([at] for at in range(5) if at not in joined)], f"{where}: together {found[0]['outputs']}")
+            alone = {it["outputs"][0]: it["deadline_blocks"] for it in taken(given, curve, trace)[:-1]}
+            count.check(alone == {0: 0, 1: left, 2: left, 3: None, 4: 503 + 143 - height}, f"{where}: deadlines {alone}")
+
+
+def check_expiries(count, told, case, curve, trace):
+    """An output whose HTLC has expired is in no transaction of several, where another HTLC of its hash expires much later."""
+    at = next(at for at, it in enumerate(case["outputs"]) if it.get("htlc") == 2)
+    for expiries in ((2000, 502), (502, 2000)):
+        htlcs = [{**htlc(told, 2), "expiry_height": it} for it in expiries]
+        found = taken(state(told, case, curve, htlcs=htlcs, height=505, confirmed_height=504), curve, trace, is_one=True)
+        count.check(at not in found[0]["outputs"], f"an HTLC of 502 and 2000, as {expiries}: together {found[0]['outputs']}")
+        count.check([it["deadline_blocks"] for it in found[1:-1]] == [0] and found[1]["outputs"] == [at], f"an HTLC of 502 and 2000, as {expiries}: {found[1:]}")
+
+
+def check_joined(count, told, case, curve, trace):
+    """A transaction of several leaves out an output that has less than what its input costs there, on both sides of that."""
+    feerate = 5_000
+    programs = {it["htlc"] if it["kind"] == "offered" else it["kind"]: it["script_pubkey"] for it in case["outputs"] if it["kind"] != "received"}
+    least = OFFERED_WEIGHT * feerate // 1000
+    both = (REST_WEIGHT + OFFERED_WEIGHT + TO_LOCAL_WEIGHT) * feerate // 1000 + DUST_SAT[DESTINATION]
+    alone = (REST_WEIGHT + TO_LOCAL_WEIGHT) * feerate // 1000 + DUST_SAT[DESTINATION]
+    # the values of outputs, which HTLC each is of, what is together, and what has too little
+    rows = [
+        ((1_000, 1_000, 1_000, 5_000), (2, 3, 2, "to_local"), [3], [0, 1, 2]),
+        ((least, least - 1, 5_000), (2, 3, "to_local"), [0, 2], [1]),
+        ((least, both - least), (2, "to_local"), [0, 1], []),
+        ((least, both - least - 1), (2, "to_local"), None, [0, 1]),
+        ((least - 1, alone), (2, "to_local"), [1], [0]),
+        ((least - 1, alone - 1), (2, "to_local"), None, [0, 1]),
+    ]
+    for values, kinds, together, little in rows:
+        transaction = with_outputs(case, [(value, programs[it]) for value, it in zip(values, kinds)])
+        found = taken(state(told, case, curve, transaction=transaction, feerate_per_kw=feerate), curve, trace, is_one=True)
+        check_last(count, f"outputs of {values}", found, together or [], little)
+        wanted = [*([together] if together else []), *([at] for at in little)]
+        count.check([it["outputs"] for it in found[:-1]] == wanted, f"outputs of {values}: together {[it['outputs'] for it in found[:-1]]}")
+
+
+def check_missing(count, told, case, curve, trace):
+    """With one private key what it takes is taken, and each other output is told with the name of the key that is missing."""
+    outputs = case["outputs"]
+    remote = [at for at, it in enumerate(outputs) if it["kind"] == "to_remote"]
+    rest = [at for at in range(len(outputs)) if at not in remote]
+    for name, missing, mine, lost in (("revocation", "payment", rest, remote), ("payment", "revocation", remote, rest)):
+        for is_one in (False, True):
+            found = taken(state(told, case, curve), curve, trace, [private(name)], is_one=is_one)
+            check_last(count, f"the key of {name} alone", found, mine, no_key=lost)
+            lines = [it for it in found[:-1] if it["answer"] == "no key"]
+            count.check([it["outputs"] for it in lines] == [[at] for at in lost] and {it["key"] for it in lines} == {missing}, f"the key of {name} alone: {lines}")
+            count.check([it["deadline_blocks"] for it in lines] == [deadline_of(outputs[at]) for at in lost], f"the key of {name} alone: deadlines {lines}")
+
+
+def check_dust(count, told, case, curve):
+    """The least value that is paid, by the kind of destination; and what is no destination."""
+    found, table = known(state(told, case, curve), curve)
+    takes, _ = punishing.found_in(found, table)
+    found.feerate_per_kw = 0
+    for destination, least in DUST_SAT.items():
+        found.destination = punishing.read_state(json.dumps(state(told, case, curve, destination=destination))).destination
+        paid = []
+        for value in (least - 1, least):
+            takes[0].output.value = value
+            made, _ = punishing.unsigned(found, takes[:1])
+            paid.append(made is not None and made.outputs[0].value == value)
+        count.check(paid == [False, True], f"the least value of {destination}: {paid}")
+    for destination in NO_ADDRESSES:
+        refuses(count, "BadShape state.destination", lambda it=destination: punishing.read_state(json.dumps(state(told, case, curve, destination=it))))
+
+
+def check_numbers(count, told, curve):
+    """The number of each case's commitment; and what is none."""
+    terms = told["terms"]
+    bases = {f"{side}_payment": terms["keys"][f"{name}_payment_basepoint"] for side, name in (("opener", "local"), ("other", "remote"))}
+    mask = numbering.mask_of(*map(bytes.fromhex, bases.values()))
+    count.check(mask == int(terms["mask"], 16), f"what a commitment number is masked with: {mask:x}")
+    for case in told["cases"]:
+        raw = case["unsigned_tx_no_witness"]
+        found = numbering.told(json.dumps({"transaction": raw, **bases}))
+        wanted = {"transaction": bytes.fromhex(case["txid_hash_order"])[::-1].hex(), "commitment_number": terms["commitment_number"], "secret_index": 2**48 - 1 - 42}
+        count.check(found == wanted, f"{case['name']}: {found}")
+        # an HTLC transaction, another first byte of the lock time and of the sequence, and two inputs
+        others = [*(it["unsigned_tx_no_witness"] for it in case["htlc_transactions"]), raw[:-2] + "21", raw.replace("38b02b80", "38b02b81", 1), raw[:8] + "02" + raw[10:92] * 2 + raw[92:]]
+        for it in others:
+            refuses(count, "NotCommitment", lambda it=it: numbering.told(json.dumps({"transaction": it, **bases})))
+    good = {"transaction": told["cases"][0]["unsigned_tx_no_witness"], **bases}
+    for name, given in (("seen.other_payment", {**good, "other_payment": "04" * 33}), ("seen.opener", {**good, "opener": "02" * 33}), ("seen.transaction", bases)):
+        refuses(count, f"BadShape {name}", lambda it=given: numbering.told(json.dumps(it)))
+
+
 def check_second_stages(count, told, case, curve, trace):
     """The output of each HTLC transaction is taken by the same call; of its HTLCs, delay and base points it wants the delay and two base points."""
     for it in case["htlc_transactions"]:
         given = state(told, case, curve, transaction=it["unsigned_tx_no_witness"], htlcs=[])
         found = taken(given, curve, trace)
-        count.check(found[0]["kinds"] == ["to_local"] and found[0]["value"] == it["output_value_sat"] and found[-1]["others"] == [], f"{case['name']}: second stage of {it['htlc']}")
-        found = taken({**given, "delay_blocks": 143}, curve, trace)
-        count.check(found[-1]["others"] == [0] and len(found) == 1, f"{case['name']}: another delay of the second stage of {it['htlc']}")
+        where = f"{case['name']}: second stage of {it['htlc']}"
+        count.check(found[0]["kinds"] == ["to_local"] and found[0]["value"] == it["output_value_sat"], where)
+        check_last(count, where, found, [0])
+        check_last(count, f"{where}, another delay", taken({**given, "delay_blocks": 143}, curve, trace), others=[0])
 
 
 def check_changes(count, told, case, curve):
@@ -169,11 +323,19 @@ def check_legacy(count, told, case, curve, trace):
     count.check(found[-1]["others"] == [] and found[at]["kinds"] == ["to_remote"], f"{case['name']}: a derived remote key")
 
 
+def refuses(count, name, make):
+    """Whether a call is refused by this name."""
+    try:
+        found = make() and "taken"
+    except Refused as why:
+        found = str(why)
+    count.check(found == name, f"a fault that is to be refused as {name}: {found}")
+
+
 def check_refusals(count, told, case, curve, trace):
     good = state(told, case, curve)
     rows = [
-        ("MissingKey payment", good, [private("revocation")]),
-        ("MissingKey revocation", good, [private("payment")]),
+        ("NoKey", good, []),
         ("UnusedKey 2", good, [private("revocation"), private("payment"), b"\x07" * 32]),
         ("BadKey 0", good, [bytes(32)]),
         ("BadSecret", {**good, "secret": "00" * 32}, None),
@@ -181,15 +343,17 @@ def check_refusals(count, told, case, curve, trace):
         ("BadShape state.delay_blocks", {**good, "delay_blocks": 65536}, None),
         ("BadShape state.htlcs[0].expiry_height", {**good, "htlcs": [{**htlc(told, 0), "expiry_height": 500_000_000}]}, None),
         ("BadShape state.htlcs[0].direction", {**good, "htlcs": [{**htlc(told, 0), "direction": "sent"}]}, None),
+        ("BadShape state.htlcs[0].amount", {**good, "htlcs": [{**htlc(told, 0), "amount": 1}]}, None),
+        ("BadShape state.bases.owner_payment", {**good, "bases": {**good["bases"], "owner_payment": "02" * 33}}, None),
+        ("BadShape state.confirmed_hieght", {**good, "confirmed_hieght": HEIGHT}, None),
+        ("BadShape state.?", {**good, "height\n": HEIGHT}, None),
+        ("BadShape state.?", {**good, "\ud800": HEIGHT}, None),
+        ("BadShape state.confirmed_height", {**good, "confirmed_height": HEIGHT + 1}, None),
         ("TooManyHtlcs", {**good, "htlcs": [htlc(told, 0)] * 967}, None),
         ("Trailing", {**good, "transaction": good["transaction"] + "00"}, None),
     ]
     for name, given, privates in rows:
-        try:
-            found = taken(given, curve, trace, privates)
-        except Refused as why:
-            found = str(why)
-        count.check(found == name, f"a fault that is to be refused as {name}: {found if isinstance(found, str) else 'taken'}")
+        refuses(count, name, lambda given=given, privates=privates: taken(given, curve, trace, privates))
 
 
 def all_of(count, curve, trace):
@@ -201,5 +365,13 @@ def all_of(count, curve, trace):
         check_second_stages(count, told, case, curve, trace)
         check_changes(count, told, case, curve)
         check_legacy(count, told, case, curve, trace)
-    check_deadlines(count, told, told["cases"][1], curve)
-    check_refusals(count, told, told["cases"][1], curve, trace)
+    # the case with the most outputs
+    case = told["cases"][1]
+    check_shared(count, told, case, curve, trace)
+    check_expiries(count, told, case, curve, trace)
+    check_joined(count, told, case, curve, trace)
+    check_missing(count, told, case, curve, trace)
+    check_dust(count, told, case, curve)
+    check_numbers(count, told, curve)
+    check_deadlines(count, told, case, curve)
+    check_refusals(count, told, case, curve, trace)

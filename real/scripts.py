@@ -73,6 +73,18 @@ def is_witness_program(program):
     return versioned and 4 <= len(program) <= 42 and program[1] == len(program) - 2
 
 
+def is_public_key_hash(program):
+    """The hash of a key in a program without a witness (P2PKH)."""
+    return len(program) == 25 and program[:3] == b"\x76\xa9\x14" and program[-2:] == b"\x88\xac"
+
+
+def is_address(program):
+    """Whether wallets have an address for a program: the hash of a key or of a script, or a witness program whose length its version allows (BIP 141)."""
+    if program[:1] == b"\x00":
+        return is_key_hash(program) or is_script_hash(program)
+    return is_public_key_hash(program) or is_nesting(program) or is_witness_program(program)
+
+
 def is_taproot(program):
     return len(program) == 34 and program[:2] == b"\x51\x20"
 

@@ -6,7 +6,9 @@ import os
 import subprocess
 
 import channels
+import numbering
 import punishing
+from channels import HEIGHT
 from electrum import ecc
 from electrum.crypto import sha256d
 from electrum.transaction import PartialTransaction, Transaction, TxOutput
@@ -15,8 +17,9 @@ from tracing import Trace, built
 
 REVOKED = os.path.join(os.path.dirname(os.path.abspath(__file__)), "revoked")
 SECONDS = 900
-DESTINATION = b"\x00\x14" + b"\xc7" * 20
-FEERATES_PER_KW, HEIGHT = (253, 400, 1_000), 700_000
+# the hash of a key, and the least value of an output to it (BOLT 3, "Dust Limits")
+DESTINATION, DUST_SAT = b"\x00\x14" + b"\xc7" * 20, 294
+FEERATES_PER_KW = 253, 400, 1_000
 TOO_LITTLE = "too little to be passed on"
 # a channel with HTLCs, by which the comparison is tried itself
 COMPARED_TWICE = 4
@@ -63,6 +66,7 @@ class Tally:
 
 def state_of(channel, raw):
     """What a tower stores of a channel's revoked state, with the transaction that it sees."""
+    confirmed_height = channel.confirmed_height()
     return {
         "transaction": raw,
         "secret": channel.secret.hex(),
@@ -72,6 +76,7 @@ def state_of(channel, raw):
         "destination": DESTINATION.hex(),
         "feerate_per_kw": FEERATES_PER_KW[channel.number % len(FEERATES_PER_KW)],
         "height": HEIGHT,
+        **({} if confirmed_height is None else {"confirmed_height": confirmed_height}),
     }
 
 
@@ -93,7 +98,7 @@ def by_call(channel, raw, curve, trace):
     """The same, without a process of its own."""
     state = punishing.read_state(json.dumps(state_of(channel, raw)))
     found = list(punishing.penalties(state, privates_of(channel), curve, trace, is_legacy=channel.is_legacy))
-    return found, int(bool(found[-1]["others"]))
+    return found, int(bool(found[-1]["others"] or found[-1]["no_key"]))
 
 
 def is_signed(made, output, known, signature):
@@ -114,13 +119,19 @@ def items_of(known):
     return {"to_local": [b"\x01"], "to_remote": []}.get(known.kind, [known.key])
 
 
+def blocks_left(known):
+    """The number of next blocks before the first one in which somebody else can take the output."""
+    return None if known.first_height is None else max(0, known.first_height - (HEIGHT + 1))
+
+
 def faults_of(answer, transaction, at, known):
     """What an answer has otherwise than Electrum has of the output that stands there."""
     output = transaction.outputs()[at]
     left_sat = output.value - answer["fee"]
     faults = {"outputs": answer["outputs"] != [at], "kinds": answer["kinds"] != [known.kind], "value": answer["value"] != output.value}
-    faults["answer"] = answer["answer"] != (TOO_LITTLE if left_sat < punishing.DUST_SAT else "taken")
+    faults["answer"] = answer["answer"] != (TOO_LITTLE if left_sat < DUST_SAT else "taken")
     if answer["answer"] == "taken":
+        faults["deadline_blocks"] = answer["deadline_blocks"] != blocks_left(known)
         made = Transaction(answer["transaction"])
         made.deserialize()
         witness = made.inputs()[0].witness_elements()
@@ -135,14 +146,16 @@ def faults_of(answer, transaction, at, known):
 def compare(tally, name, known, transaction, answered):
     """Each output whose program Electrum knows is taken as Electrum has it, and each other one is named. The answers, and the outputs that are named."""
     (*answers, last), status = answered
-    programs = [it.scriptpubkey for it in transaction.outputs()]
-    taken = [at for at, it in enumerate(programs) if it in known]
-    others = [at for at, it in enumerate(programs) if it not in known]
-    tally.check(last == {"transaction": transaction.txid(), "taken": taken, "others": others}, f"{name}: {last}, and not {taken} and {others}")
+    outputs = transaction.outputs()
+    own = [at for at, it in enumerate(outputs) if it.scriptpubkey in known]
+    others = [at for at, it in enumerate(outputs) if it.scriptpubkey not in known]
+    little = [at for at, it in zip(own, answers) if outputs[at].value - it["fee"] < DUST_SAT]
+    wanted = {"transaction": transaction.txid(), "taken": [at for at in own if at not in little], "too_little": little, "no_key": [], "others": others}
+    tally.check(last == wanted, f"{name}: {last}, and not {wanted}")
     tally.check(status == int(bool(others)), f"{name}: status {status}")
-    tally.check(len(answers) == len(taken), f"{name}: {len(answers)} answers")
-    for at, answer in zip(taken, answers):
-        faults = faults_of(answer, transaction, at, known[programs[at]])
+    tally.check(len(answers) == len(own), f"{name}: {len(answers)} answers")
+    for at, answer in zip(own, answers):
+        faults = faults_of(answer, transaction, at, known[outputs[at].scriptpubkey])
         tally.check(not faults, f"{name}: output {at}: {faults}")
     return answers, others
 
@@ -153,6 +166,7 @@ def spoiled(answer, known):
     yield "kinds", {**answer, "kinds": ["another"]}
     yield "value", {**answer, "value": answer["value"] + 1}
     yield "answer", {**answer, "answer": TOO_LITTLE}
+    yield "deadline_blocks", {**answer, "deadline_blocks": (answer["deadline_blocks"] or 0) + 1}
     yield "paid", {**answer, "fee": answer["fee"] + 1}
     yield "txid", {**answer, "txid": "00" * 32}
     other = "ab" if known.last[-1] != 0xAB else "cd"
@@ -165,12 +179,15 @@ def spoiled(answer, known):
 def check_itself(tally, answered, transaction, known):
     """The comparison finds each thing that is wrong, so that it can fail."""
     (*answers, last), status = answered
-    at, answer = next((at, it) for at, it in zip(last["taken"], answers) if it["answer"] == "taken")
+    answer = next(it for it in answers if it["answer"] == "taken")
+    at = answer["outputs"][0]
     for name, it in spoiled(answer, known[transaction.outputs()[at].scriptpubkey]):
         found = faults_of(it, transaction, at, known[transaction.outputs()[at].scriptpubkey])
         tally.check(found == [name], f"the comparison itself: {found}, and not {name}")
     wrong = {**last, "taken": last["taken"][1:], "others": last["taken"][:1]}
-    for it in (([*answers[1:], last], status), ([*answers, last], 1 - status), ([*answers, wrong], status), ([*answers[::-1], last], status)):
+    little = {**last, "taken": last["taken"][1:], "too_little": [*last["taken"][:1], *last["too_little"]]}
+    rows = (([*answers[1:], last], status), ([*answers, last], 1 - status), ([*answers, wrong], status), ([*answers, little], status), ([*answers[::-1], last], status))
+    for it in rows:
         quiet = Tally(is_quiet=True)
         compare(quiet, "", known, transaction, it)
         tally.check(quiet.differ, "the comparison itself")
@@ -218,8 +235,15 @@ def raw_of(transaction, number):
     return transaction.serialize_to_network(include_sigs=number // 4 % 2 == 0)
 
 
+def check_number(tally, name, channel, raw):
+    """The number that the commitment has is the channel's."""
+    opener, other = channels.payment_bases(channel)
+    found = numbering.told(json.dumps({"transaction": raw, "opener_payment": opener.hex(), "other_payment": other.hex()}))
+    tally.check(found["commitment_number"] == channel.commitment_number, f"{name}: commitment number {found['commitment_number']}")
+
+
 def watch(tally, number, curve, trace):
-    """All that is asked of one channel: its commitment by the program, and with each part changed; each of its HTLC transactions, and the first with each part changed."""
+    """All that is asked of one channel: its commitment by the program, and with each part changed; its number; each of its HTLC transactions, and the first with each part changed."""
     channel = channels.drawn(number)
     commitment, known, name = channels.commitment_of(channel), channels.known(channel), f"channel {number}"
     raw = raw_of(commitment, number)
@@ -230,6 +254,7 @@ def watch(tally, number, curve, trace):
         check_itself(tally, answered, commitment, known)
     tally.check(not others, f"{name}: Electrum does not know its own outputs {others}")
     tally.add(answers, False)
+    check_number(tally, name, channel, raw)
     watch_changed(tally, name, channel, commitment, raw, curve, trace)
     for place, it in enumerate(channel.untrimmed()):
         second, where = channels.second_stage_of(channel, commitment, it), f"{name}, HTLC transaction {place}"
