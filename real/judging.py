@@ -115,7 +115,7 @@ def other_kind(program):
     if scripts.is_taproot(program):
         return Settled("Taproot", "the output is one of version 1 (BIP 341)")
     if scripts.is_nesting(program):
-        return Settled("NestedInput", "the output has the hash of a script that is no witness program (BIP 16); what it nests is not judged")
+        return Settled("NestedInput", "the output has the hash of a script (BIP 16); a witness program that is nested in it is not judged")
     if scripts.is_witness_program(program):
         return Settled("OtherWitnessProgram", "the output is of another version or length than version 0 with 20 or 32 bytes")
     return Settled("LegacyInput", "the output is no witness program (BIP 141)")
@@ -327,15 +327,17 @@ def answer(case, said, transaction, curve):
     found, relay = {"signatures": told_signatures(case), "digest": said["digest"]}, sorted(end.relay | relayed(case))
     if "path" in said:
         return {"answer": "clean", "path": said["path"], "counted": said["counted"], "height": said["height"], **found, "relay": relay}
-    stop = {"reason": said["stopped"], "opcode": said["opcode"], "op": said["op"], "byte": said["byte"], "says": says_of(said)}
+    stop = {"reason": said["stopped"], "opcode": said["opcode"], "op": said["op"], "byte": said["byte"], "says": says_of(said, case)}
     stop = {"answer": "stricter here" if end.valid else "stops", **stop, "stack": case.real(said["stack"]), **found}
     return {**stop, "relay": relay} if end.valid else stop
 
 
-def says_of(said):
+def says_of(said, case):
     """Why a run stops, in words for real signatures."""
     if said["stopped"] == "FailedCheck TokenForm":
         return "a signature is neither empty nor in strict DER (BIP 66), or the script pushes it"
+    if said["stopped"] == "FalseEnd" and len(case.signed) > 1 and all(it.key for it in case.signed):
+        return f"{said['says']}; but each signature is valid for a key that stands here: are they in the order of the keys?"
     return said["says"]
 
 

@@ -45,7 +45,7 @@ def page(it):
     if "txid" in it:
         return whole_page(it)
     found = head(it)
-    found += "".join(f"  signed  item {each['item']} " + (f"by {each['key']}\n" if each["key"] else "by no key that stands here\n") for each in it.get("signatures", []))
+    found += "".join(f"  signed  item {each['item']} " + (f"by {each['key']}\n" if each["key"] else "by no compressed key that stands here\n") for each in it.get("signatures", []))
     found += "".join(f"  stack   {each or '-'}\n" for each in it.get("stack", []))
     found += "".join(f"  relay   {each}: {RELAY[each]}\n" for each in it.get("relay", []))
     return found + (f"  digest  {it['digest']}\n" if "digest" in it else "")
