@@ -30,23 +30,28 @@ class Tree:
         left, top = STEP * depth, self.y
         cell, state = self.cell(output.states, lambda it: f"{it}|{it}")
         kind, status = state.split("|")
-        sides = output.sides if output.kind != "funding" else "AB"
+        sides, first, late = output.sides, output.sides_at_first, output.late
         elbow = [element("path", d=f"M{left - STEP + 8} {rail}V{top + 13}H{left}", class_="rail")] if rail else []
-        inside = [*elbow, *chip(sides, left, top)]
+        inside = [*elbow, *chip(first, sides, left, top)]
         x = left + (40 if len(sides) == 2 else 26)
         inside.append(element("text", element("tspan", satoshis(output.value), class_="strong"), escaped(f" {kind_of(output)}"), x=x, y=top + 17, class_="said"))
         inside.append(element("text", escaped(status), x="100%", dx=-6, y=top + 17, class_="small soft end status", data_c=cell, data_part=1))
-        y = top + 22
-        for way in ways(output):
-            for line in lines(way, WIDE - x - 8, 12):
-                y += 15
-                inside.append(words(x, y - 4, line, "small soft"))
+        y, lined = written(ways(output, [it for it in output.ways if it not in late]), x, top + 22)
+        inside += lined
+        y, lined = written(ways(output, late), x, y)
         y += 4
-        ground = element("rect", x=left, y=top + 1, width="100%", height=y - top - 2, rx=5, class_=f"ground {sides}")
-        self.parts.append(element("g", told(heard(output)), ground, *inside, class_=f"output {kind}", role="listitem", data_c=cell, data_part=0))
+        grounds = [ground(first, left, top, y)]
+        if late:
+            grounds.append(self.later(late, [*([ground(sides, left, top, y)] if first != sides else []), *chip(sides.replace(first, ""), sides, left, top), *lined]))
+        self.parts.append(element("g", told(heard(output)), *grounds, *inside, class_=f"output {kind}", role="listitem", data_c=cell, data_part=0))
         self.y = y + 2
         for spend in output.spenders:
             self.spend(spend, depth + 1, left, top + 22, output is spend.inputs[0])
+
+    def later(self, late, inside):
+        """What an output has from the event on at which a way to spend it came."""
+        cell, state = self.cell([(late[0]["since"], "there|")], str)
+        return element("g", *inside, class_=f"late {state.split('|')[0]}", data_c=cell, data_part=0)
 
     def spend(self, spend, depth, rail, top, first):
         """A transaction, and the outputs that it makes. They stand below the first output that it spends; below the others it is named alone."""
@@ -64,24 +69,40 @@ class Tree:
             self.output(output, depth + 1, rail)
 
 
-def chip(sides, left, top):
-    """Who can spend an output, as a letter on the side's colour; two where both can."""
+def ground(sides, left, top, end):
+    """The ground of an output, in the colour of who can spend it."""
+    return element("rect", x=left, y=top + 1, width="100%", height=end - top - 2, rx=5, class_=f"ground {sides}")
+
+
+def chip(some, sides, left, top):
+    """Who can spend an output, as a letter on the side's colour; two where both can. Only some of them are drawn, each in its place."""
     found = []
     for number, side in enumerate(sides):
-        found.append(element("rect", x=left + 4 + 15 * number, y=top + 5, width=16, height=16, rx=3, class_=f"chip {side}"))
-        found.append(words(left + 12 + 15 * number, top + 17, side, f"small middle strong on {side}"))
+        if side in some:
+            found.append(element("rect", x=left + 4 + 15 * number, y=top + 5, width=16, height=16, rx=3, class_=f"chip {side}"))
+            found.append(words(left + 12 + 15 * number, top + 17, side, f"small middle strong on {side}"))
     return found
 
 
-def ways(output):
-    """Who can spend an output, how and from which block on, a line each."""
+def written(said, x, y):
+    """Lines of small text from a height on, and the height of their end."""
+    broken = [line for one in said for line in lines(one, WIDE - x - 8, 12)]
+    return y + 15 * len(broken), [words(x, y + 11 + 15 * number, line, "small soft") for number, line in enumerate(broken)]
+
+
+def ways(output, some):
+    """Who can spend an output, how and from which block on, a line each. A way that came after the output has its event."""
     if output.kind in ("wallet", "funding"):
         return []
-    return [f"{it['side']} {BY.get(it['by'], it['by'])}, from block {it['due']:,}" for it in output.ways]
+    return [f"{it['side']} {BY.get(it['by'], it['by'])}, from block {it['due']:,}{since(it)}" for it in some]
+
+
+def since(way):
+    return f", since event {way['since']:,}" if way["since"] >= 0 else ""
 
 
 def heard(output):
-    return f"{kind_of(output)} of {satoshis(output.value)}: {'; '.join(ways(output)) or 'of ' + ' and '.join(output.sides)}. Outpoint {output.outpoint}"
+    return f"{kind_of(output)} of {satoshis(output.value)}: {'; '.join(ways(output, output.ways)) or 'of ' + ' and '.join(output.sides)}. Outpoint {output.outpoint}"
 
 
 def picture(story, channel, now, wide=None, headed=False):

@@ -8,7 +8,7 @@ import outputs
 import script_tree
 import sequence
 from drawing import element, escaped, figure
-from story import many, satoshis
+from story import PANEL, many, satoshis
 
 HERE = pathlib.Path(__file__).resolve().parent
 WINDOW = 200
@@ -120,9 +120,6 @@ def controls(story, now):
     )
 
 
-PANEL = {"height": "chain", "pool": "in the pool", "jobs": "jobs", "kept": "penalties", "commitments": "commitments", "htlcs": "HTLCs", "way": "on the way"}
-
-
 def panel(story, now):
     """The current state: a list of names and values."""
     found = ["<h2>How all stands</h2>", "<dl>"]
@@ -141,7 +138,7 @@ def entry(name, cell, story, now):
 def ending(story):
     """How the run ends, in a sentence."""
     if story.end is None:
-        return "The trace breaks off before its end."
+        return f"{story.stops()}."
     end = story.end
     refused = sum(row.refused for row in story.rows)
     said = f"It ends at height {end['height']:,} with {many(end['unspent'], 'unspent output')} worth {satoshis(end['value'])}, and {satoshis(end['fees'])} of fees."

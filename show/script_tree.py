@@ -175,7 +175,8 @@ def paths(script, wide):
     listed = script["paths"]
     whole = tree([(number, path["facts"]) for number, path in enumerate(listed)]) if listed else None
     paper = Paper(script, wide, depth(whole) if whole else 0)
-    paper.text(0, f"{many(len(listed), 'way')} to spend an output to this script" if listed else "No witness spends an output to this script", "strong big", 15)
+    heading = f"{many(len(listed), 'way')} to spend an output to this script, by the rules here" if listed else "No listed way to spend an output to this script"
+    paper.text(0, heading, "strong big", 15)
     paper.y += 6
     if whole and whole["path"] is not None:
         paper.card(whole["path"], 0)

@@ -6,6 +6,10 @@ from itertools import islice
 SIDES = ("A", "B")
 PEER = {"A": "B", "B": "A"}
 WHOLE_LISTS = 6
+# what a panel calls each of its lines
+PANEL = {"height": "chain", "pool": "in the pool", "jobs": "jobs", "kept": "penalties", "commitments": "commitments", "htlcs": "HTLCs", "way": "on the way"}
+# what the secret of a revoked commitment opens to the other side
+REVOCABLE = ("to_local", "htlc", "second_stage")
 
 
 def satoshis(value):
@@ -25,7 +29,7 @@ def many(count, what, more=None):
 
 @dataclass
 class Output:
-    """An output, and the events at which it came and went: pairs of an event and whether it is unspent after it."""
+    """An output, and the events at which it came and went: pairs of an event and whether it is unspent after it. Where a revocation opens it, `commitment` has owner and number."""
 
     outpoint: str
     channel: int
@@ -36,11 +40,27 @@ class Output:
     more: dict
     states: list = field(default_factory=list)
     spenders: list = field(default_factory=list)
+    commitment: tuple | None = None
 
     @property
     def sides(self):
         """Who can spend it, at once or later."""
         return "".join(sorted({it["side"] for it in self.ways})) or self.owner or "AB"
+
+    @property
+    def late(self):
+        """The ways that came after the output did."""
+        return [it for it in self.ways if it["since"] >= 0]
+
+    @property
+    def sides_at_first(self):
+        """Who can spend it by the other ways."""
+        return "".join(sorted({it["side"] for it in self.ways if it["since"] < 0})) or self.sides
+
+    def set_ways(self, ways, event):
+        """The ways to spend it from an event on. One that came after the output has the event at which it came as `since`, the others -1."""
+        since = {it["by"]: it["since"] for it in self.ways}
+        self.ways = [{**it, "since": since.get(it["by"], event if self.states else -1)} for it in ways]
 
 
 @dataclass
@@ -54,6 +74,11 @@ class Spend:
     inputs: list
     states: list = field(default_factory=list)
     outputs: list = field(default_factory=list)
+
+    @property
+    def height(self):
+        """The height of the last block that took it."""
+        return next(height for _, height in reversed(self.states) if height is not None)
 
 
 @dataclass
@@ -102,6 +127,8 @@ class Channel:
         self.revoked = {side: -1 for side in SIDES}
         self.signed = {side: 0 for side in SIDES}
         self.closed = {side: False for side in SIDES}
+        # the commitments that blocks took, and their HTLC transactions
+        self.closing = []
         self.htlcs, self.stages, self.queue = {}, {}, {side: deque() for side in SIDES}
         # HTLCs that some newest commitment has or will have, in the order in which they were offered
         self.live = {}
@@ -153,7 +180,7 @@ class Story:
     """The whole of a trace. `rows` has a row for each event, `cells` what stands at each moment."""
 
     def __init__(self, opening):
-        self.cells = Cells()
+        self.cells, self.events = Cells(), opening["events"]
         self.channels = [Channel(number, terms, self.cells) for number, terms in enumerate(opening["channels"])]
         self.rows, self.end, self.heights = [], None, []
         self.outputs = {it.funding.outpoint: it.funding for it in self.channels}
@@ -161,6 +188,10 @@ class Story:
         self.pool, self.jobs = {}, {side: (0, 0) for side in SIDES}
         self.kept = {side: 0 for side in SIDES}
         self.panel = {name: self.cells.new(self.told(name)) for name in ("height", "pool", "jobs", "kept")}
+
+    def stops(self):
+        """Where a trace stops that does not have its end."""
+        return f"The trace stops {f'after event {len(self.rows) - 1:,}' if self.rows else 'before event 0'} of {self.events:,}"
 
     def told(self, name):
         """A line of the panel of both sides and the chain."""
@@ -215,8 +246,7 @@ class Story:
         if "held" in line:
             self.hold(line["held"])
         if "revoked" in line:
-            it = line["revoked"]
-            self.channels[it["channel"]].revoked[it["owner"]] = it["number"]
+            self.learn(line["event"], line["revoked"])
         if "closed" in line:
             it = line["closed"]
             self.channels[it["channel"]].closed[it["owner"]] = True
@@ -237,6 +267,22 @@ class Story:
         other = channel.newest[PEER[it["owner"]]]
         for key in gone - other["on"]:
             channel.live.pop(key, None)
+
+    def learn(self, number, it):
+        """A side has the secret of a commitment of its peer's. If a block took that before, the side can spend its outputs from now on."""
+        channel = self.channels[it["channel"]]
+        channel.revoked[it["owner"]] = it["number"]
+        for spend in channel.closing:
+            for output in spend.outputs:
+                output.set_ways(self.ways(output, output.ways, spend.height), number)
+                channel.move(output, output.outpoint in channel.unspent)
+
+    def ways(self, output, told, height):
+        """The ways to spend an output, with that by a revocation which came after the commitment's block."""
+        owner, number = output.commitment or (None, 0)
+        if owner is None or number > self.channels[output.channel].revoked[owner] or "revocation" in {it["by"] for it in told}:
+            return told
+        return [*told, {"side": PEER[owner], "by": "revocation", "due": height}]
 
     def follow_chain(self, number, line):
         """Applies what an event says about pool and chain."""
@@ -272,25 +318,32 @@ class Story:
     def mine(self, number, mined):
         """A block takes a transaction."""
         inputs = [self.outputs[it] for it in mined["spends"]]
-        spend = self.spends.get(mined["txid"])
-        if spend is None:
-            said = spoken(self, mined)
-            brief = said if mined["kind"] != "claim" else f"{mined['owner']}'s claim" + (f" of {len(inputs)} outputs" if len(inputs) > 1 else "")
-            spend = Spend(mined["txid"], said, brief, mined["fee"], inputs)
-            self.spends[mined["txid"]] = spend
-            for output in inputs:
-                output.spenders.append(spend)
-            for it in mined["outputs"]:
-                output = Output(it["outpoint"], mined["channel"], it["value"], it["kind"], it["owner"], it["ways"], it)
-                self.outputs[it["outpoint"]] = output
-                spend.outputs.append(output)
+        spend = self.spends.get(mined["txid"]) or self.meet(mined, inputs)
         self.names[mined["txid"]] = spend.said + self.place(mined["channel"])
         spend.states.append((number, mined["height"]))
         for output, it in zip(spend.outputs, mined["outputs"]):
-            output.ways = it["ways"]
+            output.set_ways(self.ways(output, it["ways"], mined["height"]), number)
             self.move(number, output, "unspent")
         for output in inputs:
             self.move(number, output, "spent")
+
+    def meet(self, mined, inputs):
+        """A transaction that no block took before."""
+        said = spoken(self, mined)
+        brief = said if mined["kind"] != "claim" else f"{mined['owner']}'s claim" + (f" of {len(inputs)} outputs" if len(inputs) > 1 else "")
+        spend = Spend(mined["txid"], said, brief, mined["fee"], inputs)
+        self.spends[mined["txid"]] = spend
+        for output in inputs:
+            output.spenders.append(spend)
+        commitment = (mined["owner"], mined["number"]) if mined["kind"] == "commitment" else inputs[0].commitment
+        for it in mined["outputs"]:
+            output = Output(it["outpoint"], mined["channel"], it["value"], it["kind"], it["owner"], [], it)
+            output.commitment = commitment if it["kind"] in REVOCABLE else None
+            self.outputs[it["outpoint"]] = output
+            spend.outputs.append(output)
+        if mined["kind"] != "claim":
+            self.channels[mined["channel"]].closing.append(spend)
+        return spend
 
 
 def spoken(story, mined):
@@ -430,14 +483,19 @@ def tell_reorg(story, line, event, before):
 def tell_look(story, line, event, before):
     claims = line.get("claims", [])
     several = len(story.channels) > 1
-    more = [f"{'ch ' + str(it['channel']) + ': ' if several else ''}{satoshis(it['value'])} by {it['by']}{due(it)}" for it in claims[:WHOLE_LISTS]]
+    more = [f"{'ch ' + str(it['channel']) + ': ' if several else ''}{satoshis(it['value'])} by {it['by']}{due(story, it)}" for it in claims[:WHOLE_LISTS]]
     if len(claims) > WHOLE_LISTS:
         more.append(f"and {len(claims) - WHOLE_LISTS:,} more")
     return f"{event[1]} looks: {many(len(claims), 'claim')}", more, [("from chain", event[1])]
 
 
-def due(claim):
-    return f", due in block {claim['due']:,}" if claim["due"] is not None else ", not on chain yet"
+def due(story, claim):
+    """When a claim can be taken. A spent output keeps its `due`."""
+    if claim["due"] is None:
+        return ", not on chain yet"
+    output = story.outputs.get(claim["outpoint"])
+    spent = ", already spent" if output is not None and output.states[-1][1] == "spent" else ""
+    return f", due in block {claim['due']:,}{spent}"
 
 
 def tell_take(story, line, event, before):

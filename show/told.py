@@ -1,7 +1,7 @@
 """What `trace` tells of a scenario or of a book, in sentences: the ones that the pictures have, and of a book what to claim first."""
-from story import PEER, many, millisatoshis, satoshis
+from story import PANEL, PEER, many, millisatoshis, satoshis
 
-# how soon others can take an output, the soonest first
+# how soon others can take an output, the soonest first, barring a penalty on an HTLC whose preimage they may have
 ORDER = ("until", "blocks", "no_preimage", "always")
 WAYS = {
     "payment": "by its own key",
@@ -12,7 +12,7 @@ WAYS = {
 
 
 def scenario(told):
-    """The events of a scenario, a line each with what belongs to it, and how all stands at the end."""
+    """The events of a scenario, a line each with what belongs to it, and how all stands at the end, or where the trace stops."""
     lines = []
     for row in told.rows:
         place = f" (channel {row.channel})" if row.channel is not None and len(told.channels) > 1 else ""
@@ -20,8 +20,8 @@ def scenario(told):
         lines += [f"      {it}" for it in row.more]
     last = len(told.rows) - 1
     lines.append("")
-    lines.append("At the end:")
-    lines += [f"  {told.cells.at(cell, last)}" if name == "height" else f"  {name}: {told.cells.at(cell, last)}" for name, cell in told.panel.items()]
+    lines.append("At the end:" if told.end is not None else f"{told.stops()}:")
+    lines += [f"  {PANEL[name]}: {told.cells.at(cell, last)}" for name, cell in told.panel.items()]
     for channel in told.channels:
         lines += ended(told, channel, last)
     return "".join(f"{it}\n" for it in lines)
@@ -32,7 +32,7 @@ def ended(told, channel, last):
     a, undecided, fees, b = channel.money[-1][1]
     said = f"A {satoshis(a)}, B {satoshis(b)}" + (f", undecided {satoshis(undecided)}" if undecided else "") + (f", fees {satoshis(fees)}" if fees else "")
     lines = [f"Channel {channel.number}: {said}"]
-    return lines + [f"  {name}: {told.cells.at(cell, last)}" for name, cell in channel.cells.items()]
+    return lines + [f"  {PANEL[name]}: {told.cells.at(cell, last)}" for name, cell in channel.cells.items()]
 
 
 def book(lines):
@@ -78,8 +78,9 @@ def closing(close, side, peer):
 
 
 def urgency(claim):
-    """What is released first: that which others can take soonest. Of two of a kind the lower number, then the greater value."""
-    return ORDER.index(claim["alone"]), claim["limit"] or 0, -claim["value"]
+    """What is released first: a penalty that others can get ahead of at once, then that which they can take soonest. Of two of a kind the lower number, then the greater value."""
+    at_once = claim["by"] == "penalty" and claim["alone"] == "no_preimage"
+    return not at_once, ORDER.index(claim["alone"]), claim["limit"] or 0, -claim["value"]
 
 
 def output(claim):
@@ -87,7 +88,8 @@ def output(claim):
 
 
 def lock(claim):
-    return f" from height {claim['lock']:,} on" if claim["lock"] is not None else ""
+    """The first block that can take a claim with a lock time."""
+    return f" from block {claim['lock'] + 1:,} on" if claim["lock"] is not None else ""
 
 
 def alone(claim, peer):
@@ -96,5 +98,5 @@ def alone(claim, peer):
         "always": "its own as long as it is unspent",
         "blocks": f"its own until the output is {claim['limit']} blocks old",
         "until": f"its own up to the block of height {claim['limit']}",
-        "no_preimage": f"its own while {peer} lacks the preimage",
+        "no_preimage": f"{peer} can take it at once if it has the preimage",
     }[claim["alone"]]
