@@ -21,6 +21,8 @@ pub(crate) enum Manner {
     HoldsFirst,
     /// It holds the job of ticket 0 until penalties are kept in one of two channels. Its own are not.
     HoldsForOther,
+    /// It stops the worker that takes the job of ticket 0.
+    ShutsFirst,
     /// It stops each worker at its first ticket, once the peer has revoked its commitment 0 in both of two channels.
     Shut,
 }
@@ -84,7 +86,7 @@ impl TestGate {
         let first = refusal_in(rt, desk, seat, 0);
         let second = refusal_in(rt, desk, seat, 1);
         match self.manner {
-            Manner::Open => true,
+            Manner::Open | Manner::ShutsFirst => true,
             Manner::HoldsFirst => self.is_done.load(Ordering::SeqCst) != 0,
             Manner::HoldsForOther => {
                 first == Some(KeepError::AlreadyKept) || second == Some(KeepError::AlreadyKept)
@@ -154,7 +156,7 @@ impl Gate for TestGate {
         }
     }
 
-    fn go_on(&self, _ticket: u64) -> bool {
-        self.manner != Manner::Shut
+    fn go_on(&self, ticket: u64) -> bool {
+        self.manner != Manner::Shut && (self.manner != Manner::ShutsFirst || ticket != 0)
     }
 }

@@ -16,4 +16,6 @@ mod reports;
 #[cfg(test)]
 mod scenarios;
 #[cfg(test)]
+mod schedules;
+#[cfg(test)]
 mod words;

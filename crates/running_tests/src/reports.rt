@@ -46,10 +46,19 @@ pub(crate) fn report_of<R: Threads + Wait + Abort + Sync>(
     run: &Run,
     chain: &str,
 ) -> Report {
+    report_of_text(rt, alloc, run, text_with(rt, alloc, run.has_two, chain))
+}
+
+/// The same of a run of this scenario.
+pub(crate) fn report_of_text<R: Threads + Wait + Abort + Sync>(
+    rt: &R,
+    alloc: Global,
+    run: &Run,
+    text: String,
+) -> Report {
     let workers = run.workers;
     assert!(rt; 0 < workers && workers <= 16);
     let gate = TestGate::new(run.manner);
-    let text = text_with(rt, alloc, run.has_two, chain);
     let scenario = Scenario::read(alloc, text.as_bytes()).expect(rt, "a scenario");
     let report = run_node(rt, alloc, &scenario, workers, &gate).expect(rt, "memory, and threads");
     assert!(rt; gate.has_come());

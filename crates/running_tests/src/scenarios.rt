@@ -28,16 +28,45 @@ fn push(rt: &impl Abort, text: &mut String, more: &str) {
     text.push_str(more).expect(rt, "memory");
 }
 
+// Appends the seeds, and the terms of one channel or of two.
+fn push_front(rt: &impl Abort, text: &mut String, has_two: bool) {
+    push(rt, text, FRONT);
+    push(rt, text, TERMS);
+    if has_two {
+        push(rt, text, ",");
+        push(rt, text, TERMS);
+    }
+    push(rt, text, "],\"events\":[");
+}
+
+// In channel 0 A offers an HTLC, and B fulfils it.
+const OFFERED_BY_A: &str =
+    "[\"offer\",\"A\",0,10000000,\"66687aadf862bd776c8fc18b8e9f8e20089714856ee233b3902a591d0d5f2925\",40],[\"deliver\",\"B\",0],[\"sign\",\"A\",0],[\"deliver\",\"B\",0],[\"deliver\",\"A\",0],[\"sign\",\"B\",0],[\"deliver\",\"A\",0],[\"deliver\",\"B\",0],[\"fulfil\",\"B\",0,0,\"0000000000000000000000000000000000000000000000000000000000000000\"],";
+
+// In channel 1 B offers an HTLC with the same hash.
+const OFFERED_BY_B: &str =
+    "[\"offer\",\"B\",1,10000000,\"66687aadf862bd776c8fc18b8e9f8e20089714856ee233b3902a591d0d5f2925\",30],[\"deliver\",\"A\",1],[\"sign\",\"B\",1],[\"deliver\",\"A\",1],[\"deliver\",\"B\",1],[\"sign\",\"A\",1],[\"deliver\",\"B\",1],[\"deliver\",\"A\",1],";
+
+// B closes both. It takes A's HTLC of channel 0 by its HTLC-success transaction, whose preimage is that of its own HTLC in channel 1. A reorganisation forgets one transaction, which may be this one. It is
+// broadcast again, and a block follows the one in which it stands at last.
+const CLAIMED_BY_B: &str =
+    "[\"broadcast\",\"B\",1,1],[\"broadcast\",\"B\",0,1],[\"blocks\",1],[\"broadcast\",\"B\",0,1,0],[\"blocks\",1],[\"reorg\",1,1],[\"broadcast\",\"B\",0,1,0],[\"blocks\",2]";
+
+/// The text of a scenario of two channels, in one of which a preimage is learnt that the other asks for.
+pub(crate) fn text_of_learnt_preimage(rt: &impl Abort, alloc: Global) -> String {
+    let mut text = String::new(alloc);
+    push_front(rt, &mut text, true);
+    push(rt, &mut text, OFFERED_BY_A);
+    push(rt, &mut text, OFFERED_BY_B);
+    push(rt, &mut text, CLAIMED_BY_B);
+    push(rt, &mut text, "]}");
+    text
+}
+
 /// The text of a scenario of one channel or of two, each with all of these turns, and then further events.
 pub(crate) fn text_with(rt: &impl Abort, alloc: Global, has_two: bool, chain: &str) -> String {
     let mut text = String::new(alloc);
-    push(rt, &mut text, FRONT);
-    push(rt, &mut text, TERMS);
-    if has_two {
-        push(rt, &mut text, ",");
-        push(rt, &mut text, TERMS);
-    }
-    push(rt, &mut text, "],\"events\":[");
+    push_front(rt, &mut text, has_two);
     push_turns(rt, &mut text, '0');
     if has_two {
         push_turns(rt, &mut text, '1');
