@@ -1,0 +1,6 @@
+mod LookExamples
+mod TextExamples
+mod OpcodeExamples
+mod TakerExamples
+mod LockExamples
+mod HtlcExamples

@@ -1,0 +1,46 @@
+-- Relative locks, by the bits of BIP 68.
+use Rattle.std.proofs.Common.{◌≡◌, ℕ, Bool, true, false, [], ◌∷◌, map, refl, None}
+use Rattle.script.specs.declared.opcode.Op.TheVariants.{Push, Number, Drop, CheckLockTimeVerify, CheckSequenceVerify}
+use Rattle.script.specs.Number.{number_of}
+use Rattle.facts.specs.Symbols.{Fact, Stated}
+use Rattle.facts.specs.declared.symbols.FactOver.TheVariants.{Lock, Age}
+use Rattle.warnings.specs.declared.locks.SequenceLock.{SequenceLock}
+use Rattle.warnings.specs.declared.locks.SequenceLock.TheVariants.{Off, Blocks, Units}
+use Rattle.warnings.specs.declared.locks.LockWarning.{LockWarning}
+use Rattle.warnings.specs.Locks.{sequence_lock, is_plain, number_pushed, warned_at, warnings_in, has_unreachable_lock}
+
+-- bits 0 to 15, 16, 21, 22, 23, 30, 31 and 32
+locks : map sequence_lock (
+    0 ∷ 1 ∷ 144 ∷ 0xffff ∷ 0x10000 ∷ 0x10001 ∷ 0x200005 ∷ 0x400000 ∷ 0x400001 ∷ 0x40ffff ∷ 0x410001 ∷ 0x800005 ∷ 0x40000005 ∷ 0x7fffffff ∷ 0x80000000 ∷ 0x80000090 ∷ 0x100000005 ∷ []) ≡
+    Blocks 0 ∷ Blocks 1 ∷ Blocks 144 ∷ Blocks 0xffff ∷ Blocks 0 ∷ Blocks 1 ∷ Blocks 5 ∷ Units 0 ∷ Units 1 ∷ Units 0xffff ∷ Units 1 ∷ Blocks 5 ∷ Blocks 5 ∷ Units 0xffff ∷ Off ∷ Off ∷ Blocks 5 ∷ []
+unfolding sequence_lock
+locks = refl
+
+-- what says all that it asks for: 1 to 65,535 blocks, or so many units
+plain : map is_plain (0 ∷ 1 ∷ 0xffff ∷ 0x10000 ∷ 0x3fffff ∷ 0x400000 ∷ 0x400001 ∷ 0x40ffff ∷ 0x410000 ∷ 0x80000000 ∷ [])
+    ≡ false ∷ true ∷ true ∷ false ∷ false ∷ false ∷ true ∷ true ∷ false ∷ false ∷ []
+unfolding is_plain
+plain = refl
+
+abbrev warning : ℕ → ℕ → SequenceLock → LockWarning
+warning op number lock = record { op = op; number = number; lock = lock }
+
+-- the number stands right before the opcode: as a push of bytes, or from 1 to 16. CHECKLOCKTIMEVERIFY has no such bits
+warnings : map (warnings_in 0 None) (
+    (Push (0 ∷ 0 ∷ 1 ∷ []) ∷ CheckSequenceVerify ∷ Drop ∷ Push (0 ∷ 0 ∷ 0 ∷ 0x80 ∷ 0 ∷ []) ∷ CheckSequenceVerify ∷ [])
+    ∷ (Push [] ∷ CheckSequenceVerify ∷ []) ∷ (Number 16 ∷ CheckSequenceVerify ∷ []) ∷ (Push (0x90 ∷ 0 ∷ []) ∷ CheckSequenceVerify ∷ [])
+    ∷ (Push (0 ∷ 0 ∷ 1 ∷ []) ∷ CheckLockTimeVerify ∷ []) ∷ (CheckSequenceVerify ∷ []) ∷ (Push (0 ∷ 0 ∷ 1 ∷ []) ∷ Drop ∷ CheckSequenceVerify ∷ [])
+    ∷ (Push (0 ∷ 0 ∷ 0x81 ∷ []) ∷ CheckSequenceVerify ∷ []) ∷ (Push (0 ∷ 1 ∷ 0 ∷ []) ∷ CheckSequenceVerify ∷ []) ∷ []) ≡
+    (warning 1 0x10000 (Blocks 0) ∷ warning 4 0x80000000 Off ∷ []) ∷ (warning 1 0 (Blocks 0) ∷ []) ∷ [] ∷ [] ∷ [] ∷ [] ∷ [] ∷ [] ∷ [] ∷ []
+unfolding sequence_lock is_plain number_pushed warned_at number_of
+warnings = refl
+
+abbrev stated : Fact → Bool → Stated
+stated fact holds = record { fact = fact; holds = holds }
+
+-- the greatest lock time, the next number, one of 5 bytes, one that is to fail, one after another lock, a relative lock, and none
+beyond : map has_unreachable_lock (
+    (stated (Lock 0xffffffff) true ∷ []) ∷ (stated (Lock 0x100000000) true ∷ []) ∷ (stated (Lock 0x7fffffffff) true ∷ []) ∷ (stated (Lock 0x100000000) false ∷ [])
+    ∷ (stated (Lock 500) true ∷ stated (Lock 0x100000001) true ∷ []) ∷ (stated (Age 0x40ffff) true ∷ []) ∷ [] ∷ []) ≡
+    false ∷ true ∷ true ∷ false ∷ true ∷ false ∷ false ∷ []
+beyond = refl

@@ -1,0 +1,149 @@
+// Relative locks that ask for less than their number says, and locks that no transaction reaches.
+
+ghost use Rattle.std.specs.Prelude.{◌≡◌, ◌++◌, IfOk, OnOk, None, option_to_list};
+ghost use Rattle.warnings.specs.Locks.{sequence_lock, is_plain, number_pushed, warned_at, warnings_in, is_beyond, asks_beyond, has_unreachable_lock};
+
+use facts::{Fact, Stated};
+use script::Op;
+use script::num::{Limit, read};
+use std::alloc::{AllocError, Global};
+
+/// The lock that CHECKSEQUENCEVERIFY of a number asks for (BIP 68, BIP 112).
+#[derive(Clone, Copy, Debug, PartialEq, Eq, Drop)]
+pub enum SequenceLock {
+    /// None: bit 31 switches it off.
+    Off,
+    /// An age of this number of blocks.
+    Blocks(u16),
+    /// An age of this number of units of 512 seconds.
+    Units(u16),
+}
+
+/// A CHECKSEQUENCEVERIFY that asks for less than its number says, or for an age of 0.
+#[derive(Clone, Copy, Debug, PartialEq, Eq, Drop)]
+pub struct LockWarning {
+    /// The index of the opcode, counted from 0.
+    pub op: usize,
+    /// The number that the opcode before it pushes.
+    pub number: u64,
+    /// What it asks for.
+    pub lock: SequenceLock,
+}
+
+/// The lock that CHECKSEQUENCEVERIFY of a number asks for: bit 31 switches it off, bit 22 selects units of 512 seconds, bits 0 to 15 have the age, and no other bit counts (BIP 68).
+#[tactic(auto, unfolding(crate::specs::Locks::sequence_lock))]
+pub fn sequence_lock(number: u64) -> SequenceLock
+    ensures { result ≡ sequence_lock number }
+{
+    let age = (number % 65_536) as u16;
+    if number / 2_147_483_648 % 2 == 1 {
+        SequenceLock::Off
+    } else if number / 4_194_304 % 2 == 1 {
+        SequenceLock::Units(age)
+    } else {
+        SequenceLock::Blocks(age)
+    }
+}
+
+// Whether a number has no other bits than those of its lock, which is not 0.
+#[tactic(auto, unfolding(crate::specs::Locks::is_plain))]
+fn is_plain(number: u64) -> bool
+    ensures { result ≡ is_plain number }
+{
+    (0 < number && number < 65_536) || (4_194_304 < number && number < 4_259_840)
+}
+
+// The number that an opcode pushes, if it is not negative.
+#[tactic(auto, unfolding(crate::specs::Locks::number_pushed))]
+fn number_pushed(op: &Op) -> Option<u64>
+    ensures { result ≡ number_pushed op.now }
+{
+    match op {
+        Op::Number(n) => Some(u64::from(*n)),
+        Op::Push(item) => match read(item.bytes(), Limit::Lock) {
+            Some(number) => {
+                if number.negative {
+                    None
+                } else {
+                    Some(number.magnitude)
+                }
+            }
+            None => None,
+        },
+        _ => None,
+    }
+}
+
+// The warning about an opcode before which a number was pushed.
+#[tactic(auto, unfolding(crate::specs::Locks::warned_at))]
+fn warned_at(at: usize, before: Option<u64>, op: &Op) -> Option<LockWarning>
+    ensures { result ≡ warned_at at before op.now }
+{
+    match op {
+        Op::CheckSequenceVerify => match before {
+            Some(number) => {
+                if is_plain(number) {
+                    None
+                } else {
+                    Some(LockWarning {
+                        op: at,
+                        number,
+                        lock: sequence_lock(number),
+                    })
+                }
+            }
+            None => None,
+        },
+        _ => None,
+    }
+}
+
+// Appends a warning, if there is one. The only error is that memory ran out.
+fn push_some(
+    warnings: &mut Vec<LockWarning>,
+    warning: Option<LockWarning>,
+) -> Result<(), AllocError>
+    ensures { OnOk result (warnings.new.items ≡ warnings.old.items ++ option_to_list warning) }
+{
+    if let Some(warning) = warning {
+        warnings.push(warning)?;
+    }
+    Ok(())
+}
+
+/// The relative locks of a script that ask for less than the number that is pushed right before them says. The only error is that memory ran out.
+pub fn lock_warnings(alloc: Global, ops: &[Op]) -> Result<Vec<LockWarning>, AllocError>
+    ensures { IfOk result (λ v. v.items ≡ warnings_in 0 None ops.now) }
+{
+    let mut warnings = Vec::new(alloc);
+    let mut before: Option<u64> = None;
+    for (at, op) in ops.iter().enumerate() {
+        push_some(&mut warnings, warned_at(at, before, op))?;
+        before = number_pushed(op);
+    }
+    Ok(warnings)
+}
+
+// Whether a fact, if it holds, asks for a lock time that no transaction has.
+fn is_beyond(fact: &Fact) -> bool
+    ensures { result ≡ is_beyond fact.now }
+{
+    match fact {
+        Fact::Lock(number) => *number > 4_294_967_295,
+        _ => false,
+    }
+}
+
+// Whether a fact of a path asks for a lock time that no transaction has.
+fn asks_beyond(stated: &Stated) -> bool
+    ensures { result ≡ asks_beyond stated.now }
+{
+    stated.holds && is_beyond(&stated.fact)
+}
+
+/// Whether a path with these facts asks for a lock time that no transaction has: above 4,294,967,295, since it has 4 bytes (BIP 144).
+pub fn has_unreachable_lock(facts: &[Stated]) -> bool
+    ensures { result ≡ has_unreachable_lock facts.now }
+{
+    facts.iter().any(|stated| asks_beyond(stated))
+}
