@@ -1,9 +1,10 @@
 //! The words of the program `enforce` that need no scenario, and the status and text that they lead to.
 //!
 //! `ripemd HEX` hashes a message, and `paths HEX` lists the ways through a script. [`run_words`] does what the words say, over any writers, and returns a status of
-//! at most 2. What it prints is tested, not proved. [`finish`] writes a text and returns the status.
+//! at most 2. What it prints is tested, not proved, but for [`paths_text`], the whole text that `paths` prints of a listing. [`finish`] writes a text and returns the status.
 //!
 //! `digest` hashes, and `paths` lists. `enforce_words` has the word `run` beside these, and the program `enforce_scripts` has them alone, so that it is built in a short time.
+//! `enforce_c` gives the text of a listing to programs in C.
 //!
 //! ```rust
 //! let status = run_words(alloc, words, &mut out, &mut err);
@@ -21,6 +22,7 @@ mod listings;
 
 pub use answers::{ScriptWord, answer};
 pub use errors::ScriptError;
+pub use listings::paths_text;
 use std::alloc::Global;
 use std::fmt::{Display, Write as _};
 use std::io::Write;
