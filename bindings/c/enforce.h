@@ -107,6 +107,9 @@ uint32_t enforce_abi(void);
 /* Lists every way to spend an output with this script by the rules of the machine here, which are stricter than consensus, and nothing else: rows of paths, rows of their facts, and the facts' bytes. The statuses of refusals are those of families 1 and 2, and `TOO_SMALL` if one of the three buffers is too short. */
 uint32_t enforce_script_list(const uint8_t *script, size_t script_length, enforce_path_row *paths, size_t paths_length, enforce_fact_row *facts, size_t facts_length, uint8_t *bytes, size_t bytes_length, enforce_answer *answer);
 
+/* Writes the text of `enforce paths` on this script, in ASCII, without notes. Its length is the answer's `bytes`. The statuses of refusals are those of families 1 and 2, and `TOO_SMALL`. */
+uint32_t enforce_script_text(const uint8_t *script, size_t script_length, uint8_t *text, size_t text_length, enforce_answer *answer);
+
 /* Writes the program that an output with this script has (BIP 141, P2WSH), 34 bytes: 00, 20 and the script's SHA-256 in the hash's own byte order. */
 void enforce_script_program(const uint8_t *script, size_t script_length, uint8_t (*program)[34]);
 

@@ -121,6 +121,19 @@ def paths(script: bytes) -> List[Path]:
         room = answer.paths, answer.facts, answer.bytes
 
 
+def text(script: bytes) -> str:
+    """The text of `enforce paths` on this script, without notes. Raises Refused. Proved of enforce_script_text: the text of the listing, or the stated refusal."""
+    answer, given, size = raw.Answer(), _given(script), 4096
+    while True:
+        room = (ctypes.c_uint8 * size)()
+        status = _library.enforce_script_text(given, len(script), room, size, ctypes.byref(answer))
+        if status == raw.DONE:
+            return bytes(room[: answer.bytes]).decode("ascii")
+        if status != raw.TOO_SMALL:
+            raise Refused(status, answer.number)
+        size = answer.bytes
+
+
 def program(script: bytes) -> bytes:
     """The program that an output with this script has (BIP 141, P2WSH): 00, 20 and the script's SHA-256. Proved of enforce_script_program."""
     made = (ctypes.c_uint8 * 34)()

@@ -157,6 +157,8 @@ def declare(library):
     library.enforce_abi.restype = c_uint32
     library.enforce_script_list.argtypes = [POINTER(c_uint8), c_size_t, POINTER(PathRow), c_size_t, POINTER(FactRow), c_size_t, POINTER(c_uint8), c_size_t, POINTER(Answer)]
     library.enforce_script_list.restype = c_uint32
+    library.enforce_script_text.argtypes = [POINTER(c_uint8), c_size_t, POINTER(c_uint8), c_size_t, POINTER(Answer)]
+    library.enforce_script_text.restype = c_uint32
     library.enforce_script_program.argtypes = [POINTER(c_uint8), c_size_t, POINTER(c_uint8 * 34)]
     library.enforce_script_program.restype = None
     library.enforce_form_script.argtypes = [POINTER(Form), POINTER(c_uint8), c_size_t, POINTER(Answer)]

@@ -1,6 +1,7 @@
 /* Makes the calls that standard input names, a line each, and prints what each answers.
 
      list HEX                                            the text of `enforce paths`, made of the rows
+     text HEX                                            that text, as the library has it
      program HEX                                         the program of a script
      form KIND KEY OTHER LOCAL PAYMENT_HASH EXPIRY DELAY the script of a form
 
@@ -67,6 +68,10 @@ static void put(text *to, const char *format, ...) {
 
 static void put_hex(text *to, const uint8_t *bytes, size_t length) {
     for (size_t i = 0; i < length; i++) put(to, "%02x", bytes[i]);
+}
+
+static void put_text(text *to, const uint8_t *bytes, size_t length) {
+    for (size_t i = 0; i < length; i++) put(to, "%c", bytes[i]);
 }
 
 /* Reads hexadecimal digits; the number of bytes. */
@@ -154,6 +159,8 @@ static void call(const request *r, state *s, size_t paths, size_t facts, size_t 
     asked = 0;
     if (!strcmp(r->name, "list"))
         s->status = enforce_script_list(r->script, r->length, s->paths, paths, s->facts, facts, s->bytes, bytes, &s->answer);
+    else if (!strcmp(r->name, "text"))
+        s->status = enforce_script_text(r->script, r->length, s->bytes, bytes, &s->answer);
     else
         s->status = enforce_form_script(&r->form, s->bytes, bytes, &s->answer);
 }
@@ -244,6 +251,8 @@ static void tell(work *w, const request *r, state *s, state *other) {
     } else if (!strcmp(r->name, "list")) {
         put(to, "paths %zu\n", s->answer.paths);
         for (size_t k = 0; k < s->answer.paths; k++) put_path(to, s, k);
+    } else if (!strcmp(r->name, "text")) {
+        put_text(to, s->bytes, s->answer.bytes);
     } else {
         put_hex(to, s->bytes, s->answer.bytes), put(to, "\n");
     }

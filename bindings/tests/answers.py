@@ -42,6 +42,8 @@ def answer(name, *words):
         keys = [bytes.fromhex("" if it == "-" else it) for it in words[1:5]]
         return enforce.form_script(int(words[0]), *keys, int(words[5]), int(words[6])).hex()
     script = bytes.fromhex("" if words[0] == "-" else words[0])
+    if name == "text":
+        return enforce.text(script).removesuffix("\n")
     return listing(script) if name == "list" else enforce.program(script).hex()
 
 

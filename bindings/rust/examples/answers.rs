@@ -76,6 +76,7 @@ fn answer(line: &str) -> Result<String, Refused> {
             let paths = enforce::paths(&bytes(words[1]))?;
             Ok(format!("paths {}\n", paths.len()) + &paths.iter().enumerate().map(|(k, it)| told(k, it)).collect::<String>())
         }
+        "text" => enforce::text(&bytes(words[1])),
         "program" => Ok(hex(&enforce::program(&bytes(words[1]))) + "\n"),
         _ => match form(&words[1..]) {
             Some(form) => Ok(hex(&form.script()?) + "\n"),

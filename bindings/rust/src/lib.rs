@@ -208,6 +208,26 @@ pub fn paths(script: &[u8]) -> Result<Vec<Path>, Refused> {
     }
 }
 
+/// The text of `enforce paths` on this script, without notes.
+///
+/// Proved (`enforce_script_text`): the text of the script's listing, as [`paths`] has it, or the stated refusal.
+pub fn text(script: &[u8]) -> Result<String, Refused> {
+    let mut text = vec![0; 4096];
+    loop {
+        let mut answer = ANSWER;
+        // SAFETY: each pointer is of a slice that lives over the call, with that slice's length, or of `answer`.
+        let status = unsafe { raw::enforce_script_text(script.as_ptr(), script.len(), text.as_mut_ptr(), text.len(), &mut answer) };
+        match status {
+            raw::DONE => {
+                text.truncate(answer.bytes);
+                return Ok(String::from_utf8_lossy(&text).into_owned());
+            }
+            raw::TOO_SMALL => text.resize(answer.bytes, 0),
+            other => return Err(refused(other, &answer)),
+        }
+    }
+}
+
 /// The program that an output with this script has (BIP 141, P2WSH): 00, 20 and the script's SHA-256.
 ///
 /// Proved (`enforce_script_program`): these bytes exactly.

@@ -188,6 +188,8 @@ unsafe extern "C" {
     pub fn enforce_abi() -> u32;
     /// Lists every way to spend an output with this script by the rules of the machine here, which are stricter than consensus, and nothing else: rows of paths, rows of their facts, and the facts' bytes. The statuses of refusals are those of families 1 and 2, and `TOO_SMALL` if one of the three buffers is too short.
     pub fn enforce_script_list(script: *const u8, script_length: usize, paths: *mut PathRow, paths_length: usize, facts: *mut FactRow, facts_length: usize, bytes: *mut u8, bytes_length: usize, answer: *mut Answer) -> u32;
+    /// Writes the text of `enforce paths` on this script, in ASCII, without notes. Its length is the answer's `bytes`. The statuses of refusals are those of families 1 and 2, and `TOO_SMALL`.
+    pub fn enforce_script_text(script: *const u8, script_length: usize, text: *mut u8, text_length: usize, answer: *mut Answer) -> u32;
     /// Writes the program that an output with this script has (BIP 141, P2WSH), 34 bytes: 00, 20 and the script's SHA-256 in the hash's own byte order.
     pub fn enforce_script_program(script: *const u8, script_length: usize, program: *mut [u8; 34]);
     /// Writes the script of a form. Its length is the answer's `bytes`. The statuses of refusals are those of family 4, in the order of their numbers, and `TOO_SMALL`.

@@ -8,6 +8,7 @@ use Rattle.paths.specs.Listing.{CheckedScript}
 use Rattle.paths.specs.Outcome.{IsListing, IsRefusal}
 use Rattle.paths.specs.Sound.{IsSound}
 use Rattle.paths.specs.Exhaustive.{IsExhaustive}
+use Rattle.script_words.specs.Texts.{listing_text}
 use Rattle.enforce_c.specs.declared.rows.Answer.{Answer}
 use Rattle.enforce_c.specs.declared.forms_of_c.Form.{Form}
 use Rattle.enforce_c.specs.declared.statuses.Refusal.{Refusal}
@@ -15,7 +16,7 @@ use Rattle.enforce_c.specs.declared.statuses.Refusal.TheVariants.{Check}
 use Rattle.enforce_c.specs.Statuses.{status_of}
 use Rattle.enforce_c.specs.Rows.{RowLists, rows_of}
 use Rattle.enforce_c.specs.Answers.{Left, LeftBytes, left_by_rows, left_by_bytes, refused_with}
-use Rattle.enforce_c.specs.Listed.{IsListed, IsRefused, IsTold, AnswersListing}
+use Rattle.enforce_c.specs.Listed.{IsListed, IsRefused, IsTold, AnswersListing, IsText, AnswersText}
 use Rattle.enforce_c.specs.FormScripts.{IsOf, IsSpeltForm, AnswersForm, form_of}
 
 pub is_listed : (bytes : List ℕ) (ops : List Op) (c : CheckedScript) → Spells ops bytes → IsListing ops (Ok c) → All (IsSound c.ops) c.paths → IsExhaustive c.ops c.paths → IsListed bytes c
@@ -49,3 +50,12 @@ spelt_bytes f before bytes after spelt left = (Ok bytes, spelt, left)
 
 pub refused_bytes : (f : Form) (before : List ℕ) (e : Refusal) (s : ℕ) (a : Answer) → IsSpeltForm f (Err e) → s ≡ status_of e → a ≡ refused_with e → AnswersForm f before (record { status = s; answer = a; bytes = before })
 refused_bytes f before e s a refused status answer = (Err e, refused, rw (status, answer) refl)
+
+pub is_text : (bytes : List ℕ) (c : CheckedScript) (paths : List Path) (text : List ℕ) → IsListed bytes c → paths ≡ c.paths → text ≡ listing_text paths → IsText bytes (Ok text)
+is_text bytes c paths text listed same told = (c, listed, rw (sym same) told)
+
+pub text_bytes : (bytes before text : List ℕ) (after : LeftBytes) → IsText bytes (Ok text) → left_by_bytes text before ≡ after → AnswersText bytes before after
+text_bytes bytes before text after is left = (Ok text, is, left)
+
+pub refused_text : (bytes before : List ℕ) (e : Refusal) (s : ℕ) (a : Answer) → IsText bytes (Err e) → s ≡ status_of e → a ≡ refused_with e → AnswersText bytes before (record { status = s; answer = a; bytes = before })
+refused_text bytes before e s a refused status answer = (Err e, refused, rw (status, answer) refl)

@@ -1,10 +1,10 @@
 -- The rows of a fact of each kind, with the numbers of the header; and where a row's bytes and keys are.
-use Rattle.std.proofs.Common.{◌≡◌, ℕ, true, false, List, [], ◌∷◌, map, Some, None, refl}
+use Rattle.std.proofs.Common.{◌≡◌, true, false, List, [], ◌∷◌, map, refl}
 use Rattle.facts.specs.declared.symbols.KeySourceOver.TheVariants.{Const as FixedKey, Slot as SlotKey}
 use Rattle.facts.specs.Symbols.{Fact, Stated}
 use Rattle.facts.specs.declared.symbols.FactOver.TheVariants.{Hash, Size, Truth, Is, KeyForm, Form, Token, Assigned, Lock, Age}
 use Rattle.enforce_c.specs.declared.rows.FactRow.{FactRow}
-use Rattle.enforce_c.specs.Rows.{RowLists, no_rows, with_fact, with_facts}
+use Rattle.enforce_c.specs.Rows.{no_rows, with_fact, with_facts}
 
 abbrev yes : Fact → Stated
 yes f = record { fact = f; holds = true }

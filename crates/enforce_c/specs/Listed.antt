@@ -1,18 +1,16 @@
 -- What becomes of a script's bytes.
 use Rattle.std.specs.Prelude.{◌≡◌, ℕ, List, Result, Ok, Err, All}
 use Rattle.script.specs.declared.opcode.Op.{Op}
-use Rattle.script.specs.declared.parse.ParseError.{ParseError}
-use Rattle.script.specs.declared.parse.ParseError.TheVariants.{NoMemory as ParseMemory, BadOpcode, Truncated, TooLong}
 use Rattle.script.specs.Spelling.{Spells, IsFault}
-use Rattle.paths.specs.declared.errors.CheckError.{CheckError}
 use Rattle.paths.specs.Listing.{CheckedScript, listing}
 use Rattle.paths.specs.Outcome.{IsRefusal}
 use Rattle.paths.specs.Sound.{IsSound}
 use Rattle.paths.specs.Exhaustive.{IsExhaustive}
 use Rattle.enforce_c.specs.declared.statuses.Refusal.{Refusal}
 use Rattle.enforce_c.specs.declared.statuses.Refusal.TheVariants.{NoMemory, Parse, Check, NoSuchForm, NotAKey, NotAHeight}
+use Rattle.script_words.specs.Texts.{listing_text}
 use Rattle.enforce_c.specs.Rows.{RowLists, rows_of}
-use Rattle.enforce_c.specs.Answers.{Left, left_by}
+use Rattle.enforce_c.specs.Answers.{Left, left_by, LeftBytes, bytes_left_by}
 
 -- the bytes spell a script, which has these paths. Whatever meets one of them runs clean, and nothing else does
 pub record IsListed (bytes : List ℕ) (c : CheckedScript) : Type 0 where
@@ -38,3 +36,12 @@ IsTold bytes (Err e) = IsRefused bytes e
 -- the call leaves this, by what becomes of the script's bytes
 abbrev pub AnswersListing : List ℕ → RowLists → Left → Type 0
 AnswersListing bytes before after = (r : Result RowLists Refusal) × IsTold bytes r × (left_by r before ≡ after)
+
+-- the text of the listing of the script with these bytes, or why it is not listed
+abbrev pub IsText : List ℕ → Result (List ℕ) Refusal → Type 0
+IsText bytes (Ok text) = (c : CheckedScript) × IsListed bytes c × (text ≡ listing_text c.paths)
+IsText bytes (Err e) = IsRefused bytes e
+
+-- the call leaves this, by what becomes of the script's bytes
+abbrev pub AnswersText : List ℕ → List ℕ → LeftBytes → Type 0
+AnswersText bytes before after = (r : Result (List ℕ) Refusal) × IsText bytes r × (bytes_left_by r before ≡ after)

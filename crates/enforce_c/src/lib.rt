@@ -5,20 +5,21 @@
 //! answered by a status. [`DONE`] is 0, and each other status is a family times 256 and the number of a refusal.
 //! A buffer that is too short is left as it was, and the [`Answer`] says how long it has to be.
 //!
-//! `paths` lists the ways through a script, `forms` has the scripts of BOLT 3, and `sighash` the program of a script.
-//! No crate depends on this one. `docs/BINDINGS.md` has the header, and callers in C, Rust and Python.
+//! `paths` lists the ways through a script, and `script_words` has the text of a listing. `forms` has the scripts of BOLT 3, and
+//! `sighash` the program of a script. No crate depends on this one. `docs/BINDINGS.md` has the header, and callers in C and in
+//! other languages.
 //!
 //! ```text
 //! uint8_t script[] = {0x63, 0x51, 0x67, 0x52, 0x68};               // IF 1 ELSE 2 ENDIF
 //! enforce_script_list(script, 5, paths, 64, facts, 64, bytes, 64, &answer);  // 0, and answer.paths is 2
 //! ```
 //!
-//! `.ci/library` makes this call and many more from C, Rust and Python.
+//! `.ci/library` makes this call and many more from C and from other languages.
 #![tactic(auto)]
 
 ghost use Rattle.std.specs.Prelude.{◌≡◌};
 ghost use Rattle.sighash.specs.Programs.{script_hash_program};
-ghost use Rattle.enforce_c.specs.Listed.{AnswersListing};
+ghost use Rattle.enforce_c.specs.Listed.{AnswersListing, AnswersText};
 ghost use Rattle.enforce_c.specs.FormScripts.{AnswersForm};
 
 mod answers;
@@ -31,7 +32,7 @@ mod telling;
 
 use crate::answers::{refuse, write_bytes, write_rows};
 use crate::forms_of_c::form_bytes;
-use crate::listing::told;
+use crate::listing::{text_of, told};
 use digest::sha256;
 pub use forms_of_c::{
     FORM_FUNDING, FORM_KEY_HASH, FORM_OFFERED, FORM_RECEIVED, FORM_TO_LOCAL, Form,
@@ -69,6 +70,24 @@ pub extern "C" fn enforce_script_list(
 {
     match told(alloc, script) {
         Ok(rows) => write_rows(&rows, paths, facts, bytes, answer),
+        Err(refusal) => refuse(&refusal, answer),
+    }
+}
+
+/// Writes the text of `enforce paths` on this script, in ASCII, without notes. Its length is the answer's `bytes`. The statuses of refusals are those of
+/// families 1 and 2, and `TOO_SMALL`.
+#[unsafe(no_mangle)]
+#[tactic(auto, using(crate::proofs::Answering::text_bytes, crate::proofs::Answering::refused_text))]
+pub extern "C" fn enforce_script_text(
+    alloc: Global,
+    script: &[u8],
+    text: &mut [u8],
+    answer: &mut Answer,
+) -> u32
+    ensures { AnswersText script.now text.old (record { status = result; answer = answer.new; bytes = text.new }) }
+{
+    match text_of(alloc, script) {
+        Ok(told) => write_bytes(told.bytes(), text, answer),
         Err(refusal) => refuse(&refusal, answer),
     }
 }

@@ -1,12 +1,14 @@
 // The paths of a script that comes as bytes.
 
 ghost use Rattle.std.specs.Prelude.{Ok, Err, MatchResult};
-ghost use Rattle.enforce_c.specs.Listed.{IsListed, IsRefused, IsTold};
+ghost use Rattle.enforce_c.specs.Listed.{IsListed, IsRefused, IsTold, IsText};
 
 use crate::statuses::Refusal;
 use crate::telling::Rows;
+use lists::ByteString;
 use paths::{Checked, check};
 use script::Script;
+use script_words::paths_text;
 use std::alloc::Global;
 
 // The script with its paths.
@@ -31,4 +33,14 @@ pub(crate) fn told(alloc: Global, bytes: &[u8]) -> Result<Rows, Refusal>
 {
     let checked = listed(alloc, bytes)?;
     Ok(Rows::of(alloc, checked.paths())?)
+}
+
+/// The text of `enforce paths` on the script with these bytes.
+#[tactic(auto, using(crate::proofs::Answering::is_text))]
+pub(crate) fn text_of(alloc: Global, bytes: &[u8]) -> Result<ByteString, Refusal>
+    ensures { IsText bytes.now result }
+{
+    let shown = listed(alloc, bytes)?;
+    let text = paths_text(alloc, shown.paths())?;
+    Ok(ByteString::from_slice(alloc, text.as_bytes())?)
 }
