@@ -42,7 +42,8 @@ use Rattle.book_dump.specs.declared.errors.LoadError.TheVariants as loads
 use Rattle.book.specs.Accepted.{is_taken, first_refused_after, all_accepted}
 use Rattle.book.specs.Seeds.{bases_of}
 use Rattle.book_dump.specs.Openings.{own_or_others, terms_with, owns, opening_if, opening_of, batch_of}
-use Rattle.book_dump.specs.Loading.{checked_of, claim_of, claims_of, call_of, with_seat, entry_of}
+use Rattle.plain_claims.specs.Claims.{checked_of, claim_of, claims_of}
+use Rattle.book_dump.specs.Loading.{call_of, with_seat, entry_of}
 use Rattle.book_dump.specs.Dumping.{plain_party, plain_terms, plain_opening, plain_step, plain_call, plain_entry, step_data, call_data, history_entry_data, is_close, any_close, history_data}
 use Rattle.book_dump.specs.Loaded.{with_entry, history_after_plain, loaded}
 use Rattle.book_dump.specs.Again.{HasWholeClaims, HasStepTokens, HasTokens, ComesBack, ClaimsComeBack, OpeningsComeBack, EntriesComeBack}

@@ -36,7 +36,8 @@ use Rattle.book.specs.declared.calls.Call.TheVariants.{Open, Keep, Release}
 use Rattle.book.specs.declared.calls.Entry.{Entry}
 use Rattle.book.specs.Accepted.{is_taken, are_accepted}
 use Rattle.book_dump.specs.Openings.{opening_if, opening_of, batch_if, batch_of}
-use Rattle.book_dump.specs.Loading.{claim_of, claims_of, shaped, with_claims, release_of, call_of, with_seat, entry_of}
+use Rattle.plain_claims.specs.Claims.{claim_of, claims_of}
+use Rattle.book_dump.specs.Loading.{shaped, with_claims, release_of, call_of, with_seat, entry_of}
 use Rattle.book_dump.specs.Loaded.{or_refused, dump_in_value, with_entry, history_after_plain, history_in_dump, dump_in, loaded}
 use Rattle.book_dump.specs.Refused.{HasBadClaim, HasBadCall, StopsAt, RefusalsComeInOrder}
 use Rattle.book.proofs.Accepted.{onto}

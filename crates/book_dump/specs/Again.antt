@@ -14,7 +14,8 @@ use Rattle.updates.specs.declared.messages.PeerStep.TheVariants.{Update as Updat
 use Rattle.book.specs.declared.calls.Step.TheVariants.{Own, Peer}
 use Rattle.book.specs.declared.calls.Entry.{Entry}
 use Rattle.book_dump.specs.Openings.{opening_of}
-use Rattle.book_dump.specs.Loading.{claim_of, entry_of}
+use Rattle.plain_claims.specs.Claims.{claim_of}
+use Rattle.book_dump.specs.Loading.{entry_of}
 use Rattle.book_dump.specs.Dumping.{plain_opening, plain_entry, history_entry_data}
 
 abbrev pub HasWholeClaims : Call → Type 0

@@ -1,82 +1,31 @@
 //! Turns the plain forms of a dump into calls. Claims are accepted anew, never trusted.
 
 ghost use Rattle.std.specs.Prelude.{◌≡◌};
-ghost use Rattle.claim.specs.Opcodes.{ops_of};
+ghost use Rattle.plain_claims.specs.Claims.{claims_of};
 ghost use Rattle.book_dump.specs.Openings.{batch_of};
-ghost use Rattle.book_dump.specs.Loading.{Answers, Takes, shaped, with_claims, release_of, checked_of, claim_of, claims_of, step_of, call_of, entry_of};
+ghost use Rattle.book_dump.specs.Loading.{Answers, Takes, shaped, with_claims, release_of, step_of, call_of, entry_of};
 
 use crate::errors::EntryError;
 use crate::openings::opening_of;
 use book::{Batch, Call, Entry, Step};
-use claim::{AcceptError, Claim, accept};
+use claim::Claim;
 use lists::List;
-use paths::{CheckError, Checked, check};
-use script::{ParseError, Script};
+use plain_claims::ClaimError;
 use std::alloc::Global;
 use texts::{PlainCall, PlainClaim, PlainEntry, PlainStep};
 use tx::TxOut;
 
-// Parses a script.
-fn script_of(alloc: Global, bytes: &[u8]) -> Result<Script, EntryError>
-    ensures { Takes result (ops_of bytes.now) }
-{
-    match Script::parse(alloc, bytes) {
-        Ok(script) => Ok(script),
-        Err(error) => match error {
-            ParseError::NoMemory => Err(EntryError::NoMemory),
-            _ => Err(EntryError::BadClaim),
-        },
-    }
-}
-
-// Parses a script and lists its paths.
-#[tactic(auto, using(crate::proofs::Taking::none_spelt, crate::proofs::Taking::none_listed, crate::proofs::Taking::is_listed))]
-fn checked_of(alloc: Global, bytes: &[u8]) -> Result<Checked, EntryError>
-    ensures { Takes result (checked_of bytes.now) }
-{
-    let script = script_of(alloc, bytes)?;
-    match check(alloc, script) {
-        Ok(checked) => Ok(checked),
-        Err(error) => match error {
-            CheckError::NoMemory => Err(EntryError::NoMemory),
-            _ => Err(EntryError::BadClaim),
-        },
-    }
-}
-
-/// Reads and checks the script of a plain claim, and accepts the claim anew.
-/// `BadClaim` where one of these is refused for another reason than memory.
-pub fn claim_of(alloc: Global, plain: PlainClaim) -> Result<Claim, EntryError>
-    ensures { Takes result (claim_of plain) }
-{
-    let PlainClaim {
-        script,
-        path,
-        slots,
-        place,
-        shell,
-    } = plain;
-    let checked = checked_of(alloc, script.bytes())?;
-    match accept(alloc, checked, path, slots.into_vec(), place, shell) {
-        Ok(claim) => Ok(claim),
-        Err(error) => match error {
-            AcceptError::NoMemory => Err(EntryError::NoMemory),
-            _ => Err(EntryError::BadClaim),
-        },
-    }
-}
-
-/// Accepts plain claims anew, in order: `BadClaim` where one is refused.
-pub fn claims_of(alloc: Global, plains: List<PlainClaim>) -> Result<List<Claim>, EntryError>
+// Accepts plain claims anew, in order: `BadClaim` where one is refused.
+fn claims_of(alloc: Global, plains: List<PlainClaim>) -> Result<List<Claim>, EntryError>
     ensures { Takes result (claims_of plains) }
 {
-    let mut claims = Vec::new(alloc);
-    for plain in plains.into_vec() {
-        claims.push(claim_of(alloc, plain)?)?;
+    match plain_claims::claims_of(alloc, plains) {
+        Ok(claims) => Ok(claims),
+        Err(error) => match error {
+            ClaimError::NoMemory => Err(EntryError::NoMemory),
+            ClaimError::BadClaim => Err(EntryError::BadClaim),
+        },
     }
-    // They are kept for as long as the book lives.
-    claims.shrink_to_fit();
-    Ok(List::from_vec(claims))
 }
 
 fn step_of(plain: PlainStep) -> Step

@@ -3,8 +3,8 @@ use Rattle.std.proofs.lemmas.Result.{err_from_is_err_and}
 use Rattle.std.specs.Vec.Iter.{into_iter_items}
 use Rattle.std.proofs.lemmas.List.{nil_from_length}
 use Rattle.claim.specs.Claims.{ClaimParts}
-use Rattle.book_dump.proofs.Taking.{SoFar, one_taken, one_refused, all_taken}
-use Rattle.book_dump.proofs.loading.claims_of.Goals as goal
+use Rattle.plain_claims.proofs.Taking.{SoFar, one_taken, one_refused, all_taken}
+use Rattle.plain_claims.proofs.accepting.claims_of.Goals as goal
 
 pub loop-plain-preserved : goal.loop-plain-preserved
 loop-plain-preserved c =

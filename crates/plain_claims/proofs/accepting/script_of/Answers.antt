@@ -1,6 +1,6 @@
 use Rattle.claim.proofs.OpcodesRead.{reads}
-use Rattle.book_dump.proofs.Taking.{none_read}
-use Rattle.book_dump.proofs.loading.script_of.Goals as goal
+use Rattle.plain_claims.proofs.Taking.{none_read}
+use Rattle.plain_claims.proofs.accepting.script_of.Goals as goal
 
 pub returns-in-Ok : goal.returns-in-Ok
 returns-in-Ok c = reads c.in-Ok.script c.args.bytes.now c.in-Ok.ensures.ok c.in-Ok.ensures.short

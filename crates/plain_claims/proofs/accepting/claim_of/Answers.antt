@@ -1,6 +1,6 @@
 use Rattle.std.proofs.lemmas.Result.{err_from_is_err_and}
-use Rattle.book_dump.proofs.Taking.{script_refused, is_taken, none_accepted}
-use Rattle.book_dump.proofs.loading.claim_of.Goals as goal
+use Rattle.plain_claims.proofs.Taking.{script_refused, is_taken, none_accepted}
+use Rattle.plain_claims.proofs.accepting.claim_of.Goals as goal
 
 pub returns-in_err-checked : goal.returns-in_err-checked
 returns-in_err-checked c =

@@ -1,6 +1,6 @@
 use Rattle.std.specs.Vec.Iter.{into_iter_items}
-use Rattle.book_dump.proofs.Taking.{SoFar}
-use Rattle.book_dump.proofs.loading.claims_of.Given as goal
+use Rattle.plain_claims.proofs.Taking.{SoFar}
+use Rattle.plain_claims.proofs.accepting.claims_of.Given as goal
 
 -- what was taken, followed by what is left, is the whole
 abbrev pub invariant-loop-plain : goal.invariant-loop-plain
