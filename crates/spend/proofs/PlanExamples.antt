@@ -1,0 +1,79 @@
+-- Requests, what is left of a total, and the refusals.
+use Rattle.std.proofs.Common.{◌≡◌, [], ◌∷◌, true, false, map, replicate, Some, None, Ok, Err, codes, refl}
+use Rattle.std.specs.Str.{chars, is_utf8}
+use Rattle.hex.proofs.OnLiterals.{hex_on_literals}
+use Rattle.serde_json.proofs.OnLiterals.{serde_json_on_literals}
+use Rattle.filling.specs.declared.errors.SpendError.TheVariants as spends
+use Rattle.claim.specs.declared.parts.Shell.TheVariants.{Open as OpenShell}
+use Rattle.texts.specs.declared.claims.PlainClaim.{PlainClaim}
+use Rattle.claim.specs.Opcodes.{ops_in, ops_of}
+use Rattle.texts.specs.Claims.{shell_of, claim_of as shape_of}
+use Rattle.texts.specs.Outpoints.{outpoint_in, digits_from}
+use Rattle.plain_claims.specs.Claims.{checked_of, claim_of, claims_of}
+use Rattle.spend.specs.declared.errors.PlanError.TheVariants.{NoMemory, NotJson, BadShape, BadClaim, FixedTransaction, SameOutpoint, MeasuredSignature, NoPreimage, ValueTooLarge, NothingLeft, Dust}
+use Rattle.spend.specs.Refusals.{plan_error_number, plan_error_text, plan_error}
+use Rattle.spend.specs.Requests.{request_of}
+use Rattle.spend.specs.Asking.{is_within, request_in, asked_in}
+use Rattle.spend.specs.Planning.{left_refusal, first_of}
+
+numbers : map plan_error_number (NoMemory ∷ NotJson ∷ BadShape ∷ BadClaim ∷ FixedTransaction ∷ SameOutpoint ∷ MeasuredSignature ∷ NoPreimage ∷ ValueTooLarge ∷ NothingLeft ∷ Dust ∷ []) ≡ 0 ∷ 1 ∷ 2 ∷ 3 ∷ 4 ∷ 5 ∷ 6 ∷ 7 ∷ 8 ∷ 9 ∷ 10 ∷ []
+numbers = refl
+
+texts : map plan_error_text (NoMemory ∷ NotJson ∷ BadShape ∷ BadClaim ∷ FixedTransaction ∷ SameOutpoint ∷ MeasuredSignature ∷ NoPreimage ∷ ValueTooLarge ∷ NothingLeft ∷ Dust ∷ [])
+    ≡ codes "NoMemory" ∷ codes "NotJson" ∷ codes "BadShape" ∷ codes "BadClaim" ∷ codes "FixedTransaction" ∷ codes "SameOutpoint" ∷ codes "MeasuredSignature" ∷ codes "NoPreimage" ∷ codes "ValueTooLarge" ∷ codes "NothingLeft" ∷ codes "Dust" ∷ []
+texts = refl
+
+passed_on : map plan_error (spends.NoMemory ∷ spends.FixedTransaction ∷ spends.SameOutpoint ∷ spends.OutputsExceed ∷ spends.MeasuredSignature ∷ spends.NoPreimage ∷ [])
+    ≡ NoMemory ∷ FixedTransaction ∷ SameOutpoint ∷ NothingLeft ∷ MeasuredSignature ∷ NoPreimage ∷ []
+passed_on = refl
+
+-- 21,000,000 bitcoins, or a satoshi more; a satoshi is left, or none; as much as the threshold, or a satoshi less; and the first of two that hold
+left : (left_refusal 2100000000000000 4 294 ≡ None)
+    × (left_refusal 2100000000000001 4 294 ≡ Some ValueTooLarge)
+    × (left_refusal 6 5 0 ≡ None)
+    × (left_refusal 5 5 0 ≡ Some NothingLeft)
+    × (left_refusal 4 5 0 ≡ Some NothingLeft)
+    × (left_refusal 299 5 294 ≡ None)
+    × (left_refusal 298 5 294 ≡ Some Dust)
+    × (left_refusal 2100000000000001 2100000000000001 294 ≡ Some ValueTooLarge)
+    × (left_refusal 5 5 294 ≡ Some NothingLeft)
+left = (refl, refl, refl, refl, refl, refl, refl, refl, refl)
+
+-- the earlier of two refusals, or the one that there is
+firsts : (first_of (Some NoPreimage) (Some Dust) ≡ Some NoPreimage)
+    × (first_of (Some NoPreimage) None ≡ Some NoPreimage)
+    × (first_of None (Some Dust) ≡ Some Dust)
+    × (first_of None None ≡ None)
+firsts = (refl, refl, refl, refl)
+
+-- within the limits: 1 and 4,000 outputs, and 10,000 bytes, and one less or more
+limits : (is_within 1 0 ≡ true)
+    × (is_within 0 0 ≡ false)
+    × (is_within 4000 10000 ≡ true)
+    × (is_within 4001 10000 ≡ false)
+    × (is_within 4000 10001 ≡ false)
+limits = (refl, refl, refl, refl, refl)
+
+-- an output as a book's dump has it
+abbrev output : PlainClaim
+output = record { script = 0x53 ∷ []; path = 2; slots = []; place = record { outpoint = record { txid = replicate 32 7; index = 9 }; value = 5; program = 0x52 ∷ [] }; shell = OpenShell }
+
+-- texts: four members, in any order and no other one; an output; then that its claim is accepted
+requests : (request_in (codes "{\"outputs\":[{\"outpoint\":\"0707070707070707070707070707070707070707070707070707070707070707:9\",\"path\":2,\"program\":\"52\",\"script\":\"53\",\"shell\":null,\"slots\":[],\"value\":5}],\"preimages\":[\"0909090909090909090909090909090909090909090909090909090909090909\"],\"feerate_per_kw\":253,\"destination\":\"51ac\"}")
+    ≡ Ok (record { claims = output ∷ []; preimages = replicate 32 9 ∷ []; destination = 0x51 ∷ 0xac ∷ []; feerate_per_kw = 253 }))
+    × (request_in (codes "{\"outputs\":[],\"preimages\":[],\"feerate_per_kw\":1,\"destination\":\"51\"}") ≡ Err BadShape)
+    × (request_in (codes "{\"outputs\":[{\"outpoint\":\"0707070707070707070707070707070707070707070707070707070707070707:9\",\"path\":2,\"program\":\"52\",\"script\":\"53\",\"shell\":null,\"slots\":[],\"value\":5}],\"preimages\":[],\"feerate_per_kw\":4294967296,\"destination\":\"51\"}") ≡ Err BadShape)
+    × (request_in (codes "{\"outputs\":[{\"outpoint\":\"0707070707070707070707070707070707070707070707070707070707070707:9\",\"path\":2,\"program\":\"52\",\"script\":\"53\",\"shell\":null,\"slots\":[],\"value\":5}],\"preimages\":[\"09\"],\"feerate_per_kw\":1,\"destination\":\"51\"}") ≡ Err BadShape)
+    × (request_in (codes "{\"outputs\":[{\"outpoint\":\"0707070707070707070707070707070707070707070707070707070707070707:9\",\"path\":2,\"program\":\"52\",\"script\":\"53\",\"shell\":null,\"slots\":[],\"value\":5}],\"preimages\":[],\"feerate_per_kw\":1,\"destination\":\"51\",\"fee\":1}") ≡ Err BadShape)
+    × (request_in (codes "{\"outputs\":[{\"outpoint\":\"0707070707070707070707070707070707070707070707070707070707070707:9\",\"path\":2,\"program\":\"52\",\"script\":\"53\",\"shell\":null,\"slots\":[],\"value\":5}],\"preimages\":[],\"feerate_per_kw\":1}") ≡ Err BadShape)
+    × (request_in (codes "[]") ≡ Err BadShape)
+    × (request_in (codes "{") ≡ Err NotJson)
+    × (request_in [] ≡ Err NotJson)
+    × (request_in (0xff ∷ []) ≡ Err NotJson)
+unfolding request_of shape_of shell_of outpoint_in digits_from chars is_utf8 hex_on_literals serde_json_on_literals
+requests = (refl, refl, refl, refl, refl, refl, refl, refl, refl, refl)
+
+-- no opcode has the byte 50
+not_accepted : asked_in (codes "{\"outputs\":[{\"outpoint\":\"0707070707070707070707070707070707070707070707070707070707070707:9\",\"path\":2,\"program\":\"52\",\"script\":\"50\",\"shell\":null,\"slots\":[],\"value\":5}],\"preimages\":[],\"feerate_per_kw\":1,\"destination\":\"51\"}") ≡ Err BadClaim
+unfolding asked_in claims_of claim_of checked_of ops_of ops_in request_of shape_of shell_of outpoint_in digits_from chars is_utf8 hex_on_literals serde_json_on_literals
+not_accepted = refl

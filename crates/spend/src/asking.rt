@@ -1,0 +1,121 @@
+//! What is asked for: outputs to spend, whose claims are accepted anew.
+
+ghost use Rattle.std.specs.Prelude.{◌≡◌, true, length, ok_or, IfOk};
+ghost use Rattle.json_value.specs.View.{view};
+ghost use Rattle.spend.specs.declared.errors.PlanError.TheVariants.{NotJson, BadClaim};
+ghost use Rattle.spend.specs.Asking.{Answers, value_in, shaped, request_in, is_within, IsWithin, asked_with, asked_in};
+ghost use Rattle.plain_claims.specs.Claims.{claims_of};
+
+use crate::errors::PlanError;
+use crate::requests::Request;
+use claim::Claim;
+use json_value::{ReadError, Value};
+use lists::{ByteString, List};
+use plain_claims::ClaimError;
+use std::alloc::Global;
+use texts::{PlainClaim, ReadValue, ShapeError};
+use tx::{MAX_BYTES, MAX_INPUTS};
+
+/// What is asked for.
+#[derive(Drop)]
+pub struct Asked {
+    /// Claims on the outputs to spend.
+    pub claims: List<Claim>,
+    /// The preimages for slots of hashes.
+    pub preimages: List<[u8; 32]>,
+    /// The script of the output that is paid.
+    pub destination: ByteString,
+    /// Satoshis for each 1,000 units of weight.
+    pub feerate_per_kw: u32,
+}
+
+// Parses bytes as a JSON value.
+fn value_in(alloc: Global, bytes: &[u8]) -> Result<Value, PlanError>
+    ensures { Answers view result (ok_or (value_in bytes.now) NotJson) }
+{
+    match Value::from_slice(alloc, bytes) {
+        Ok(value) => Ok(value),
+        Err(ReadError::NoMemory) => Err(PlanError::NoMemory),
+        Err(ReadError::NotJson) => Err(PlanError::NotJson),
+    }
+}
+
+// Reads a request: `BadShape` where the value does not have the shape.
+fn shaped(alloc: Global, value: &Value) -> Result<Request, PlanError>
+    ensures { Answers (λ r. r) result (shaped (view value.now)) }
+{
+    match Request::read_value(alloc, value) {
+        Ok(request) => Ok(request),
+        Err(error) => match error {
+            ShapeError::NoMemory => Err(PlanError::NoMemory),
+            ShapeError::BadShape => Err(PlanError::BadShape),
+        },
+    }
+}
+
+// Whether one transaction can take this number of outputs, and pay this script.
+fn is_within(request: &Request) -> bool
+    ensures { result ≡ is_within (length request.now.claims) (length request.now.destination) }
+{
+    let count = request.claims.len();
+    count > 0 && count <= MAX_INPUTS && request.destination.len() <= MAX_BYTES
+}
+
+// Reads a request that is within the limits.
+fn request_in(alloc: Global, bytes: &[u8]) -> Result<Request, PlanError>
+    ensures value { Answers (λ r. r) result (request_in bytes.now) }
+    ensures within { IfOk result (λ r. is_within (length r.claims) (length r.destination) ≡ true) }
+{
+    let value = value_in(alloc, bytes)?;
+    let request = shaped(alloc, &value)?;
+    if !is_within(&request) {
+        return Err(PlanError::BadShape);
+    }
+    Ok(request)
+}
+
+// Accepts the claims anew.
+#[tactic(auto, using(crate::proofs::Counts::same_count))]
+fn accepted(alloc: Global, plains: List<PlainClaim>) -> Result<List<Claim>, PlanError>
+    ensures value { Answers (λ claims. claims) result (ok_or (claims_of plains) BadClaim) }
+    ensures count { IfOk result (λ claims. length claims ≡ length plains) }
+{
+    match plain_claims::claims_of(alloc, plains) {
+        Ok(claims) => Ok(claims),
+        Err(error) => match error {
+            ClaimError::NoMemory => Err(PlanError::NoMemory),
+            ClaimError::BadClaim => Err(PlanError::BadClaim),
+        },
+    }
+}
+
+// Accepts the claims of a request anew.
+fn asked_with(alloc: Global, request: Request) -> Result<Asked, PlanError>
+    requires { is_within (length request.claims) (length request.destination) ≡ true }
+    ensures value { Answers (λ a. a) result (asked_with request) }
+    ensures within { IfOk result (λ a. IsWithin a) }
+{
+    let Request {
+        claims,
+        preimages,
+        destination,
+        feerate_per_kw,
+    } = request;
+    Ok(Asked {
+        claims: accepted(alloc, claims)?,
+        preimages,
+        destination,
+        feerate_per_kw,
+    })
+}
+
+/// What bytes ask for. Refused with the first that holds of `NotJson`, `BadShape` and `BadClaim`. `BadShape` is also for no output, for more than 4,000, and for a
+/// destination of more than 10,000 bytes.
+#[tactic(auto, unfolding(crate::specs::Asking::asked_in))]
+pub fn asked_in(alloc: Global, bytes: &[u8]) -> Result<Asked, PlanError>
+    ensures value { Answers (λ a. a) result (asked_in bytes.now) }
+    ensures within { IfOk result (λ a. IsWithin a) }
+{
+    let request = request_in(alloc, bytes)?;
+    asked_with(alloc, request)
+}

@@ -1,0 +1,67 @@
+//! The program `spend` makes the unsigned transaction that spends given outputs, and says which signatures it lacks, and where.
+//!
+//! It reads one JSON object on standard input: the outputs, each as a claim of a book's dump, the preimages that they want, the script that is paid, and the
+//! feerate. The main contracts are those of [`asked_in`](asking) and [`plan_of`](plans): what is asked is what the bytes spell, and the transaction and the
+//! signatures are those of `filling::unsigned_spend`, with the fee taken off by the weight that the signed transaction has at most. The layout of what is
+//! printed is tested, not proved.
+//!
+//! `texts` reads claims, `plain_claims` accepts them, and `filling` makes the transaction. This file has only the streams and the arguments.
+#![tactic(auto)]
+
+mod asking;
+mod dust;
+mod errors;
+mod plans;
+mod requests;
+mod telling;
+mod weights;
+
+use crate::telling::run;
+use std::alloc::Global;
+use std::env;
+use std::io::{self, Read, Write};
+use std::process::ExitCode;
+use streams::{refuse_memory, written};
+
+/// The line that is printed for wrong words.
+const USAGE: &str = "usage: spend\n";
+
+/// The words after the program's name.
+fn words(rt: &HostRuntime) -> io::Result<Vec<String>> {
+    Ok(env::args(rt)?.skip(1).collect(rt.alloc())?)
+}
+
+/// Makes the spend, if there are no words. Arguments that are not UTF-8 are wrong words.
+fn run_words(
+    alloc: Global,
+    words: &io::Result<Vec<String>>,
+    input: &mut dyn Read,
+    out: &mut dyn Write,
+    err: &mut dyn Write,
+) -> u8 {
+    match words {
+        Ok(words) => {
+            if words.is_empty() {
+                run(alloc, input, out)
+            } else {
+                written(err, USAGE, 2)
+            }
+        }
+        Err(error) => match error.kind() {
+            io::ErrorKind::OutOfMemory => refuse_memory(out),
+            _ => written(err, USAGE, 2),
+        },
+    }
+}
+
+/// Runs the words that the program was called with.
+fn main(rt: HostRuntime) -> ExitCode {
+    let words = words(&rt);
+    ExitCode::from(run_words(
+        rt.alloc(),
+        &words,
+        &mut rt.stdin(),
+        &mut rt.stdout(),
+        &mut rt.stderr(),
+    ))
+}

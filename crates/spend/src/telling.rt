@@ -1,0 +1,142 @@
+// Writes the plan, or why there is none.
+
+ghost use Rattle.std.specs.Prelude.{◌≡◌, ◌≤◌};
+ghost use Rattle.spend.specs.Asking.{IsWithin};
+
+use crate::asking::{Asked, asked_in};
+use crate::errors::PlanError;
+use crate::plans::{Plan, plan_of};
+use claim::Claim;
+use filling::MissingSignature;
+use lists::ByteString;
+use page::Page;
+use page::Piece::{Count, Hash, Sum};
+use std::alloc::Global;
+use std::io::{Read, Write};
+use std::mem;
+use streams::{InputError, read_all, refuse_memory, write_refusal, write_told};
+use tx::{TxIn, encode_stripped};
+
+/// Reads what is asked for, and writes the plan: one JSON object on a line. Returns the status: 0 when it is written, 1 for refused input, a failed write, or if memory ran out. The whole line is made
+/// before its first byte is written. A refusal is written with its number: that of `PlanError`, or for input that can't be read one after them.
+pub fn run(alloc: Global, input: &mut dyn Read, out: &mut dyn Write) -> u8
+    ensures { result ≤ 1 }
+{
+    match read_all(alloc, input) {
+        Ok(bytes) => tell_bytes(alloc, bytes.as_slice(), out),
+        Err(InputError::NoMemory) => refuse_memory(out),
+        Err(error) => {
+            let number = u64::from(error.number()) + 10;
+            write_refusal(alloc, out, error.text(), Some(number))
+        }
+    }
+}
+
+// Writes why nothing is planned, and returns the status.
+fn refuse(alloc: Global, error: PlanError, out: &mut dyn Write) -> u8
+    ensures { result ≡ 1 }
+{
+    match error {
+        PlanError::NoMemory => refuse_memory(out),
+        _ => write_refusal(alloc, out, error.text(), Some(u64::from(error.number()))),
+    }
+}
+
+// Writes the plan for what bytes ask for, and returns the status.
+fn tell_bytes(alloc: Global, bytes: &[u8], out: &mut dyn Write) -> u8
+    ensures { result ≤ 1 }
+{
+    match asked_in(alloc, bytes) {
+        Ok(asked) => {
+            let status = tell_asked(alloc, &asked, out);
+            // not dropped: the program ends now, which frees all at once
+            mem::forget(asked);
+            status
+        }
+        Err(error) => refuse(alloc, error, out),
+    }
+}
+
+// Writes the plan for what is asked, and returns the status.
+fn tell_asked(alloc: Global, asked: &Asked, out: &mut dyn Write) -> u8
+    requires { IsWithin asked.now }
+    ensures { result ≤ 1 }
+{
+    match plan_of(alloc, asked) {
+        Ok(plan) => {
+            let mut line = Page::new(alloc);
+            tell_plan(alloc, &mut line, asked.claims.values(), &plan);
+            mem::forget(plan);
+            write_told(out, &mut line, 0)
+        }
+        Err(error) => refuse(alloc, error, out),
+    }
+}
+
+// Writes a plan of claims: a line with a JSON object.
+fn tell_plan(alloc: Global, line: &mut Page, claims: &[Claim], plan: &Plan) {
+    let tx = &plan.spend.tx;
+    match encode_stripped(alloc, tx) {
+        Ok(bytes) => line.hex("{\"transaction\":\"", bytes.as_slice()),
+        Err(_) => line.fail(),
+    }
+    line.write(
+        "\",\"fee\":%,\"weight\":%,\"inputs\":[",
+        &[Sum(plan.fee_sat), Sum(plan.weight)],
+    );
+    let signatures = plan.spend.signatures.values();
+    for (index, (input, claim)) in tx.inputs().iter().zip(claims).enumerate() {
+        tell_input(line, index, input, claim, signatures);
+    }
+    line.push("]}\n");
+}
+
+// Writes an input, an element of an array: what it spends, its witness, and the signatures that it lacks.
+fn tell_input(
+    line: &mut Page,
+    index: usize,
+    input: &TxIn,
+    claim: &Claim,
+    signatures: &[MissingSignature],
+) {
+    line.element("{\"value\":%", &[Count(claim.place().value)]);
+    line.hex(",\"program\":\"", claim.place().program.bytes());
+    line.hex("\",\"script\":\"", claim.script());
+    line.write(
+        "\",\"path\":%,\"witness\":[",
+        &[Count(claim.index() as u64)],
+    );
+    for (place, item) in input.witness.as_slice().iter().enumerate() {
+        tell_item(line, item, is_missing(signatures, index, place));
+    }
+    line.push("],\"signatures\":[");
+    for signature in signatures {
+        if signature.input == index {
+            tell_signature(line, signature);
+        }
+    }
+    line.push("]}");
+}
+
+// Whether a signature is missing at an item of an input.
+fn is_missing(signatures: &[MissingSignature], input: usize, item: usize) -> bool {
+    signatures.iter().any(|signature| signature.input == input && signature.item == item)
+}
+
+// Writes an item of a witness, an element of an array: in hexadecimal, or nothing where a signature is missing.
+fn tell_item(line: &mut Page, item: &ByteString, is_missing: bool) {
+    if is_missing {
+        line.element("null", &[]);
+    } else {
+        line.element("", &[]);
+        line.hex("\"", item.bytes());
+        line.push("\"");
+    }
+}
+
+// Writes a missing signature, an element of an array: where it goes, whose it is, and what it signs.
+fn tell_signature(line: &mut Page, signature: &MissingSignature) {
+    line.element("{\"item\":%,", &[Count(signature.item as u64)]);
+    line.hex("\"key\":\"", &signature.key.bytes);
+    line.write("\",\"digest\":\"%\"}", &[Hash(signature.digest)]);
+}
