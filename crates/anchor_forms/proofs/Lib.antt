@@ -1,0 +1,4 @@
+pub mod Listed
+pub mod Forms
+pub mod Accepting
+pub mod ScriptExamples

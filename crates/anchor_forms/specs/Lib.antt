@@ -1,0 +1,5 @@
+pub mod Scripts
+pub mod Ways
+pub mod Forms
+pub mod Pieces
+pub mod Penalties
