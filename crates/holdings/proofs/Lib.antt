@@ -1,0 +1,12 @@
+pub mod Lists
+pub mod Limited
+pub mod Channels
+pub mod Apart
+pub mod Expiries
+pub mod Fields
+pub mod Complete
+pub mod Released
+pub mod Keeping
+pub mod Samples
+mod HoldingExamples
+mod CareExamples

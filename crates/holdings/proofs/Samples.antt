@@ -1,0 +1,69 @@
+-- Two channels of a node, their openings, and a claim on a script that no channel has, for the worked histories.
+use Rattle.std.proofs.Common.{ℕ, List, [], ◌∷◌, replicate, None, refl, lit≤, lit<}
+use Rattle.script.specs.declared.opcode.Op.TheVariants.{Number}
+use Rattle.tx.specs.Parts.{Output}
+use Rattle.paths.specs.declared.state.Path.{Path}
+use Rattle.terms.specs.declared.htlcs.Htlc.{Htlc}
+use Rattle.terms.specs.declared.sides.Side.TheVariants.{A, B}
+use Rattle.terms.specs.declared.agreement.BaseKeys.{BaseKeys}
+use Rattle.terms.specs.declared.agreement.Party.{Party}
+use Rattle.terms.specs.declared.agreement.Terms.{Terms}
+use Rattle.terms.specs.Bases.{IsSeedOf}
+use Rattle.claim.specs.declared.parts.Place.{Place}
+use Rattle.claim.specs.declared.parts.Shell.TheVariants.{Open}
+use Rattle.claim.specs.Claims.{ClaimParts}
+use Rattle.channel.proofs.Samples.{key, point_key}
+use Rattle.safety.specs.Holdings.{Release}
+use Rattle.book.specs.declared.calls.Batch.{Batch}
+use Rattle.book.specs.declared.calls.Opening.{Opening}
+use Rattle.book.specs.declared.calls.Call.{Call}
+use Rattle.book.specs.declared.calls.Entry.{Entry}
+
+abbrev pub entry : ℕ → Call → Entry
+entry seat call = record { seat = seat; call = call }
+
+abbrev pub hash : List ℕ
+hash = replicate 32 9
+
+abbrev pub htlc : ℕ → ℕ → Htlc
+htlc amount_msat expiry_height = record { id = 0; amount_msat = amount_msat; hash = hash; expiry_height = expiry_height }
+
+abbrev pub side : ℕ → BaseKeys → Party
+side start_msat bases = record { dust_sat = 546; delay_blocks = 144; minimum_msat = 1000; start_msat = start_msat; bases = bases }
+
+-- ---- releases
+
+-- a claim on the script OP_1
+abbrev pub path : Path
+path = record { arity = 0; facts = []; ops = 0; height = 1; lock = None; age = None }
+
+abbrev pub place : Place
+place = record { outpoint = record { txid = replicate 32 6; index = 0 }; value = 1000; program = [] }
+
+abbrev pub stray : ClaimParts
+stray = record { ways = record { ops = Number 1 ∷ []; paths = path ∷ [] }; index = 0; slots = []; place = place; shell = Open }
+
+abbrev pub pays : ℕ → List Output
+pays value = record { value = value; script = [] } ∷ []
+
+abbrev pub batch : ClaimParts → ℕ → Batch
+batch x value = record { claims = x ∷ []; outputs = pays value; preimages = []; some = lit≤ tt; inputs = lit≤ tt; given = lit≤ tt }
+
+abbrev pub release : ClaimParts → ℕ → Release
+release x value = record { claims = x ∷ []; outputs = pays value }
+
+-- ---- openings
+
+-- the node is A in the first channel, and opened it; and B in the second, which it opened too
+module _ (bases theirs : BaseKeys) (seed : List ℕ) (own : IsSeedOf seed bases) where
+  abbrev pub first_terms : List ℕ → Terms
+  first_terms txid = record { funding = record { txid = txid; index = 7 }; capacity_sat = 100000; opener = A; feerate_per_kw = 0; a = side 80000000 bases; b = side 20000000 theirs; limited = lit≤ tt; whole = refl; short_a = lit< tt; short_b = lit< tt }
+
+  abbrev pub second_terms : Terms
+  second_terms = record { funding = record { txid = replicate 32 6; index = 9 }; capacity_sat = 50000; opener = B; feerate_per_kw = 0; a = side 10000000 theirs; b = side 40000000 bases; limited = lit≤ tt; whole = refl; short_a = lit< tt; short_b = lit< tt }
+
+  abbrev pub first_opening : List ℕ → Opening
+  first_opening txid = record { terms = first_terms txid; side = A; seed = seed; first_point = point_key; next_point = key 1; token = 0 ∷ []; own = own }
+
+  abbrev pub second_opening : Opening
+  second_opening = record { terms = second_terms; side = B; seed = seed; first_point = point_key; next_point = key 3; token = 0 ∷ []; own = own }

@@ -1,0 +1,14 @@
+use Rattle.holdings.proofs.Keeping.{laws_of, books_keep_rules, claimables_are_recorded}
+use Rattle.holdings.proofs.laws.books_keep_rules.Goals as goal
+
+pub returns-clause-rules : goal.returns-clause-rules
+returns-clause-rules c =
+    books_keep_rules
+    (laws_of c.accepted_is_called.ensures c.sides_are_sound.ensures.recorded c.sides_are_sound.ensures.numbered c.what_is_closed_stays_closed.ensures.newest c.what_is_recorded.ensures.own
+    c.what_commitments_have.ensures.limits c.due_places.ensures.owners c.due_places.ensures.peers c.due_places.ensures.revoked c.kept_are_exact.ensures)
+
+pub returns-clause-revoked : goal.returns-clause-revoked
+returns-clause-revoked c =
+    claimables_are_recorded
+    (laws_of c.accepted_is_called.ensures c.sides_are_sound.ensures.recorded c.sides_are_sound.ensures.numbered c.what_is_closed_stays_closed.ensures.newest c.what_is_recorded.ensures.own
+    c.what_commitments_have.ensures.limits c.due_places.ensures.owners c.due_places.ensures.peers c.due_places.ensures.revoked c.kept_are_exact.ensures)

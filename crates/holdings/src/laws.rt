@@ -1,0 +1,38 @@
+//! Laws over the definitions alone.
+
+ghost use Rattle.holdings.specs.Holdings.{HoldingsAreComplete};
+ghost use Rattle.holdings.specs.Keeping.{BooksKeepRules, ClaimablesAreRecorded, BooksStand};
+
+use book::laws::{accepted_is_called, kept_are_exact, what_is_closed_stays_closed};
+use channel::laws::sides_are_sound;
+use safety::laws::{due_places, one_against_everybody, what_commitments_have, what_is_recorded};
+
+/// The holdings of a history are one for each channel that it leaves, in the order in which they were opened, and each release of the history stands in that of its channel.
+pub fn holdings_are_complete()
+    ensures { HoldingsAreComplete }
+{}
+
+/// Each channel of a book keeps the rules, over every history of its calls, whatever the peers send. What is asked of the history: each claim that it releases in a channel is one of a penalty set that is kept
+/// there, or is on what a recorded commitment of the channel gives the node; each HTLC that it offers expires above 0; and values are of their types. What a revoked commitment lets the node claim is on such a
+/// commitment.
+pub fn books_keep_rules()
+    ensures rules { BooksKeepRules }
+    ensures revoked { ClaimablesAreRecorded }
+{
+    accepted_is_called();
+    sides_are_sound();
+    kept_are_exact();
+    what_is_closed_stays_closed();
+    what_is_recorded();
+    what_commitments_have();
+    due_places();
+}
+
+/// One node against everybody, for the channels of a book. On a chain that is a ledger of their outputs, and on which each token of a key of the node's is one that it gave out, each channel stands as
+/// `one_against_everybody` of `safety` says.
+pub fn books_stand()
+    ensures { BooksStand }
+{
+    books_keep_rules();
+    one_against_everybody();
+}
