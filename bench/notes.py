@@ -29,6 +29,7 @@ EQUAL EQUALVERIFY RESERVED1 RESERVED2 1ADD 1SUB 2MUL 2DIV NEGATE ABS NOT 0NOTEQU
 NUMNOTEQUAL LESSTHAN GREATERTHAN LESSTHANOREQUAL GREATERTHANOREQUAL MIN MAX WITHIN RIPEMD160 SHA1 SHA256 HASH160 HASH256 CODESEPARATOR CHECKSIG CHECKSIGVERIFY
 CHECKMULTISIG CHECKMULTISIGVERIFY NOP1 CHECKLOCKTIMEVERIFY CHECKSEQUENCEVERIFY NOP4 NOP5 NOP6 NOP7 NOP8 NOP9 NOP10 CHECKSIGADD
 """.split()
+CHECKSIGADD, PUSHDATA4 = 0xBA, 0x4E
 KNOWN = {*range(0x4C), *range(0x51, 0x61), 0x63, 0x64, 0x67, 0x68, 0x75, 0x76, 0x7C, 0x82, 0x87, 0x88, 0xA9, 0xAC, 0xAE, 0xB1, 0xB2}
 
 
@@ -38,7 +39,12 @@ def opcode_rows():
         if byte not in KNOWN:
             at = byte - 0x4C
             what = f"OP_{NAMES[at]} in Bitcoin, which is not in the table" if at < len(NAMES) else "which is no opcode of Bitcoin"
-            yield f"5a{byte:02x}", [f"byte 1 is {byte:02x}, {what}", "pushed before it: the number 10 at byte 0"]
+            if byte == CHECKSIGADD:
+                what = "OP_CHECKSIGADD in tapscript (BIP 342), which is no opcode of version 0"
+            notes = [f"byte 1 is {byte:02x}, {what}", "pushed before it: the number 10 at byte 0"]
+            yield f"5a{byte:02x}", notes
+            # two more after a number, unless they are what a PUSHDATA pushes
+            yield f"5a{byte:02x}5193ad", notes + ["not in the table either: 93 (OP_ADD) at byte 3, ad (OP_CHECKSIGVERIFY) at byte 4"] * (byte > PUSHDATA4)
 
 
 # ---- branches that end by a stricter rule
@@ -48,9 +54,9 @@ OTHER = "03" + "22" * 32
 THIRD = "02" + "55" * 32
 DER = "300602010102010101"
 LONG = "04" + "11" * 32 + "22" * 32
-NO_KEY = "no key here, which has 33 bytes and begins with 02 or 03"
-NO_SIGNATURE = "no signature here, where signatures are tokens"
-NO_NUMBER = "no number here, where numbers are minimally encoded"
+NO_KEY = "no key here (a key has 33 bytes, and begins with 02 or 03)"
+NO_SIGNATURE = "no signature here (signatures are tokens)"
+NO_NUMBER = "no number here (numbers are minimally encoded)"
 NONE = "no witness satisfies the script by the rules of this profile"
 EXACT = [f"{NONE}: each branch ends as in consensus"]
 
@@ -197,13 +203,32 @@ ENDS += [
     (f"63{push(LONG)}67{push('02aa')}68ac", strict((5, LONG, NO_KEY))),
     (f"63{push(DER)}{push(KEY)}67{push(LONG)}68ac", strict((6, DER, NO_SIGNATURE), (6, LONG, NO_KEY))),
     # the 64th branch is followed
-    (f"63{branching(63)}67{CHECK}68", [end(branching(63).count("6") + 3, LONG, NO_KEY)]),
+    (f"63{branching(63)}67{CHECK}68", [end(branching(63).count("6") + 3, LONG, NO_KEY), f"anyone can spend by path {', '.join(map(str, range(63)))}: no signature of a key that the script fixes is asked for"]),
 ]
 # no signature in consensus (BIP 66): a tag, a length, a negative or padded integer, none, a second tag, more bytes after it
 ENDS += [
     (f"{push(it)}{push(KEY)}ac", EXACT)
     for it in ("310602010102010101", "300702010102010101", "300502010102010101", "300602018002010101", "30070202000102010101", "3005020002010101", "300602010103010101", "30070201010201010101", "30060201010201")
 ]
+
+# ---- relative locks (BIP 68, BIP 112)
+
+
+def lock_rows():
+    """A CHECKSEQUENCEVERIFY of each bit alone, of 0, of the greatest numbers of two, four and five bytes, and of ages with further bits; then a signature."""
+    bits = [1 << bit for bit in range(39)]
+    for n in [0, 0xFFFF, 2**31 - 1, 2**39 - 1, *bits, *(144 + bit for bit in bits[8:]), *(bit + (1 << 22) for bit in bits[:16]), (1 << 22) + (1 << 16) + 5]:
+        age = n & 0xFFFF
+        unit = ("block" if age == 1 else "blocks") if not n >> 22 & 1 else f"{'unit' if age == 1 else 'units'} of 512 seconds"
+        asks = "nothing: bit 31 switches the lock off (BIP 68)" if n >> 31 & 1 else f"an age of {age} {unit}: of a number only bits 0 to 15, 22 and 31 count (BIP 68)"
+        is_plain = age > 0 and n in (age, age + (1 << 22))
+        yield f"{number(n)}b275{push(KEY)}ac", [] if is_plain else [f"opcode 1, CHECKSEQUENCEVERIFY of {n}, asks for {asks}"]
+    # lock times: the greatest of 4 bytes, one more, the greatest of 5 bytes, and of two paths the second
+    beyond = "a lock time has 4 bytes, so it is at most 4294967295"
+    for n in (500, 2**32 - 1, 2**32, 2**39 - 1):
+        yield f"{number(n)}b175{push(KEY)}ac", [f"no transaction has the lock time of path 0: {beyond}"] * (n >= 2**32)
+    yield f"6351{number(499)}b17567{number(2**32)}b1755168", [f"no transaction has the lock time of path 1: {beyond}", "anyone can spend by path 0: no signature of a key that the script fixes is asked for"]
+
 
 # ---- what consensus takes
 
@@ -218,11 +243,16 @@ def mixed(count):
     return ["".join(drawn.choices(PIECES, k=drawn.randint(3, 9))) + drawn.choice(("00", "5151", "7500", "5288")) for _ in range(count)]
 
 
+def ends_so(notes):
+    """Whether notes say that each branch ends as in consensus. What they say of locks may stand beside it."""
+    return EXACT[0] in notes
+
+
 def is_right(code, notes):
     """Whether notes agree with consensus: where they say that each branch ends as there, no run is taken, and the runs go on after each opcode at which they say that consensus is laxer."""
     script = bytes.fromhex(code)
     ends = [int(it.split()[5][:-1]) for it in notes if it.startswith("a branch ends")]
-    well = not (notes == EXACT and is_taken(script, TRIED, 3)) and all(goes_past(script, index, TRIED, 3) for index in ends)
+    well = not (ends_so(notes) and is_taken(script, TRIED, 3)) and all(goes_past(script, index, TRIED, 3) for index in ends)
     if not well:
         print(f"{code[:400]}\n  by consensus it is not so: {notes}")
     return well
@@ -321,8 +351,21 @@ FACTS = [(*it, holds) for it in BOTH for holds in (True, False)]
 FACTS += [("key", None, True), ("form", None, True), ("lock", 500, True), ("lock", 499_999_999, True), ("lock", 500_000_000, True), ("age", 144, True), ("age", 65535, True), ("age", (1 << 22) + 144, True)]
 
 
+def left_to_others(facts, slots):
+    """What a path with these facts leaves to others than those whose keys the script has."""
+    held = [(kind, slot) for (kind, _, holds), slot in zip(facts, slots) if holds]
+    kinds = {kind for kind, _ in held}
+    if not kinds & {"token", "assigned"}:
+        if "hash" in kinds:
+            yield "whoever sees such a witness can spend too by path 0: what has a given hash is asked for, and no signature of a key that the script fixes"
+        else:
+            yield "anyone can spend by path 0: no signature of a key that the script fixes is asked for"
+    if any(kind == "key" and ("hash", slot) in held for kind, slot in held):
+        yield "a key is taken by its hash on path 0: by consensus, though not by relay policy, an uncompressed key with that hash is taken too"
+
+
 def pair_rows():
-    """Each pair of facts in both orders, of one slot and of two: the script, its listed facts, and the note on them."""
+    """Each pair of facts in both orders, of one slot and of two: the script, its listed facts, and the notes on them."""
     for one in FACTS:
         for other in FACTS:
             for swap in ("", "7c"):
@@ -335,6 +378,7 @@ def pair_rows():
                     if before:
                         notes = [f"no witness meets path 0: '{text(facts[before[0]], slots[before[0]])}' and '{text(fact, slots[at])}' contradict each other"]
                         break
+                notes = notes or list(left_to_others(facts, slots))
                 yield "76" + "75" + code + swap + more + "75" * (1 + len(swap) // 2) + "51", [text(fact, slot) for fact, slot in zip(facts, slots)], notes
 
 
@@ -375,6 +419,7 @@ EVENTS = [
     ("take", [*SIDE, ("count", "number")]), ("release", [*SIDE, ("count", "number")]),
     ("reorg", [("depth", "number"), ("forgotten", "number")]),
 ]
+UNNAMED = "has the name of no event: there are offer, fulfil, fail, fee, sign, deliver, keep, broadcast, close, blocks, look, take, release and reorg"
 
 
 def scenario(**members):
@@ -388,7 +433,11 @@ def missed(at, value, parts):
         yield {key: it for key, it in value.items() if key != name}, f"{at} has no member {name}"
         for other in MISSED[kind]:
             yield {**value, name: other}, f"{at}: its {name} is not {WORDS[kind][1]}"
-    yield {**value, "more": 0}, f"{at} has a member that does not belong to it"
+    for name in ("more", '"\\~!', "m" * 40):
+        yield {**value, name: 0}, f"{at} has a member that does not belong to it: {name}"
+    # a name that is too long, or that can't be told in a line
+    for name in ("", "m" * 41, "a b", "\n", "\u00e9"):
+        yield {**value, name: 0}, f"{at} has a member that does not belong to it"
     yield [], f"{at} is no object"
 
 
@@ -407,8 +456,20 @@ def scenario_rows():
                 yield scenario(events=[["look", "A"], event]), f"event 1 has {len(event)} items, and not {len(whole)}"
     for event, wanted in ((["broadcast", "A", 0], 4), (["broadcast", "A", 0, 0, 0, 0], 4)):
         yield scenario(events=[["look", "A"], event]), f"event 1 has {len(event)} items, and not {wanted}"
-    for event, note in ((["offr"], "has the name of no event"), ([1], "is no array with a name at its front"), ({}, "is no array with a name at its front"), ([], "is no array with a name at its front")):
-        yield scenario(events=[["look", "A"], event]), f"event 1 {note}"
+    for event, note in (
+        (["offr"], f", offr, {UNNAMED}"), (["o" * 41, 1], f" {UNNAMED}"), (["an offer"], f" {UNNAMED}"), ([""], f" {UNNAMED}"),
+        *((it, " is no array with a name at its front") for it in ([1], {}, [], 0)),
+    ):
+        yield scenario(events=[["look", "A"], event]), f"event 1{note}"
+    # limits: of channels, of events, and of the blocks of an event
+    yield scenario(channels=[TERMS] * 9), "the scenario has 9 channels, and at most 8 are allowed"
+    yield scenario(events=[["look", "A"]] * 10_001), "the scenario has 10001 events, and at most 10000 are allowed"
+    yield scenario(events=[["blocks", 10_000], ["blocks", 10_001]]), "event 1 asks for 10001 blocks, and at most 10000 are allowed in one event"
+    # starts that are not the capacity, in the other unit and by one; and more bitcoins than there are
+    for a, b in ((80000, 20000), (80_000_000, 20_000_001), (80_000_000, 19_999_999), (2**64 - 1, 2**64 - 1)):
+        yield scenario(channels=[TERMS, {**TERMS, "start": [a, b]}]), f"channel 1: its start is {a} and {b} millisatoshis, together {a + b}, and its capacity is 100000 satoshis, which are 100000000 millisatoshis"
+    most = 21_000_000 * 100_000_000
+    yield scenario(channels=[{**TERMS, "capacity": most + 1, "start": [0, 1000 * (most + 1)]}]), f"channel 0: its capacity is {most + 1} satoshis, and there are at most {most}"
 
 
 # ---- the calls
@@ -417,6 +478,10 @@ def scenario_rows():
 def noted(ran):
     """The notes that a call printed."""
     return [line.removeprefix("note: ") for line in ran.stderr.decode().splitlines()]
+
+
+def is_contradictory(notes):
+    return any(it.endswith("contradict each other") for it in notes)
 
 
 def is_noted(command, words, given, notes, facts=None):
@@ -432,7 +497,7 @@ def is_noted(command, words, given, notes, facts=None):
 def main():
     os.chdir(TOP)
     command = program("enforce")
-    scripts = [*opcode_rows(), *ENDS]
+    scripts = [*opcode_rows(), *ENDS, *lock_rows()]
     pairs = list(pair_rows())
     texts = [(json.dumps(value), [note]) for value, note in scenario_rows()]
     # the place of what is no JSON, in a text of as many bytes as there may be; one more byte is not looked at
@@ -443,8 +508,8 @@ def main():
     wrong += sum(not is_noted(command, ["node", "1"], given, notes) for given, notes in texts[:1])
     drawn = [(code, noted(subprocess.run([command, "paths", code], capture_output=True))) for code in mixed(600)]
     wrong += sum(not is_right(code, notes) for code, notes in ENDS)
-    wrong += sum(notes == EXACT and not is_right(code, notes) for code, notes in drawn)
-    print(f"notes: {len(scripts)} scripts, {sum(it[1] == EXACT for it in drawn)} more that end as in consensus, {len(pairs)} pairs of facts, {sum(bool(it[2]) for it in pairs)} of them contradictory, {len(texts)} texts that are no scenario: {wrong} noted otherwise")
+    wrong += sum(ends_so(notes) and not is_right(code, notes) for code, notes in drawn)
+    print(f"notes: {len(scripts)} scripts, {sum(ends_so(it[1]) for it in drawn)} more that end as in consensus, {len(pairs)} pairs of facts, {sum(is_contradictory(it[2]) for it in pairs)} of them contradictory, {len(texts)} texts that are no scenario: {wrong} noted otherwise")
     return int(wrong > 0)
 
 

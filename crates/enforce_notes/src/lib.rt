@@ -1,10 +1,10 @@
 //! Notes on the output of the program `enforce`, for a person at a prompt.
 //!
-//! [`notes_of`] makes a text from the words of a call, its status and the input that was read. It says where a script or a scenario is at fault, which branches ended by a
-//! rule that is stricter than consensus, and which paths no witness meets. It is a pure function, proved not to panic. What it says is tested, not proved. [`Kept`] is a
-//! reader that keeps what passes through it.
+//! [`notes_of`] makes a text from the words of a call, its status and the input that was read. It says where a script or a scenario is at fault, what bytes and texts look
+//! like that are no witness script, which branches ended by a rule that is stricter than consensus, which paths no witness meets, and what endangers money. It is a pure
+//! function, proved not to panic. What it says is tested, not proved. [`Kept`] is a reader that keeps what passes through it.
 //!
-//! `script_notes` makes the notes on scripts. `enforce` writes the notes on standard error, after all that `enforce_words` printed. They change no status.
+//! `script_notes` makes the notes on scripts, messages and wrong words. `enforce` writes the notes on standard error, after all that `enforce_words` printed. They change no status.
 //!
 //! ```rust
 //! let notes = notes_of(alloc, words, 1, Some(&[]))?; // of `paths 51b3`
@@ -15,11 +15,13 @@
 #![tactic(auto)]
 
 mod forms;
+mod proposals;
 mod readers;
 mod scenarios;
 
+use crate::scenarios::scenario_notes;
 pub use readers::Kept;
-use script_notes::notes;
+use script_notes::call_notes;
 use std::alloc::{AllocError, Global};
 
 /// The notes on a call, a line each; empty if there are none. `words` are those of the call (without the program's name), `status` is its exit status, and `input` is all
@@ -31,17 +33,16 @@ pub fn notes_of(
     input: Option<&[u8]>,
 ) -> Result<String, AllocError> {
     match words {
-        [name, text] if name.as_str() == "paths" => notes(alloc, text.as_str()),
-        [name] if name.as_str() == "run" && status == 1 => scenario_notes(alloc, input),
-        [name, _] if name.as_str() == "node" && status == 1 => scenario_notes(alloc, input),
-        _ => Ok(String::new(alloc)),
+        [name] if name.as_str() == "run" && status == 1 => refusal_notes(alloc, input),
+        [name, _] if name.as_str() == "node" && status == 1 => refusal_notes(alloc, input),
+        _ => call_notes(alloc, words, status),
     }
 }
 
 // The notes on a refused scenario; none if it could not be read.
-fn scenario_notes(alloc: Global, input: Option<&[u8]>) -> Result<String, AllocError> {
+fn refusal_notes(alloc: Global, input: Option<&[u8]>) -> Result<String, AllocError> {
     match input {
-        Some(input) => scenarios::notes(alloc, input),
+        Some(input) => scenario_notes(alloc, input),
         None => Ok(String::new(alloc)),
     }
 }

@@ -1,6 +1,7 @@
 // Notes on a text that is not a scenario.
 
 use crate::forms::{MEMBERS, Part, TERMS, event_parts};
+use crate::proposals::note_scenario;
 use json_value::{ReadError, Value};
 use serde_json::Error;
 use std::alloc::{AllocError, Global};
@@ -10,9 +11,9 @@ use texts::tag_of;
 // The most bytes that are read of a scenario.
 const MAX_INPUT: usize = 4_194_304;
 
-/// Notes on a text that is read as a scenario: where it is
-/// invalid JSON, or which of its parts does not have its shape.
-pub fn notes(alloc: Global, input: &[u8]) -> Result<String, AllocError> {
+/// The notes on a text that is refused as a scenario, a line each: where it is invalid JSON, which of its parts does not have its shape, which limit it exceeds, or on which terms the two
+/// sides can't agree. The only error is that memory ran out.
+pub fn scenario_notes(alloc: Global, input: &[u8]) -> Result<String, AllocError> {
     let mut notes = String::new(alloc);
     if input.len() <= MAX_INPUT {
         note_text(&mut notes, alloc, input)?;
@@ -76,8 +77,8 @@ enum Fault {
     NoObject,
     // It lacks this member.
     Lacks(&'static str),
-    // It has a member that does not belong to it.
-    Unknown,
+    // Its member at this index does not belong to it.
+    Unknown(usize),
     // It is not an array whose first item is a name.
     NoEvent,
     // There is no event of this name.
@@ -88,36 +89,69 @@ enum Fault {
     Part(Part),
 }
 
-// Notes the first part of a value that does not have its shape.
+// Notes the first part of a value that does not have its shape, or what else keeps it from being a scenario.
 fn note_fault(notes: &mut String, value: &Value) -> Result<(), AllocError> {
     if let Some(fault) = object_fault(value, &MEMBERS) {
         write!(notes, "note: the scenario")?;
-        return write_fault(notes, &fault);
+        return write_fault(notes, &fault, value);
     }
-    if let Some((channel, fault)) = terms_fault(value) {
+    if let Some((channel, terms, fault)) = terms_fault(value) {
         write!(notes, "note: channel {channel}")?;
-        return write_fault(notes, &fault);
+        return write_fault(notes, &fault, terms);
     }
-    if let Some((event, fault)) = events_fault(value) {
-        write!(notes, "note: event {event}")?;
-        return write_fault(notes, &fault);
+    if let Some((index, event, fault)) = events_fault(value) {
+        write!(notes, "note: event {index}")?;
+        return write_fault(notes, &fault, event);
     }
-    Ok(())
+    note_scenario(notes, value)
 }
 
-fn write_fault(notes: &mut String, fault: &Fault) -> Result<(), AllocError> {
+// Writes why a value does not have its shape.
+fn write_fault(notes: &mut String, fault: &Fault, value: &Value) -> Result<(), AllocError> {
     match fault {
         Fault::NoObject => writeln!(notes, " is no object"),
         Fault::Lacks(name) => writeln!(notes, " has no member {name}"),
-        Fault::Unknown => writeln!(notes, " has a member that does not belong to it"),
+        Fault::Unknown(index) => write_unknown(notes, value, *index),
         Fault::NoEvent => writeln!(notes, " is no array with a name at its front"),
-        Fault::NoName => writeln!(notes, " has the name of no event"),
+        Fault::NoName => write_unnamed(notes, value),
         Fault::Count(count, wanted) => writeln!(notes, " has {count} items, and not {wanted}"),
         Fault::Part(Part(name, kind)) => {
             let kind = kind.text();
             writeln!(notes, ": its {name} is not {kind}")
         }
     }
+}
+
+// Whether a name can be written into a line: 1 to 40 characters of ASCII that are seen.
+fn is_plain(name: &str) -> bool {
+    !name.is_empty()
+        && name.len() <= 40
+        && name.as_bytes().iter().all(|byte| byte.is_ascii_graphic())
+}
+
+// Writes which member does not belong to an object.
+fn write_unknown(notes: &mut String, value: &Value, index: usize) -> Result<(), AllocError> {
+    if let Some(members) = value.as_object() {
+        if let Some((name, _)) = members.get(index) {
+            if is_plain(name.as_str()) {
+                return writeln!(notes, " has a member that does not belong to it: {name}");
+            }
+        }
+    }
+    writeln!(notes, " has a member that does not belong to it")
+}
+
+// Writes that an array has the name of no event, and which names there are.
+fn write_unnamed(notes: &mut String, value: &Value) -> Result<(), AllocError> {
+    if let Some(name) = tag_of(value) {
+        if is_plain(name) {
+            write!(notes, ", {name},")?;
+        }
+    }
+    writeln!(
+        notes,
+        " has the name of no event: there are offer, fulfil, fail, fee, sign, deliver, keep, broadcast, close, blocks, look, take, release and reorg"
+    )
 }
 
 // What keeps an object from having exactly these members.
@@ -133,28 +167,34 @@ fn object_fault(value: &Value, parts: &[Part]) -> Option<Fault> {
             Some(_) => {}
         }
     }
-    if object.len() == parts.len() {
-        None
-    } else {
-        Some(Fault::Unknown)
+    unknown_member(object, parts)
+}
+
+// The first member of an object that is none of these.
+fn unknown_member(object: &[(String, Value)], parts: &[Part]) -> Option<Fault> {
+    for (index, member) in object.iter().enumerate() {
+        if !parts.iter().any(|part| part.0 == member.0.as_str()) {
+            return Some(Fault::Unknown(index));
+        }
     }
+    None
 }
 
 // The first channel whose terms do not have their shape.
-fn terms_fault(value: &Value) -> Option<(usize, Fault)> {
+fn terms_fault(value: &Value) -> Option<(usize, &Value, Fault)> {
     for (channel, terms) in value.member("channels")?.as_array()?.iter().enumerate() {
         if let Some(fault) = object_fault(terms, &TERMS) {
-            return Some((channel, fault));
+            return Some((channel, terms, fault));
         }
     }
     None
 }
 
 // The first event that does not have its shape.
-fn events_fault(value: &Value) -> Option<(usize, Fault)> {
+fn events_fault(value: &Value) -> Option<(usize, &Value, Fault)> {
     for (index, event) in value.member("events")?.as_array()?.iter().enumerate() {
         if let Some(fault) = event_fault(event) {
-            return Some((index, fault));
+            return Some((index, event, fault));
         }
     }
     None

@@ -4,20 +4,16 @@
 //! `script_words` does what the words say, and `script_notes` makes the notes. No crate depends on it.
 #![tactic(auto)]
 
-use script_notes::notes;
+use script_notes::call_notes;
 use script_words::{refuse_memory, refuse_words, run_words};
 use std::io::Write;
 use std::process::ExitCode;
 use std::{env, io};
 
-// Writes the notes on a script. Notes that can't be made or written are left out.
-fn write_notes(rt: &HostRuntime, words: &[String]) {
-    if let [name, text] = words {
-        if name.as_str() == "paths" {
-            if let Ok(notes) = notes(rt.alloc(), text.as_str()) {
-                let _ = rt.stderr().write_all(notes.as_bytes());
-            }
-        }
+// Writes the notes on a call. Notes that can't be made or written are left out.
+fn write_notes(rt: &HostRuntime, words: &[String], status: u8) {
+    if let Ok(notes) = call_notes(rt.alloc(), words, status) {
+        let _ = rt.stderr().write_all(notes.as_bytes());
     }
 }
 
@@ -42,6 +38,6 @@ fn main(rt: HostRuntime) -> ExitCode {
         &mut rt.stdout(),
         &mut rt.stderr(),
     );
-    write_notes(&rt, words.as_slice());
+    write_notes(&rt, words.as_slice(), status);
     ExitCode::from(status)
 }

@@ -6,8 +6,14 @@
 #[cfg(test)]
 mod fixtures;
 #[cfg(test)]
+mod looks;
+#[cfg(test)]
 mod places;
 #[cfg(test)]
 mod readers;
+#[cfg(test)]
+mod refusals;
+#[cfg(test)]
+mod risks;
 #[cfg(test)]
 mod scripts;

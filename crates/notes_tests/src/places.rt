@@ -55,7 +55,7 @@ const TERMS: [(&str, &str); 4] = [
     ),
     (
         ",\"start\":[1,2],\"more\":0",
-        "note: channel 0 has a member that does not belong to it\n",
+        "note: channel 0 has a member that does not belong to it: more\n",
     ),
 ];
 
@@ -70,7 +70,7 @@ const EVENTS: [(&str, &str); 9] = [
     ),
     (
         "[\"offr\",\"A\",0]",
-        "note: event 1 has the name of no event\n",
+        "note: event 1, offr, has the name of no event: there are offer, fulfil, fail, fee, sign, deliver, keep, broadcast, close, blocks, look, take, release and reorg\n",
     ),
     ("[\"sign\",\"A\"]", "note: event 1 has 2 items, and not 3\n"),
     (

@@ -14,7 +14,7 @@ const KEY: &str = "0211111111111111111111111111111111111111111111111111111111111
 const DER: &str = "300602010102010101";
 
 // Scripts with opcodes outside the table, and the notes on them.
-const OPCODES: [(&str, &str); 10] = [
+const OPCODES: [(&str, &str); 7] = [
     (
         "51b3",
         "note: byte 1 is b3, OP_NOP4 in Bitcoin, which is not in the table\nnote: pushed before it: the number 1 at byte 0\n",
@@ -37,15 +37,12 @@ const OPCODES: [(&str, &str); 10] = [
     ),
     (
         "ba",
-        "note: byte 0 is ba, OP_CHECKSIGADD in Bitcoin, which is not in the table\nnote: nothing is pushed before it\n",
+        "note: byte 0 is ba, OP_CHECKSIGADD in tapscript (BIP 342), which is no opcode of version 0\nnote: nothing is pushed before it\n",
     ),
     (
         "5103ff",
         "note: the push at byte 1 wants 3 bytes, and 1 follow\nnote: pushed before it: the number 1 at byte 0\n",
     ),
-    ("6351", ""),
-    ("zz", ""),
-    ("a9", ""),
 ];
 
 // Scripts without a path whose branches end as they do in consensus.
@@ -70,7 +67,10 @@ const UNMET: [(&str, &str); 7] = [
         "note: no witness meets path 0: 'is 0 - yes' and 'size 0 32 yes' contradict each other\n",
     ),
     // DUP aa EQUALVERIFY SIZE, with 1 and with 2
-    ("7601aa88825188", ""),
+    (
+        "7601aa88825188",
+        "note: anyone can spend by path 0: no signature of a key that the script fixes is asked for\n",
+    ),
     (
         "7601aa88825288",
         "note: no witness meets path 0: 'is 0 aa yes' and 'size 0 2 yes' contradict each other\n",
@@ -88,7 +88,7 @@ const UNMET: [(&str, &str); 7] = [
     // DUP IF ENDIF IF 1 ELSE 1 ENDIF
     (
         "7663686351675168",
-        "note: no witness meets path 1: 'truth 0 yes' and 'truth 0 no' contradict each other\nnote: no witness meets path 2: 'truth 0 no' and 'truth 0 yes' contradict each other\n",
+        "note: no witness meets path 1: 'truth 0 yes' and 'truth 0 no' contradict each other\nnote: no witness meets path 2: 'truth 0 no' and 'truth 0 yes' contradict each other\nnote: anyone can spend by path 0, 3: no signature of a key that the script fixes is asked for\n",
     ),
     // SIZE 65 EQUALVERIFY, and a signature
     (
@@ -108,12 +108,16 @@ fn names_opcodes_outside_the_table(rt: HostRuntime) {
 const NONE: &str =
     "note: no witness satisfies the script by the rules of this profile, which are stricter than consensus\n";
 
+// The same, where the script has the form of the program of an output to an uncompressed key.
+const NONE_OF_KEY: &str =
+    "note: these bytes have the form of an output's program, P2PK: such an output has no witness script; this key spends it\nnote: no witness satisfies the script by the rules of this profile, which are stricter than consensus\n";
+
 // What bytes of a script are not that a rule asks for.
-const NO_KEY: &str = "no key here, which has 33 bytes and begins with 02 or 03";
+const NO_KEY: &str = "no key here (a key has 33 bytes, and begins with 02 or 03)";
 
-const NO_NUMBER: &str = "no number here, where numbers are minimally encoded";
+const NO_NUMBER: &str = "no number here (numbers are minimally encoded)";
 
-const NO_SIGNATURE: &str = "no signature here, where signatures are tokens";
+const NO_SIGNATURE: &str = "no signature here (signatures are tokens)";
 
 // A script one of whose branches ends at an opcode: the pieces of its code, what is noted before, the
 // opcode with its bytes as they are named, and the rule.
@@ -128,7 +132,7 @@ struct End {
 const ENDS: [End; 8] = [
     End {
         code: &["41", LONG_KEY, "ac"],
-        before: NONE,
+        before: NONE_OF_KEY,
         at: &["1: ", LONG_KEY, " (65 bytes)"],
         rule: NO_KEY,
     },
@@ -211,7 +215,9 @@ fn tells_exact_ends(rt: HostRuntime) {
         noted_of(&rt, rt.alloc(), code, exact);
     }
     // both branches of an IF, and a branch that is never run
-    noted_of(&rt, rt.alloc(), "6351670068", "");
+    let anyone =
+        "note: anyone can spend by path 0: no signature of a key that the script fixes is asked for\n";
+    noted_of(&rt, rt.alloc(), "6351670068", anyone);
     let dead = joined(
         &rt,
         rt.alloc(),

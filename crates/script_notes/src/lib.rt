@@ -1,9 +1,11 @@
 //! Notes on scripts for the program `enforce`, for a person at a prompt.
 //!
-//! [`notes`] makes a text from a script in hexadecimal. It says where the script is at fault, which branches ended by a rule that is stricter than consensus, and which paths no witness
-//! meets. It is a pure function, proved not to panic. What it says is tested, not proved.
+//! [`notes`] makes a text from a script in hexadecimal. It says where the script is at fault, what bytes and texts look like that are no witness script, which branches ended by a rule
+//! that is stricter than consensus, which paths no witness meets, and what endangers money. [`call_notes`] makes the text for a call from its words and its status: it says also what
+//! keeps a message from being hexadecimal, and what helps after wrong words. Both are pure functions, proved not to panic. What they say is tested, not proved; what `warnings` decides is
+//! proved.
 //!
-//! `paths` lists what it speaks of. `enforce_notes` makes the notes on scenarios beside it, and `enforce_scripts` writes them where there are none.
+//! `paths` lists what it speaks of. `enforce_notes` makes the notes on scenarios beside these, and `enforce_scripts` writes them where there are none.
 //!
 //! ```rust
 //! let notes = notes(alloc, "51b3")?;
@@ -14,12 +16,18 @@
 #![tactic(auto)]
 
 mod branches;
+mod calls;
 mod conflicts;
 mod entries;
+mod looks;
 mod names;
 mod pushes;
+mod refusals;
+mod risks;
 mod scripts;
 mod signatures;
 mod sizes;
+mod unknowns;
 
+pub use calls::call_notes;
 pub use scripts::notes;

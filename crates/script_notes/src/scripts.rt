@@ -2,59 +2,77 @@
 
 use crate::branches::{Rule, StrictEnd, strict_ends};
 use crate::conflicts::conflict_in;
-use crate::names::name_of;
+use crate::looks::{note_look, note_message, note_text};
 use crate::pushes::note_pushes;
+use crate::refusals::note_refusal;
+use crate::risks::note_risks;
 use crate::sizes::Counted;
+use crate::unknowns::{note_opcode, note_others};
 use paths::{Checked, Path, check};
-use script::{Op, ParseError, Script};
+use script::{ParseError, Script};
 use std::alloc::{AllocError, Global};
 use std::fmt::Write;
 
-/// Notes on a script that is written in hexadecimal.
+/// The notes on a version 0 witness script that is written in hexadecimal, a line each; empty if there are none. The only error is that memory ran out.
 pub fn notes(alloc: Global, text: &str) -> Result<String, AllocError> {
     let mut notes = String::new(alloc);
-    if let Ok(bytes) = hex::decode(alloc, text) {
-        note_bytes(&mut notes, alloc, bytes.as_slice())?;
+    match hex::decode(alloc, text) {
+        Ok(bytes) => note_bytes(&mut notes, alloc, bytes.as_slice())?,
+        Err(_) => note_text(&mut notes, text)?,
     }
     Ok(notes)
 }
 
-// Notes on the bytes of a script.
+/// The notes on a message that is written in hexadecimal, a line each; empty if there are none. The only error is that memory ran out.
+pub fn message_notes(alloc: Global, text: &str) -> Result<String, AllocError> {
+    let mut notes = String::new(alloc);
+    note_message(&mut notes, text)?;
+    Ok(notes)
+}
+
+// Notes on bytes: what they look like, and what they are as a script. Why a transaction or a PSBT is no script is not said.
 fn note_bytes(notes: &mut String, alloc: Global, bytes: &[u8]) -> Result<(), AllocError> {
+    let is_other = note_look(notes, bytes)?;
     match Script::parse(alloc, bytes) {
-        Ok(script) => note_script(notes, alloc, script),
-        Err(ParseError::BadOpcode(at)) => {
+        Ok(script) => note_script(notes, alloc, bytes, script),
+        Err(_) if is_other => Ok(()),
+        Err(error) => note_fault(notes, alloc, bytes, error),
+    }
+}
+
+// Notes why bytes are no script.
+fn note_fault(
+    notes: &mut String,
+    alloc: Global,
+    bytes: &[u8],
+    error: ParseError,
+) -> Result<(), AllocError> {
+    match error {
+        ParseError::BadOpcode(at) => {
             note_opcode(notes, bytes, at)?;
-            note_pushes(notes, alloc, before(bytes, at))
+            note_pushes(notes, alloc, before(bytes, at))?;
+            note_others(notes, alloc, bytes, at)
         }
-        Err(ParseError::Truncated(at)) => {
+        ParseError::Truncated(at) => {
             note_missing(notes, bytes, at)?;
             note_pushes(notes, alloc, before(bytes, at))
         }
-        Err(_) => Ok(()),
+        ParseError::TooLong => note_length(notes, bytes.len()),
+        ParseError::NoMemory => Ok(()),
     }
+}
+
+// Notes how long a script is that is too long.
+fn note_length(notes: &mut String, len: usize) -> Result<(), AllocError> {
+    writeln!(
+        notes,
+        "note: the script has {len} bytes, and at most 10000 are allowed (BIP 141)"
+    )
 }
 
 // The bytes before a position.
 fn before(bytes: &[u8], at: usize) -> &[u8] {
     &bytes[..at.min(bytes.len())]
-}
-
-// Notes which of Bitcoin's opcodes stands at a byte.
-fn note_opcode(notes: &mut String, bytes: &[u8], at: usize) -> Result<(), AllocError> {
-    let Some(byte) = bytes.get(at) else {
-        return Ok(());
-    };
-    match name_of(*byte) {
-        Some(name) => writeln!(
-            notes,
-            "note: byte {at} is {byte:02x}, {name} in Bitcoin, which is not in the table"
-        ),
-        None => writeln!(
-            notes,
-            "note: byte {at} is {byte:02x}, which is no opcode of Bitcoin"
-        ),
-    }
 }
 
 // Notes how many bytes a push needs, and how many follow it.
@@ -69,11 +87,16 @@ fn note_missing(notes: &mut String, bytes: &[u8], at: usize) -> Result<(), Alloc
     )
 }
 
-// Notes on a script that is listed.
-fn note_script(notes: &mut String, alloc: Global, script: Script) -> Result<(), AllocError> {
+// Notes on a script whose bytes are these.
+fn note_script(
+    notes: &mut String,
+    alloc: Global,
+    bytes: &[u8],
+    script: Script,
+) -> Result<(), AllocError> {
     match check(alloc, script) {
         Ok(checked) => note_listing(notes, alloc, &checked),
-        Err(_) => Ok(()),
+        Err(error) => note_refusal(notes, alloc, bytes, error),
     }
 }
 
@@ -88,7 +111,7 @@ fn note_listing(notes: &mut String, alloc: Global, checked: &Checked) -> Result<
     for (index, path) in checked.paths().iter().enumerate() {
         note_conflict(notes, index, path)?;
     }
-    Ok(())
+    note_risks(notes, alloc, checked)
 }
 
 // Notes that no witness satisfies the script, and whether each
@@ -109,9 +132,9 @@ fn note_no_path(notes: &mut String, is_exact: bool) -> Result<(), AllocError> {
 fn note_end(notes: &mut String, end: &StrictEnd) -> Result<(), AllocError> {
     let (op, bytes) = (end.op, Counted(end.bytes.as_slice()));
     let rule = match end.rule {
-        Rule::Key => "no key here, which has 33 bytes and begins with 02 or 03",
-        Rule::Signature => "no signature here, where signatures are tokens",
-        Rule::Number => "no number here, where numbers are minimally encoded",
+        Rule::Key => "no key here (a key has 33 bytes, and begins with 02 or 03)",
+        Rule::Signature => "no signature here (signatures are tokens)",
+        Rule::Number => "no number here (numbers are minimally encoded)",
     };
     writeln!(
         notes,

@@ -1,0 +1,182 @@
+//! Notes on what endangers money: who else can spend (BIP 141), locks that ask for less than they say (BIP 68, BIP 112), and locks that no transaction reaches (BIP 65).
+
+use crate::fixtures::{joined, noted_of};
+use std::alloc::Global;
+use std::process::Abort;
+
+const KEY: &str = "021111111111111111111111111111111111111111111111111111111111111111";
+
+const OTHER_KEY: &str = "022222222222222222222222222222222222222222222222222222222222222222";
+
+const HASH: &str = "3333333333333333333333333333333333333333";
+
+const PAYMENT_HASH: &str = "4444444444444444444444444444444444444444";
+
+// The ends of three notes.
+const ANYONE: &str = ": no signature of a key that the script fixes is asked for\n";
+
+const BEYOND: &str = ": a lock time has 4 bytes, so it is at most 4294967295\n";
+
+const HASHED: &str =
+    ": by consensus, though not by relay policy, an uncompressed key with that hash is taken too\n";
+
+// A script in pieces, and the notes on it in pieces.
+struct Case {
+    code: &'static [&'static str],
+    notes: &'static [&'static str],
+}
+
+const RISKS: [Case; 16] = [
+    // the number 1; the empty script; IF 1 ELSE 2 ENDIF
+    Case {
+        code: &["51"],
+        notes: &["note: anyone can spend by path 0", ANYONE],
+    },
+    Case {
+        code: &[""],
+        notes: &["note: anyone can spend by path 0", ANYONE],
+    },
+    Case {
+        code: &["6351675268"],
+        notes: &["note: anyone can spend by path 0, 1", ANYONE],
+    },
+    // CHECKSIG of a key that the witness brings, and of one in the script
+    Case {
+        code: &["ac"],
+        notes: &["note: anyone can spend by path 0", ANYONE],
+    },
+    Case {
+        code: &["21", KEY, "ac"],
+        notes: &[],
+    },
+    // IF a key CHECKSIG ELSE 1 ENDIF
+    Case {
+        code: &["6321", KEY, "ac675168"],
+        notes: &["note: anyone can spend by path 1", ANYONE],
+    },
+    // SIZE 32 EQUALVERIFY HASH160 EQUAL
+    Case {
+        code: &["82012088a914", HASH, "87"],
+        notes: &[
+            "note: whoever sees such a witness can spend too by path 0: what has a given hash is asked for, and no signature of a key that the script fixes\n",
+        ],
+    },
+    // 65536 CHECKSEQUENCEVERIFY DROP and a signature: an age of 0
+    Case {
+        code: &["03000001b27521", KEY, "ac"],
+        notes: &[
+            "note: opcode 1, CHECKSEQUENCEVERIFY of 65536, asks for an age of 0 blocks: of a number only bits 0 to 15, 22 and 31 count (BIP 68)\n",
+        ],
+    },
+    // 2147483648 CHECKSEQUENCEVERIFY: bit 31
+    Case {
+        code: &["050000008000b27521", KEY, "ac"],
+        notes: &[
+            "note: opcode 1, CHECKSEQUENCEVERIFY of 2147483648, asks for nothing: bit 31 switches the lock off (BIP 68)\n",
+        ],
+    },
+    // 4259841 CHECKSEQUENCEVERIFY: bits 22 and 16, and an age of 1
+    Case {
+        code: &["03010041b27521", KEY, "ac"],
+        notes: &[
+            "note: opcode 1, CHECKSEQUENCEVERIFY of 4259841, asks for an age of 1 unit of 512 seconds: of a number only bits 0 to 15, 22 and 31 count (BIP 68)\n",
+        ],
+    },
+    // 65537 CHECKSEQUENCEVERIFY: bit 16, and an age of 1
+    Case {
+        code: &["03010001b27521", KEY, "ac"],
+        notes: &[
+            "note: opcode 1, CHECKSEQUENCEVERIFY of 65537, asks for an age of 1 block: of a number only bits 0 to 15, 22 and 31 count (BIP 68)\n",
+        ],
+    },
+    // 4294967295 and 4294967296 CHECKLOCKTIMEVERIFY, and the latter where anyone could spend
+    Case {
+        code: &["05ffffffff00b17521", KEY, "ac"],
+        notes: &[],
+    },
+    Case {
+        code: &["050000000001b17521", KEY, "ac"],
+        notes: &["note: no transaction has the lock time of path 0", BEYOND],
+    },
+    Case {
+        code: &["6351675152050000000001b1757568"],
+        notes: &[
+            "note: no transaction has the lock time of path 1",
+            BEYOND,
+            "note: anyone can spend by path 0",
+            ANYONE,
+        ],
+    },
+    // 144 and 65535 blocks ask for what they say
+    Case {
+        code: &["029000b27521", KEY, "ac"],
+        notes: &[],
+    },
+    Case {
+        code: &["03ffff00b27521", KEY, "ac"],
+        notes: &[],
+    },
+];
+
+// BOLT 3's offered HTLC, without anchors.
+const OFFERED: [&str; 9] = [
+    "76a914",
+    HASH,
+    "8763ac6721",
+    KEY,
+    "7c820120876475527c21",
+    OTHER_KEY,
+    "52ae67a914",
+    PAYMENT_HASH,
+    "88ac6868",
+];
+
+const TIMEOUT: &str =
+    "note: path 1 is the timeout of an offered HTLC (BOLT 3): nobody can take it at once, since the other side signs only a transaction whose lock time is the HTLC's cltv_expiry\n";
+
+const NO_KEY: &str = "042222222222222222222222222222222222222222222222222222222222222222";
+
+// The same with a key of another form in the timeout, which then ends and is not listed.
+const WITHOUT_TIMEOUT: [&str; 9] = [
+    "76a914",
+    HASH,
+    "8763ac6721",
+    KEY,
+    "7c820120876475527c21",
+    NO_KEY,
+    "52ae67a914",
+    PAYMENT_HASH,
+    "88ac6868",
+];
+
+// Asserts the notes on a script.
+fn has_risks(rt: &impl Abort, alloc: Global, code: &[&str], notes: &[&str]) {
+    let code = joined(rt, alloc, code);
+    let notes = joined(rt, alloc, notes);
+    noted_of(rt, alloc, code.as_str(), notes.as_str());
+}
+
+#[test]
+fn tells_who_else_can_spend(rt: HostRuntime) {
+    for case in &RISKS {
+        has_risks(&rt, rt.alloc(), case.code, case.notes);
+    }
+}
+
+#[test]
+fn tells_of_an_offered_htlc(rt: HostRuntime) {
+    let notes = [
+        "note: a key is taken by its hash on path 0",
+        HASHED,
+        TIMEOUT,
+    ];
+    has_risks(&rt, rt.alloc(), &OFFERED, &notes);
+    let without = [
+        "note: a branch ends at opcode 18: ",
+        NO_KEY,
+        " (33 bytes) is no key here (a key has 33 bytes, and begins with 02 or 03); consensus is laxer, and may let others spend\n",
+        "note: a key is taken by its hash on path 0",
+        HASHED,
+    ];
+    has_risks(&rt, rt.alloc(), &WITHOUT_TIMEOUT, &without);
+}

@@ -1,0 +1,145 @@
+// Notes on what endangers money: paths that others can take too, and locks that ask for less than they say.
+
+use crate::conflicts::conflict_in;
+use paths::{Checked, Path};
+use script::Op;
+use std::alloc::{AllocError, Global};
+use std::fmt::Write;
+use warnings::{
+    LockWarning, SequenceLock, Taker, has_unreachable_lock, is_offered_htlc, lock_warnings,
+    taker_of, takes_hashed_key,
+};
+
+/// Notes on the paths of a listed script.
+pub fn note_risks(notes: &mut String, alloc: Global, checked: &Checked) -> Result<(), AllocError> {
+    let paths = checked.paths();
+    note_paths(notes, paths, Risk::Unreachable)?;
+    note_paths(notes, paths, Risk::Anyone)?;
+    note_paths(notes, paths, Risk::Finder)?;
+    note_paths(notes, paths, Risk::HashedKey)?;
+    note_locks(notes, alloc, checked.script().ops())?;
+    // with keys that have another form than a key's, it has fewer paths
+    if paths.len() == 3 && is_offered_htlc(checked.script().bytes()) {
+        note_timeout(notes)?;
+    }
+    Ok(())
+}
+
+// What a note says of some paths.
+#[derive(Clone, Copy, PartialEq, Eq)]
+enum Risk {
+    // No transaction has the lock time that is asked for.
+    Unreachable,
+    // Anyone can spend.
+    Anyone,
+    // Whoever sees a witness can spend.
+    Finder,
+    // A key is taken by its hash.
+    HashedKey,
+}
+
+impl Risk {
+    // The words before the paths.
+    fn beginning(self) -> &'static str {
+        match self {
+            Risk::Unreachable => "note: no transaction has the lock time of path",
+            Risk::Anyone => "note: anyone can spend by path",
+            Risk::Finder => "note: whoever sees such a witness can spend too by path",
+            Risk::HashedKey => "note: a key is taken by its hash on path",
+        }
+    }
+
+    // The words after the paths.
+    fn ending(self) -> &'static str {
+        match self {
+            Risk::Unreachable => "a lock time has 4 bytes, so it is at most 4294967295",
+            Risk::Anyone => "no signature of a key that the script fixes is asked for",
+            Risk::Finder => {
+                "what has a given hash is asked for, and no signature of a key that the script fixes"
+            }
+            Risk::HashedKey => {
+                "by consensus, though not by relay policy, an uncompressed key with that hash is taken too"
+            }
+        }
+    }
+}
+
+// Whether a path has a risk. What nobody meets leaves nothing to others.
+fn has_risk(path: &Path, risk: Risk) -> bool {
+    let facts = path.facts.values();
+    let is_unreachable = has_unreachable_lock(facts);
+    if is_unreachable || conflict_in(facts).is_some() {
+        return is_unreachable && risk == Risk::Unreachable;
+    }
+    match risk {
+        Risk::Unreachable => false,
+        Risk::Anyone => taker_of(facts) == Taker::Anyone,
+        Risk::Finder => taker_of(facts) == Taker::Finder,
+        Risk::HashedKey => takes_hashed_key(facts),
+    }
+}
+
+// Notes the paths that have a risk in one line, if there are any.
+fn note_paths(notes: &mut String, paths: &[Path], risk: Risk) -> Result<(), AllocError> {
+    let mut mark = risk.beginning();
+    for (index, path) in paths.iter().enumerate() {
+        if has_risk(path, risk) {
+            write!(notes, "{mark} {index}")?;
+            mark = ",";
+        }
+    }
+    if mark == "," {
+        let ending = risk.ending();
+        writeln!(notes, ": {ending}")
+    } else {
+        Ok(())
+    }
+}
+
+// Notes the relative locks that ask for less than their number says.
+fn note_locks(notes: &mut String, alloc: Global, ops: &[Op]) -> Result<(), AllocError> {
+    let warnings = lock_warnings(alloc, ops)?;
+    for warning in &warnings {
+        note_lock(notes, warning)?;
+    }
+    Ok(())
+}
+
+// Notes one relative lock.
+fn note_lock(notes: &mut String, warning: &LockWarning) -> Result<(), AllocError> {
+    let (op, number) = (warning.op, warning.number);
+    write!(
+        notes,
+        "note: opcode {op}, CHECKSEQUENCEVERIFY of {number}, asks for "
+    )?;
+    match warning.lock {
+        SequenceLock::Off => writeln!(notes, "nothing: bit 31 switches the lock off (BIP 68)"),
+        SequenceLock::Blocks(age) => {
+            let end = plural(age);
+            writeln!(
+                notes,
+                "an age of {age} block{end}: of a number only bits 0 to 15, 22 and 31 count (BIP 68)"
+            )
+        }
+        SequenceLock::Units(age) => {
+            let end = plural(age);
+            writeln!(
+                notes,
+                "an age of {age} unit{end} of 512 seconds: of a number only bits 0 to 15, 22 and 31 count (BIP 68)"
+            )
+        }
+    }
+}
+
+// The end of the word for what there are this many of.
+fn plural(count: u16) -> &'static str {
+    if count == 1 { "" } else { "s" }
+}
+
+// Notes which path of an offered HTLC has a lock that does not stand in the script.
+fn note_timeout(notes: &mut String) -> Result<(), AllocError> {
+    writeln!(
+        notes,
+        "note: path 1 is the timeout of an offered HTLC (BOLT 3): nobody can take it at once, since the other side signs only a transaction whose lock time is the HTLC's cltv_expiry"
+    )
+}
