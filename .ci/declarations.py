@@ -126,9 +126,10 @@ def c_type(kind, structs):
 def header(told):
     names = [name for name, _, _ in told.structs]
     lines = [
-        f"/* enforce.h: the ways through a script and the scripts of BOLT 3, proved, for programs in C. {NOTE}",
+        f"/* enforce.h: the ways through a script, the scripts of BOLT 3, and claims, proved, for programs in C. {NOTE}",
         "",
-        "   Nothing here signs, and nothing checks a signature. docs/BINDINGS.md says what is proved of each call and what its caller owes:",
+        "   Nothing here signs, and nothing checks a signature. An accepted claim can't fail with tokens, or with valid signatures where its path",
+        "   measures none. docs/BINDINGS.md says what is proved of each call and what its caller owes:",
         "   pointers that are valid for their lengths, outputs that are initialised, and outputs that overlap nothing else. */",
         "#ifndef ENFORCE_H",
         "#define ENFORCE_H",

@@ -1,6 +1,7 @@
-/* enforce.h: the ways through a script and the scripts of BOLT 3, proved, for programs in C. Drawn from crates/enforce_c/src by `.ci/library --write`: do not edit.
+/* enforce.h: the ways through a script, the scripts of BOLT 3, and claims, proved, for programs in C. Drawn from crates/enforce_c/src by `.ci/library --write`: do not edit.
 
-   Nothing here signs, and nothing checks a signature. docs/BINDINGS.md says what is proved of each call and what its caller owes:
+   Nothing here signs, and nothing checks a signature. An accepted claim can't fail with tokens, or with valid signatures where its path
+   measures none. docs/BINDINGS.md says what is proved of each call and what its caller owes:
    pointers that are valid for their lengths, outputs that are initialised, and outputs that overlap nothing else. */
 #ifndef ENFORCE_H
 #define ENFORCE_H
@@ -12,6 +13,12 @@
 #ifdef __cplusplus
 extern "C" {
 #endif
+
+enum {
+    ENFORCE_SLOT_SIGNATURE = 1, /* The slot is the signature of `key` over the spend. */
+    ENFORCE_SLOT_PREIMAGE = 2, /* The slot is 32 bytes whose SHA-256 is `hash`. */
+    ENFORCE_SLOT_EXACT = 3, /* The slot is the `bytes_length` bytes from `bytes_at` on, at most 520. */
+};
 
 enum {
     ENFORCE_FORM_FUNDING = 1, /* A funding output: both keys, `key` and `other`, in whichever order. */
@@ -48,14 +55,52 @@ enum {
     ENFORCE_UNDECIDED = 0x203, /* No rule decides an opcode or the end; the answer has the opcode's index. */
     ENFORCE_TOO_MANY_PATHS = 0x204, /* A 65th path begins. */
     ENFORCE_TOO_TALL = 0x205, /* A path needs more than 1,000 stack elements. */
+    ENFORCE_NO_SUCH_PATH = 0x301, /* The script has no path of this index. */
+    ENFORCE_WRONG_ARITY = 0x302, /* The number of slots is not that of the path. */
+    ENFORCE_UNMET = 0x303, /* The slots do not show a fact of the path. */
+    ENFORCE_CONTRADICTION = 0x304, /* The path asks for one fact with both polarities. */
+    ENFORCE_WRONG_PROGRAM = 0x305, /* The program is not that of the script. */
+    ENFORCE_WRONG_SHELL = 0x306, /* The fixed transaction of a claim does not fit. No claim of these calls has one. */
     ENFORCE_NO_SUCH_FORM = 0x401, /* There is no form of this kind. */
-    ENFORCE_NOT_A_KEY = 0x402, /* Bytes that the form uses do not have the form of a key. */
+    ENFORCE_NOT_A_KEY = 0x402, /* Bytes that are to be a key do not have the form of one. */
     ENFORCE_NOT_A_HEIGHT = 0x403, /* The expiry is 500,000,000 or more, which is a time and not a height. */
+    ENFORCE_OUT_OF_RANGE = 0x701, /* A row refers to bytes or to rows that are not there. */
+    ENFORCE_NO_SUCH_SLOT = 0x702, /* There is no slot of this kind. */
+    ENFORCE_ITEM_TOO_LONG = 0x703, /* The bytes of a slot are more than 520. */
 };
 
 enum {
     ENFORCE_ABI = 1, /* What declarations mean together: it is raised whenever one changes its meaning. */
 };
+
+/* How a claim fills a slot of its path. A field that the kind does not name is not read. */
+typedef struct {
+    uint32_t kind; /* One of the kinds of slots. */
+    uint8_t key[33]; /* A compressed public key. */
+    uint8_t hash[32]; /* The SHA-256 of a preimage, in the hash's own byte order. */
+    size_t bytes_at; /* Where the bytes begin among those that the call is given. */
+    size_t bytes_length; /* How many there are. */
+} enforce_slot_row;
+
+/* A claim on an output, by one path of its script. Its slots are the rows from `first_slot` on, `slots` of them, the top of the stack first. */
+typedef struct {
+    uint8_t txid[32]; /* The id of the transaction that has the output, in the hash's own byte order. */
+    uint32_t index; /* Which of that transaction's outputs it is, from 0. */
+    uint64_t value; /* What the output is worth, in satoshis. */
+    size_t script_at; /* Where its script begins among the bytes that the call is given. */
+    size_t script_length; /* How many bytes the script has. */
+    size_t program_at; /* Where its program begins among those bytes. */
+    size_t program_length; /* How many bytes the program has. */
+    size_t path; /* The index of the path, as the script's listing has it. */
+    size_t first_slot; /* The index of the row of its first slot. */
+    size_t slots; /* How many rows its slots have. */
+} enforce_claim_row;
+
+/* When an accepted claim is due: what the transaction that spends its output has to have. */
+typedef struct {
+    uint64_t height; /* The least lock time, as a height below 500,000,000 (BIP 65); 0 if the path checks none. */
+    uint32_t sequence; /* The sequence of the claim's input, which is an age in blocks (BIP 68); 0 if the path checks none. */
+} enforce_due;
 
 /* A form of BOLT 3 with what its script has. A field that the kind does not name is not read. */
 typedef struct {
@@ -116,6 +161,9 @@ void enforce_script_program(const uint8_t *script, size_t script_length, uint8_t
 /* Writes the script of a form. Its length is the answer's `bytes`. The statuses of refusals are those of family 4, in the order of their numbers, and `TOO_SMALL`. */
 uint32_t enforce_form_script(const enforce_form *form, uint8_t *script, size_t script_length, enforce_answer *answer);
 
+/* Accepts a claim by one path of its script, in an open transaction: any of version 2 whose lock time is a height, below 500,000,000, and not below the one that is written. Writes when the claim is due. Whatever fills the slots as their rows say spends the output. The statuses of refusals are those of families 1, 2, 3 and 7, and `NOT_A_KEY`, in this order: what the rows refer to is there, slot by slot, the script, its listing, the claim. */
+uint32_t enforce_claim(const enforce_claim_row *claim, const enforce_slot_row *slots, size_t slots_length, const uint8_t *bytes, size_t bytes_length, enforce_due *due, enforce_answer *answer);
+
 /* The word for a status. */
 static inline const char *enforce_name(uint32_t status) {
     switch (status) {
@@ -130,9 +178,18 @@ static inline const char *enforce_name(uint32_t status) {
     case ENFORCE_UNDECIDED: return "Undecided";
     case ENFORCE_TOO_MANY_PATHS: return "TooManyPaths";
     case ENFORCE_TOO_TALL: return "TooTall";
+    case ENFORCE_NO_SUCH_PATH: return "NoSuchPath";
+    case ENFORCE_WRONG_ARITY: return "WrongArity";
+    case ENFORCE_UNMET: return "Unmet";
+    case ENFORCE_CONTRADICTION: return "Contradiction";
+    case ENFORCE_WRONG_PROGRAM: return "WrongProgram";
+    case ENFORCE_WRONG_SHELL: return "WrongShell";
     case ENFORCE_NO_SUCH_FORM: return "NoSuchForm";
     case ENFORCE_NOT_A_KEY: return "NotAKey";
     case ENFORCE_NOT_A_HEIGHT: return "NotAHeight";
+    case ENFORCE_OUT_OF_RANGE: return "OutOfRange";
+    case ENFORCE_NO_SUCH_SLOT: return "NoSuchSlot";
+    case ENFORCE_ITEM_TOO_LONG: return "ItemTooLong";
     default: return "Unknown";
     }
 }
@@ -142,6 +199,26 @@ static inline const char *enforce_name(uint32_t status) {
 #endif
 
 #if defined(__STDC_VERSION__) && __STDC_VERSION__ >= 201112L
+_Static_assert(sizeof(enforce_slot_row) == 88, "the layout of enforce_slot_row");
+_Static_assert(offsetof(enforce_slot_row, kind) == 0, "the layout of enforce_slot_row");
+_Static_assert(offsetof(enforce_slot_row, key) == 4, "the layout of enforce_slot_row");
+_Static_assert(offsetof(enforce_slot_row, hash) == 37, "the layout of enforce_slot_row");
+_Static_assert(offsetof(enforce_slot_row, bytes_at) == 72, "the layout of enforce_slot_row");
+_Static_assert(offsetof(enforce_slot_row, bytes_length) == 80, "the layout of enforce_slot_row");
+_Static_assert(sizeof(enforce_claim_row) == 104, "the layout of enforce_claim_row");
+_Static_assert(offsetof(enforce_claim_row, txid) == 0, "the layout of enforce_claim_row");
+_Static_assert(offsetof(enforce_claim_row, index) == 32, "the layout of enforce_claim_row");
+_Static_assert(offsetof(enforce_claim_row, value) == 40, "the layout of enforce_claim_row");
+_Static_assert(offsetof(enforce_claim_row, script_at) == 48, "the layout of enforce_claim_row");
+_Static_assert(offsetof(enforce_claim_row, script_length) == 56, "the layout of enforce_claim_row");
+_Static_assert(offsetof(enforce_claim_row, program_at) == 64, "the layout of enforce_claim_row");
+_Static_assert(offsetof(enforce_claim_row, program_length) == 72, "the layout of enforce_claim_row");
+_Static_assert(offsetof(enforce_claim_row, path) == 80, "the layout of enforce_claim_row");
+_Static_assert(offsetof(enforce_claim_row, first_slot) == 88, "the layout of enforce_claim_row");
+_Static_assert(offsetof(enforce_claim_row, slots) == 96, "the layout of enforce_claim_row");
+_Static_assert(sizeof(enforce_due) == 16, "the layout of enforce_due");
+_Static_assert(offsetof(enforce_due, height) == 0, "the layout of enforce_due");
+_Static_assert(offsetof(enforce_due, sequence) == 8, "the layout of enforce_due");
 _Static_assert(sizeof(enforce_form) == 144, "the layout of enforce_form");
 _Static_assert(offsetof(enforce_form, kind) == 0, "the layout of enforce_form");
 _Static_assert(offsetof(enforce_form, expiry_height) == 4, "the layout of enforce_form");

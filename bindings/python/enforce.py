@@ -1,4 +1,4 @@
-"""The ways through a version 0 witness script (BIP 141), and the scripts of BOLT 3, by a library that is proved.
+"""The ways through a version 0 witness script (BIP 141), the scripts of BOLT 3, and claims, by a library that is proved.
 
 Nothing here signs, and nothing checks a signature. The keys are the caller's, and none is derived.
 
@@ -70,6 +70,13 @@ _KINDS = {
     raw.FACT_LOCK: "lock",
     raw.FACT_AGE: "age",
 }
+
+
+def _number(value: int, bits: int, name: str) -> int:
+    """The number, if it has at most so many bits. ctypes takes the low bits of a greater one."""
+    if not 0 <= value < 1 << bits:
+        raise ValueError(f"{name} has at most {bits} bits")
+    return value
 
 
 def _given(data: bytes):
@@ -146,7 +153,8 @@ def form_script(kind: int, key: bytes, other: bytes = b"", local: bytes = b"", p
 
     Proved of enforce_form_script: the script of BOLT 3, or the first refusal.
     """
-    form, answer = raw.Form(kind=kind, expiry_height=expiry_height, delay_blocks=delay_blocks), raw.Answer()
+    numbers = {"kind": _number(kind, 32, "kind"), "expiry_height": _number(expiry_height, 32, "expiry_height"), "delay_blocks": _number(delay_blocks, 16, "delay_blocks")}
+    form, answer = raw.Form(**numbers), raw.Answer()
     for name, value in (("key", key), ("other", other), ("local", local), ("payment_hash", payment_hash)):
         field = getattr(form, name)
         if len(value) not in (0, len(field)):
@@ -161,3 +169,107 @@ def form_script(kind: int, key: bytes, other: bytes = b"", local: bytes = b"", p
         if status != raw.TOO_SMALL:
             raise Refused(status, answer.number)
         size = answer.bytes
+
+
+@dataclass(frozen=True)
+class Signature:
+    """The slot is this key's signature over the spend."""
+
+    key: bytes
+
+
+@dataclass(frozen=True)
+class Preimage:
+    """The slot is 32 bytes with this SHA-256."""
+
+    hash: bytes
+
+
+@dataclass(frozen=True)
+class Exact:
+    """The slot is these bytes, at most 520."""
+
+    item: bytes
+
+
+@dataclass(frozen=True)
+class Claim:
+    """A claim on an output, by one path of its script. The id is in the hash's own byte order, and the slots are the top of the stack first."""
+
+    txid: bytes
+    index: int
+    value: int
+    script: bytes
+    program: bytes
+    path: int
+    slots: Tuple[Union[Signature, Preimage, Exact], ...]
+
+
+@dataclass(frozen=True)
+class Due:
+    """What the transaction that spends a claim has to have: the least lock time, as a height, and the sequence of the claim's input, an age in blocks."""
+
+    height: int
+    sequence: int
+
+
+def _fill(field, value: bytes, name: str):
+    if len(value) != len(field):
+        raise ValueError(f"{name} has {len(field)} bytes")
+    field[:] = value
+
+
+class _Given:
+    """The rows of claims, and the bytes that they refer to."""
+
+    def __init__(self):
+        self.bytes, self.slots = bytearray(), []
+
+    def put(self, data: bytes) -> Tuple[int, int]:
+        at = len(self.bytes)
+        self.bytes += data
+        return at, len(data)
+
+    def slot(self, slot):
+        row = raw.SlotRow()
+        if isinstance(slot, Signature):
+            row.kind = raw.SLOT_SIGNATURE
+            _fill(row.key, slot.key, "a key")
+        elif isinstance(slot, Preimage):
+            row.kind = raw.SLOT_PREIMAGE
+            _fill(row.hash, slot.hash, "a hash")
+        else:
+            row.kind = raw.SLOT_EXACT
+            row.bytes_at, row.bytes_length = self.put(slot.item)
+        return row
+
+    def claim(self, claim: Claim):
+        numbers = {"index": _number(claim.index, 32, "index"), "value": _number(claim.value, 64, "value"), "path": _number(claim.path, 64, "path")}
+        row = raw.ClaimRow(first_slot=len(self.slots), slots=len(claim.slots), **numbers)
+        _fill(row.txid, claim.txid, "an id")
+        row.script_at, row.script_length = self.put(claim.script)
+        row.program_at, row.program_length = self.put(claim.program)
+        self.slots += map(self.slot, claim.slots)
+        return row
+
+    def rows(self):
+        """The rows of slots and the bytes, as two pairs of a call's arguments."""
+        return _rows(raw.SlotRow, self.slots) + (_given(bytes(self.bytes)), len(self.bytes))
+
+
+def _rows(kind, rows):
+    return (kind * len(rows))(*rows), len(rows)
+
+
+def accept(claim: Claim) -> Due:
+    """Accepts a claim by one path of its script, and says when it is due. Raises Refused.
+
+    Proved of enforce_claim: whatever fills the slots as they say spends the output, in a transaction of version 2 with this sequence, whose lock time is a height (below 500,000,000) and not below this one.
+    Signatures are tokens there; a path that measures none of them takes a valid signature as well.
+    """
+    given, due, answer = _Given(), raw.Due(), raw.Answer()
+    row = given.claim(claim)
+    status = _library.enforce_claim(ctypes.byref(row), *given.rows(), ctypes.byref(due), ctypes.byref(answer))
+    if status != raw.DONE:
+        raise Refused(status, answer.number)
+    return Due(due.height, due.sequence)

@@ -1,6 +1,13 @@
 """The exports of the library, its structs and its numbers. Drawn from crates/enforce_c/src by `.ci/library --write`: do not edit."""
 from ctypes import POINTER, Structure, c_bool, c_size_t, c_uint8, c_uint16, c_uint32, c_uint64, sizeof
 
+# The slot is the signature of `key` over the spend.
+SLOT_SIGNATURE = 0x1
+# The slot is 32 bytes whose SHA-256 is `hash`.
+SLOT_PREIMAGE = 0x2
+# The slot is the `bytes_length` bytes from `bytes_at` on, at most 520.
+SLOT_EXACT = 0x3
+
 # A funding output: both keys, `key` and `other`, in whichever order.
 FORM_FUNDING = 0x1
 # A to_local output: `key` revokes, or `other` after `delay_blocks`.
@@ -59,12 +66,30 @@ UNDECIDED = 0x203
 TOO_MANY_PATHS = 0x204
 # A path needs more than 1,000 stack elements.
 TOO_TALL = 0x205
+# The script has no path of this index.
+NO_SUCH_PATH = 0x301
+# The number of slots is not that of the path.
+WRONG_ARITY = 0x302
+# The slots do not show a fact of the path.
+UNMET = 0x303
+# The path asks for one fact with both polarities.
+CONTRADICTION = 0x304
+# The program is not that of the script.
+WRONG_PROGRAM = 0x305
+# The fixed transaction of a claim does not fit. No claim of these calls has one.
+WRONG_SHELL = 0x306
 # There is no form of this kind.
 NO_SUCH_FORM = 0x401
-# Bytes that the form uses do not have the form of a key.
+# Bytes that are to be a key do not have the form of one.
 NOT_A_KEY = 0x402
 # The expiry is 500,000,000 or more, which is a time and not a height.
 NOT_A_HEIGHT = 0x403
+# A row refers to bytes or to rows that are not there.
+OUT_OF_RANGE = 0x701
+# There is no slot of this kind.
+NO_SUCH_SLOT = 0x702
+# The bytes of a slot are more than 520.
+ITEM_TOO_LONG = 0x703
 
 # What declarations mean together: it is raised whenever one changes its meaning.
 ABI = 0x1
@@ -81,10 +106,57 @@ NAMES = {
     UNDECIDED: "Undecided",
     TOO_MANY_PATHS: "TooManyPaths",
     TOO_TALL: "TooTall",
+    NO_SUCH_PATH: "NoSuchPath",
+    WRONG_ARITY: "WrongArity",
+    UNMET: "Unmet",
+    CONTRADICTION: "Contradiction",
+    WRONG_PROGRAM: "WrongProgram",
+    WRONG_SHELL: "WrongShell",
     NO_SUCH_FORM: "NoSuchForm",
     NOT_A_KEY: "NotAKey",
     NOT_A_HEIGHT: "NotAHeight",
+    OUT_OF_RANGE: "OutOfRange",
+    NO_SUCH_SLOT: "NoSuchSlot",
+    ITEM_TOO_LONG: "ItemTooLong",
 }
+
+
+class SlotRow(Structure):
+    """How a claim fills a slot of its path. A field that the kind does not name is not read."""
+
+    _fields_ = [
+        ("kind", c_uint32),
+        ("key", c_uint8 * 33),
+        ("hash", c_uint8 * 32),
+        ("bytes_at", c_size_t),
+        ("bytes_length", c_size_t),
+    ]
+
+
+class ClaimRow(Structure):
+    """A claim on an output, by one path of its script. Its slots are the rows from `first_slot` on, `slots` of them, the top of the stack first."""
+
+    _fields_ = [
+        ("txid", c_uint8 * 32),
+        ("index", c_uint32),
+        ("value", c_uint64),
+        ("script_at", c_size_t),
+        ("script_length", c_size_t),
+        ("program_at", c_size_t),
+        ("program_length", c_size_t),
+        ("path", c_size_t),
+        ("first_slot", c_size_t),
+        ("slots", c_size_t),
+    ]
+
+
+class Due(Structure):
+    """When an accepted claim is due: what the transaction that spends its output has to have."""
+
+    _fields_ = [
+        ("height", c_uint64),
+        ("sequence", c_uint32),
+    ]
 
 
 class Form(Structure):
@@ -144,6 +216,9 @@ class Answer(Structure):
 
 
 LAYOUTS = {
+    SlotRow: (88, [0, 4, 37, 72, 80]),
+    ClaimRow: (104, [0, 32, 40, 48, 56, 64, 72, 80, 88, 96]),
+    Due: (16, [0, 8]),
     Form: (144, [0, 4, 8, 10, 43, 76, 109]),
     PathRow: (56, [0, 8, 16, 24, 32, 40, 48, 52, 53]),
     FactRow: (48, [0, 4, 5, 8, 16, 24, 32, 40]),
@@ -163,6 +238,8 @@ def declare(library):
     library.enforce_script_program.restype = None
     library.enforce_form_script.argtypes = [POINTER(Form), POINTER(c_uint8), c_size_t, POINTER(Answer)]
     library.enforce_form_script.restype = c_uint32
+    library.enforce_claim.argtypes = [POINTER(ClaimRow), POINTER(SlotRow), c_size_t, POINTER(c_uint8), c_size_t, POINTER(Due), POINTER(Answer)]
+    library.enforce_claim.restype = c_uint32
     for struct, (size, offsets) in LAYOUTS.items():
         if sizeof(struct) != size or [getattr(struct, field[0]).offset for field in struct._fields_] != offsets:
             raise ImportError(f"the layout of {struct.__name__} is not the library's")

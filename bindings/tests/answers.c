@@ -4,8 +4,11 @@
      text HEX                                            that text, as the library has it
      program HEX                                         the program of a script
      form KIND KEY OTHER LOCAL PAYMENT_HASH EXPIRY DELAY the script of a form
+     claim CLAIM                                         when a claim is due
 
-   answers             the answers. Each call is made again with buffers of just their lengths, and with each of them one shorter
+   A CLAIM is SCRIPT/PROGRAM/TXID/INDEX/VALUE/PATH/SLOT,.. and a slot is s=KEY, p=HASH or e=ITEM. What is empty is a hyphen.
+
+   answers             the answers. Each call is made again with buffers of just their lengths, and with each of them one shorter; each claim also with rows that name what is not there
    answers --threads   the answers, made by four threads at once as well, which must be the same
    answers --refuse    the answers, after each allocation of each call was refused once (with refusing.c)
 
@@ -18,6 +21,7 @@
 #include <string.h>
 
 enum { PATHS = 64, FACTS = 4096, BYTES = 65536, THREADS = 4, FILL = 0x5a };
+enum { CLAIMS = 8, SLOTS = 64 };
 
 #ifdef REFUSING
 extern _Thread_local long refused_number, asked;
@@ -30,7 +34,9 @@ typedef struct {
     enforce_path_row paths[PATHS];
     enforce_fact_row facts[FACTS];
     uint8_t bytes[BYTES];
+    enforce_due due;
     enforce_answer answer;
+    size_t rows; /* of facts */
     uint32_t status;
 } state;
 
@@ -144,31 +150,48 @@ static void put_path(text *to, const state *s, size_t k) {
     for (size_t i = 0; i < row->facts;) i += put_fact(to, s, s->facts + row->first_fact + i, row->facts - i);
 }
 
-/* A call with so much room, and what it leaves. */
+/* A call with what it is given. */
 typedef struct {
     const char *name;
-    uint8_t script[12000];
+    uint8_t bytes[BYTES];
     size_t length;
     enforce_form form;
+    enforce_claim_row claims[CLAIMS];
+    enforce_slot_row slots[SLOTS];
+    size_t claims_length, slots_length;
 } request;
 
-static void call(const request *r, state *s, size_t paths, size_t facts, size_t bytes) {
+static bool is_named(const request *r, const char *name) { return !strcmp(r->name, name); }
+
+/* Makes a call with so much room: paths, rows of facts, bytes. */
+static void call(const request *r, state *s, size_t paths, size_t rows, size_t bytes) {
     memset(s, FILL, sizeof *s);
     for (size_t i = 0; i < PATHS; i++) s->paths[i].has_lock = s->paths[i].has_age = false;
     for (size_t i = 0; i < FACTS; i++) s->facts[i].holds = s->facts[i].key_is_slot = false;
+    s->rows = 0;
     asked = 0;
-    if (!strcmp(r->name, "list"))
-        s->status = enforce_script_list(r->script, r->length, s->paths, paths, s->facts, facts, s->bytes, bytes, &s->answer);
-    else if (!strcmp(r->name, "text"))
-        s->status = enforce_script_text(r->script, r->length, s->bytes, bytes, &s->answer);
-    else
+    if (is_named(r, "claim")) {
+        s->status = enforce_claim(r->claims, r->slots, r->slots_length, r->bytes, r->length, &s->due, &s->answer);
+    } else if (is_named(r, "list")) {
+        s->status = enforce_script_list(r->bytes, r->length, s->paths, paths, s->facts, rows, s->bytes, bytes, &s->answer);
+        s->rows = s->answer.facts;
+    } else if (is_named(r, "text")) {
+        s->status = enforce_script_text(r->bytes, r->length, s->bytes, bytes, &s->answer);
+    } else {
         s->status = enforce_form_script(&r->form, s->bytes, bytes, &s->answer);
+    }
+}
+
+static bool is_filled(const void *start, size_t length) {
+    const uint8_t *bytes = start;
+    for (size_t i = 0; i < length; i++)
+        if (bytes[i] != FILL) return false;
+    return true;
 }
 
 /* Nothing but the status and the answer was written. */
 static bool is_left(const state *s) {
-    for (size_t i = 0; i < BYTES; i++)
-        if (s->bytes[i] != FILL) return false;
+    if (!is_filled(s->bytes, sizeof s->bytes) || !is_filled(&s->due, sizeof s->due)) return false;
     for (size_t i = 0; i < PATHS; i++)
         if (s->paths[i].arity != s->paths[PATHS - 1].arity || (uint8_t)s->paths[i].arity != FILL || s->paths[i].has_lock) return false;
     for (size_t i = 0; i < FACTS; i++)
@@ -192,26 +215,68 @@ static bool are_same(const state *a, const state *b) {
         if (!is_same_path(&a->paths[i], &b->paths[i])) return false;
     for (size_t i = 0; i < FACTS; i++)
         if (!is_same_fact(&a->facts[i], &b->facts[i])) return false;
-    return !memcmp(a->bytes, b->bytes, BYTES);
+    return a->due.height == b->due.height && a->due.sequence == b->due.sequence && !memcmp(a->bytes, b->bytes, BYTES);
 }
 
 /* Makes the call once more with one buffer shorter by one, or with just enough room. */
-static void call_short(work *w, const request *r, const state *s, state *other, size_t paths, size_t facts, size_t bytes) {
-    bool fits = paths >= s->answer.paths && facts >= s->answer.facts && bytes >= s->answer.bytes;
-    call(r, other, paths, facts, bytes);
-    bool same = other->answer.paths == s->answer.paths && other->answer.facts == s->answer.facts && other->answer.bytes == s->answer.bytes;
+static void call_short(work *w, const request *r, const state *s, state *other, size_t paths, size_t rows, size_t bytes) {
+    bool fits = paths >= s->answer.paths && rows >= s->rows && bytes >= s->answer.bytes;
+    call(r, other, paths, rows, bytes);
+    bool same = other->answer.paths == s->answer.paths && other->rows == s->rows && other->answer.bytes == s->answer.bytes;
     if (!same || other->status != (fits ? ENFORCE_DONE : ENFORCE_TOO_SMALL) || (!fits && !is_left(other))) w->wrong++;
     if (fits && !are_same(other, s)) w->wrong++;
     w->short_calls++;
 }
 
 static void call_again(work *w, const request *r, const state *s, state *other) {
-    size_t paths = s->answer.paths, facts = s->answer.facts, bytes = s->answer.bytes;
+    size_t paths = s->answer.paths, rows = s->rows, bytes = s->answer.bytes;
     if (s->status != ENFORCE_DONE) return;
-    call_short(w, r, s, other, paths, facts, bytes);
-    if (paths) call_short(w, r, s, other, paths - 1, facts, bytes);
-    if (facts) call_short(w, r, s, other, paths, facts - 1, bytes);
-    if (bytes) call_short(w, r, s, other, paths, facts, bytes - 1);
+    call_short(w, r, s, other, paths, rows, bytes);
+    if (paths) call_short(w, r, s, other, paths - 1, rows, bytes);
+    if (rows) call_short(w, r, s, other, paths, rows - 1, bytes);
+    if (bytes) call_short(w, r, s, other, paths, rows, bytes - 1);
+}
+
+/* The call with a changed row is refused so, and writes nothing but its answer. */
+static void call_changed(work *w, const request *changed, state *other, uint32_t status) {
+    call(changed, other, PATHS, FACTS, BYTES);
+    if (other->status != status || !is_left(other) || other->rows || other->answer.bytes || other->answer.number) w->wrong++;
+    w->short_calls++;
+}
+
+/* A number by which a range of so many from an index is not there, among so many. */
+static void put_out(work *w, const request *r, request *changed, state *other, size_t *field, size_t least) {
+    const size_t beyond[] = {least, least + 1, SIZE_MAX - 1, SIZE_MAX};
+    for (size_t i = 0; i < sizeof beyond / sizeof *beyond; i++) {
+        *field = beyond[i];
+        call_changed(w, changed, other, ENFORCE_OUT_OF_RANGE);
+    }
+    *changed = *r;
+}
+
+/* Claims whose rows name what is not there. */
+static void change_rows(work *w, const request *r, state *other) {
+    request *changed = malloc(sizeof *changed);
+    if (!changed) fail("no memory");
+    *changed = *r;
+    enforce_claim_row *c = changed->claims;
+    put_out(w, r, changed, other, &c->script_at, r->length - c->script_length + 1);
+    put_out(w, r, changed, other, &c->script_length, r->length - c->script_at + 1);
+    put_out(w, r, changed, other, &c->program_at, r->length - c->program_length + 1);
+    put_out(w, r, changed, other, &c->program_length, r->length - c->program_at + 1);
+    put_out(w, r, changed, other, &c->first_slot, r->slots_length - c->slots + 1);
+    put_out(w, r, changed, other, &c->slots, r->slots_length - c->first_slot + 1);
+    for (size_t i = 0; i < c->slots; i++) {
+        enforce_slot_row *slot = &changed->slots[c->first_slot + i];
+        if (slot->kind == ENFORCE_SLOT_EXACT) {
+            put_out(w, r, changed, other, &slot->bytes_at, r->length - slot->bytes_length + 1);
+            put_out(w, r, changed, other, &slot->bytes_length, r->length - slot->bytes_at + 1);
+        }
+        slot->kind = 0, call_changed(w, changed, other, ENFORCE_NO_SUCH_SLOT);
+        slot->kind = 4, call_changed(w, changed, other, ENFORCE_NO_SUCH_SLOT);
+        *changed = *r;
+    }
+    free(changed);
 }
 
 /* Refuses each allocation in turn: the call says so, and writes nothing else. */
@@ -219,10 +284,56 @@ static void refuse_each(work *w, const request *r, state *other) {
     for (refused_number = 1;; refused_number++) {
         call(r, other, PATHS, FACTS, BYTES);
         if (asked < refused_number) break;
-        if (other->status != ENFORCE_NO_MEMORY || !is_left(other) || other->answer.paths || other->answer.facts || other->answer.bytes || other->answer.number) w->wrong++;
+        if (other->status != ENFORCE_NO_MEMORY || !is_left(other) || other->answer.paths || other->rows || other->answer.bytes || other->answer.number) w->wrong++;
         w->refused++;
     }
     refused_number = 0;
+}
+
+/* The next part of a text up to a separator, which is passed; none at its end. */
+static char *part(char **rest, const char *separator) { return strtok_r(NULL, separator, rest); }
+
+static char *first_part(char *whole, const char *separator, char **rest) { return strtok_r(whole, separator, rest); }
+
+static char *word(char **rest, const char *separator) {
+    char *found = part(rest, separator);
+    if (!found) fail("a word is missing");
+    return found;
+}
+
+/* Adds bytes to those that rows refer to; where they begin. */
+static size_t put_bytes(request *r, const char *digits, size_t *length) {
+    size_t at = r->length;
+    *length = read_hex(digits, r->bytes + at, BYTES - at);
+    r->length += *length;
+    return at;
+}
+
+static void read_slot(request *r, const char *text) {
+    enforce_slot_row *slot = &r->slots[r->slots_length++];
+    if (r->slots_length > SLOTS) fail("too many slots");
+    switch (text[0]) {
+    case 's': slot->kind = ENFORCE_SLOT_SIGNATURE, read_hex(text + 2, slot->key, 33); break;
+    case 'p': slot->kind = ENFORCE_SLOT_PREIMAGE, read_hex(text + 2, slot->hash, 32); break;
+    default: slot->kind = ENFORCE_SLOT_EXACT, slot->bytes_at = put_bytes(r, text + 2, &slot->bytes_length);
+    }
+}
+
+static void read_claim(request *r, char *text) {
+    char *rest, *slots;
+    enforce_claim_row *c = &r->claims[r->claims_length++];
+    if (r->claims_length > CLAIMS) fail("too many claims");
+    c->script_at = put_bytes(r, first_part(text, "/", &rest), &c->script_length);
+    c->program_at = put_bytes(r, word(&rest, "/"), &c->program_length);
+    read_hex(word(&rest, "/"), c->txid, 32);
+    c->index = (uint32_t)strtoul(word(&rest, "/"), NULL, 10);
+    c->value = strtoull(word(&rest, "/"), NULL, 10);
+    c->path = strtoull(word(&rest, "/"), NULL, 10);
+    c->first_slot = r->slots_length;
+    slots = word(&rest, "/");
+    if (!strcmp(slots, "-")) return;
+    for (char *it = first_part(slots, ",", &rest); it; it = part(&rest, ",")) read_slot(r, it);
+    c->slots = r->slots_length - c->first_slot;
 }
 
 static void read_form(request *r, char **rest) {
@@ -238,9 +349,9 @@ static void read_form(request *r, char **rest) {
 
 static void tell(work *w, const request *r, state *s, state *other) {
     text *to = &w->told;
-    if (!strcmp(r->name, "program")) {
+    if (is_named(r, "program")) {
         uint8_t program[34];
-        enforce_script_program(r->script, r->length, &program);
+        enforce_script_program(r->bytes, r->length, &program);
         put_hex(to, program, sizeof program), put(to, "\n");
         return;
     }
@@ -248,34 +359,46 @@ static void tell(work *w, const request *r, state *s, state *other) {
     call(r, s, PATHS, FACTS, BYTES);
     if (s->status != ENFORCE_DONE) {
         put_status(to, s);
-    } else if (!strcmp(r->name, "list")) {
+    } else if (is_named(r, "claim")) {
+        put(to, "due %llu %u\n", (unsigned long long)s->due.height, s->due.sequence);
+    } else if (is_named(r, "list")) {
         put(to, "paths %zu\n", s->answer.paths);
         for (size_t k = 0; k < s->answer.paths; k++) put_path(to, s, k);
-    } else if (!strcmp(r->name, "text")) {
+    } else if (is_named(r, "text")) {
         put_text(to, s->bytes, s->answer.bytes);
     } else {
         put_hex(to, s->bytes, s->answer.bytes), put(to, "\n");
     }
-    if (!w->refuses) call_again(w, r, s, other);
+    if (w->refuses) return;
+    call_again(w, r, s, other);
+    if (is_named(r, "claim") && s->status == ENFORCE_DONE) change_rows(w, r, other);
+}
+
+static void read_request(request *r, char *line) {
+    char *rest;
+    *r = (request){.name = strtok_r(line, " ", &rest)};
+    if (is_named(r, "form")) {
+        read_form(r, &rest);
+    } else if (is_named(r, "claim")) {
+        read_claim(r, word(&rest, " "));
+    } else {
+        r->length = read_hex(word(&rest, " "), r->bytes, sizeof r->bytes);
+    }
 }
 
 static void *answer_all(void *given) {
     work *w = given;
     state *s = malloc(sizeof *s), *other = malloc(sizeof *other);
-    if (!s || !other) fail("no memory");
+    request *r = malloc(sizeof *r);
+    if (!s || !other || !r) fail("no memory");
     for (size_t i = 0; i < w->count; i++) {
-        request r = {0};
-        char *rest, *line = strdup(w->lines[i]);
-        r.name = strtok_r(line, " ", &rest);
-        if (!strcmp(r.name, "form"))
-            read_form(&r, &rest);
-        else
-            r.length = read_hex(strtok_r(NULL, " ", &rest), r.script, sizeof r.script);
-        tell(w, &r, s, other);
+        char *line = strdup(w->lines[i]);
+        read_request(r, line);
+        tell(w, r, s, other);
         put(&w->told, ".\n");
         free(line);
     }
-    free(s), free(other);
+    free(s), free(other), free(r);
     return NULL;
 }
 

@@ -37,11 +37,36 @@ def listing(script):
     return "\n".join(lines)
 
 
+def data(text):
+    return bytes.fromhex("" if text == "-" else text)
+
+
+def slot(text):
+    kind, value = text.split("=")
+    return {"s": enforce.Signature, "p": enforce.Preimage, "e": enforce.Exact}[kind](data(value))
+
+
+def parts(text, separator):
+    return [] if text == "-" else text.split(separator)
+
+
+def claim(text):
+    script, program, txid, index, value, path, slots = text.split("/")
+    return enforce.Claim(data(txid), int(index), int(value), data(script), data(program), int(path), tuple(map(slot, parts(slots, ","))))
+
+
+def due(text):
+    found = enforce.accept(claim(text))
+    return f"due {found.height} {found.sequence}"
+
+
 def answer(name, *words):
+    if name == "claim":
+        return due(*words)
     if name == "form":
-        keys = [bytes.fromhex("" if it == "-" else it) for it in words[1:5]]
+        keys = list(map(data, words[1:5]))
         return enforce.form_script(int(words[0]), *keys, int(words[5]), int(words[6])).hex()
-    script = bytes.fromhex("" if words[0] == "-" else words[0])
+    script = data(words[0])
     if name == "text":
         return enforce.text(script).removesuffix("\n")
     return listing(script) if name == "list" else enforce.program(script).hex()

@@ -1,5 +1,5 @@
 //! Makes the calls that standard input names, a line each, and prints what each answers, as `bindings/tests/answers.c` does.
-use enforce::{Fact, Form, KeySource, Path, Refused, Stated};
+use enforce::{Claim, Fact, Form, KeySource, Path, Refused, Slot, Stated};
 use std::io::{self, BufRead};
 
 fn hex(bytes: &[u8]) -> String {
@@ -69,6 +69,32 @@ fn form(words: &[&str]) -> Option<Form> {
     })
 }
 
+fn slot(text: &str) -> Slot {
+    match text.split_at(2) {
+        ("s=", key) => Slot::Signature(array(key)),
+        ("p=", hash) => Slot::Preimage(array(hash)),
+        (_, item) => Slot::Exact(bytes(item)),
+    }
+}
+
+/// What a list has, each part read so.
+fn each<T>(list: &str, separator: char, read: fn(&str) -> T) -> Vec<T> {
+    if list == "-" { Vec::new() } else { list.split(separator).map(read).collect() }
+}
+
+fn claim(text: &str) -> Claim {
+    let parts: Vec<&str> = text.split('/').collect();
+    Claim {
+        script: bytes(parts[0]),
+        program: bytes(parts[1]),
+        txid: array(parts[2]),
+        index: parts[3].parse().expect("an index"),
+        value: parts[4].parse().expect("a value"),
+        path: parts[5].parse().expect("a path"),
+        slots: each(parts[6], ',', slot),
+    }
+}
+
 fn answer(line: &str) -> Result<String, Refused> {
     let words: Vec<&str> = line.split(' ').collect();
     match words[0] {
@@ -78,6 +104,7 @@ fn answer(line: &str) -> Result<String, Refused> {
         }
         "text" => enforce::text(&bytes(words[1])),
         "program" => Ok(hex(&enforce::program(&bytes(words[1]))) + "\n"),
+        "claim" => claim(words[1]).accept().map(|due| format!("due {} {}\n", due.height, due.sequence)),
         _ => match form(&words[1..]) {
             Some(form) => Ok(hex(&form.script()?) + "\n"),
             // no value of `Form` has another kind

@@ -1,4 +1,4 @@
-//! The ways through a version 0 witness script (BIP 141), and the scripts of BOLT 3, by a library that is proved.
+//! The ways through a version 0 witness script (BIP 141), the scripts of BOLT 3, and claims, by a library that is proved.
 //!
 //! Nothing here signs, and nothing checks a signature. The keys are the caller's, and none is derived.
 //!
@@ -30,8 +30,20 @@ pub enum Refused {
     Undecided(usize),
     TooManyPaths,
     TooTall,
+    /// The script has no path of this index.
+    NoSuchPath,
+    /// The number of slots is not that of the path.
+    WrongArity,
+    /// The slots do not show a fact of the path.
+    Unmet,
+    /// The path asks for one fact with both polarities.
+    Contradiction,
+    /// The program is not that of the script.
+    WrongProgram,
     NotAKey,
     NotAHeight,
+    /// The bytes of a slot are more than 520.
+    ItemTooLong,
     /// A status that these declarations do not have.
     Unknown(u32),
 }
@@ -50,19 +62,25 @@ impl fmt::Display for Refused {
 
 impl std::error::Error for Refused {}
 
-fn refused(status: u32, answer: &raw::Answer) -> Refused {
+fn refused(status: u32, number: usize) -> Refused {
     match status {
         raw::NO_MEMORY => Refused::NoMemory,
-        raw::BAD_OPCODE => Refused::BadOpcode(answer.number),
-        raw::TRUNCATED => Refused::Truncated(answer.number),
+        raw::BAD_OPCODE => Refused::BadOpcode(number),
+        raw::TRUNCATED => Refused::Truncated(number),
         raw::TOO_LONG => Refused::TooLong,
         raw::OPEN_BRANCH => Refused::OpenBranch,
         raw::TOO_MANY_OPS => Refused::TooManyOps,
-        raw::UNDECIDED => Refused::Undecided(answer.number),
+        raw::UNDECIDED => Refused::Undecided(number),
         raw::TOO_MANY_PATHS => Refused::TooManyPaths,
         raw::TOO_TALL => Refused::TooTall,
+        raw::NO_SUCH_PATH => Refused::NoSuchPath,
+        raw::WRONG_ARITY => Refused::WrongArity,
+        raw::UNMET => Refused::Unmet,
+        raw::CONTRADICTION => Refused::Contradiction,
+        raw::WRONG_PROGRAM => Refused::WrongProgram,
         raw::NOT_A_KEY => Refused::NotAKey,
         raw::NOT_A_HEIGHT => Refused::NotAHeight,
+        raw::ITEM_TOO_LONG => Refused::ItemTooLong,
         other => Refused::Unknown(other),
     }
 }
@@ -203,7 +221,7 @@ pub fn paths(script: &[u8]) -> Result<Vec<Path>, Refused> {
                 rows.facts.resize(answer.facts, FACT);
                 rows.bytes.resize(answer.bytes, 0);
             }
-            other => return Err(refused(other, &answer)),
+            other => return Err(refused(other, answer.number)),
         }
     }
 }
@@ -223,7 +241,7 @@ pub fn text(script: &[u8]) -> Result<String, Refused> {
                 return Ok(String::from_utf8_lossy(&text).into_owned());
             }
             raw::TOO_SMALL => text.resize(answer.bytes, 0),
-            other => return Err(refused(other, &answer)),
+            other => return Err(refused(other, answer.number)),
         }
     }
 }
@@ -285,8 +303,103 @@ impl Form {
                     return Ok(script);
                 }
                 raw::TOO_SMALL => script.resize(answer.bytes, 0),
-                other => return Err(refused(other, &answer)),
+                other => return Err(refused(other, answer.number)),
             }
+        }
+    }
+}
+
+/// How a claim fills a slot of its path.
+#[derive(Clone, Debug, PartialEq, Eq)]
+pub enum Slot {
+    /// The signature of this key over the spend.
+    Signature([u8; 33]),
+    /// 32 bytes with this SHA-256, in the hash's own byte order.
+    Preimage([u8; 32]),
+    /// These bytes, at most 520.
+    Exact(Vec<u8>),
+}
+
+/// A claim on an output, by one path of its script.
+#[derive(Clone, Debug, PartialEq, Eq)]
+pub struct Claim {
+    /// The id of the transaction that has the output, in the hash's own byte order.
+    pub txid: [u8; 32],
+    /// Which of that transaction's outputs it is, from 0.
+    pub index: u32,
+    /// In satoshis.
+    pub value: u64,
+    pub script: Vec<u8>,
+    /// The output's program (scriptPubKey): P2WSH of the script, or P2WPKH where it is the script that this stands for.
+    pub program: Vec<u8>,
+    /// The index of the path, as [`paths`] has it.
+    pub path: usize,
+    /// How the slots are filled, the top of the stack first.
+    pub slots: Vec<Slot>,
+}
+
+/// What the transaction that spends a claim has to have.
+#[derive(Clone, Copy, Debug, PartialEq, Eq)]
+pub struct Due {
+    /// The least lock time, as a height (BIP 65); 0 if the path checks none.
+    pub height: u64,
+    /// The sequence of the claim's input, an age in blocks (BIP 68); 0 if the path checks none.
+    pub sequence: u32,
+}
+
+/// Rows of slots, and the bytes that rows refer to.
+#[derive(Default)]
+struct Given {
+    slots: Vec<raw::SlotRow>,
+    bytes: Vec<u8>,
+}
+
+impl Given {
+    /// Where the bytes begin, and how many there are.
+    fn put(&mut self, bytes: &[u8]) -> (usize, usize) {
+        let at = self.bytes.len();
+        self.bytes.extend_from_slice(bytes);
+        (at, bytes.len())
+    }
+
+    fn slot(&mut self, slot: &Slot) {
+        let blank = raw::SlotRow { kind: 0, key: [0; 33], hash: [0; 32], bytes_at: 0, bytes_length: 0 };
+        let row = match slot {
+            Slot::Signature(key) => raw::SlotRow { kind: raw::SLOT_SIGNATURE, key: *key, ..blank },
+            Slot::Preimage(hash) => raw::SlotRow { kind: raw::SLOT_PREIMAGE, hash: *hash, ..blank },
+            Slot::Exact(item) => {
+                let (bytes_at, bytes_length) = self.put(item);
+                raw::SlotRow { kind: raw::SLOT_EXACT, bytes_at, bytes_length, ..blank }
+            }
+        };
+        self.slots.push(row);
+    }
+
+    fn claim(&mut self, claim: &Claim) -> raw::ClaimRow {
+        let (script_at, script_length) = self.put(&claim.script);
+        let (program_at, program_length) = self.put(&claim.program);
+        let first_slot = self.slots.len();
+        claim.slots.iter().for_each(|it| self.slot(it));
+        let Claim { txid, index, value, path, .. } = *claim;
+        raw::ClaimRow { txid, index, value, script_at, script_length, program_at, program_length, path, first_slot, slots: claim.slots.len() }
+    }
+}
+
+impl Claim {
+    /// Accepts the claim, and says when it is due.
+    ///
+    /// Proved (`enforce_claim`): whatever fills the slots as they say spends the output, in a transaction of version 2 with this sequence, whose lock time is a height (below 500,000,000) and
+    /// not below this one. Signatures are tokens there; a path that measures none of them takes a valid signature as well. A refusal is the first that
+    /// holds: of a slot, of the script's bytes, of its listing, of the claim.
+    pub fn accept(&self) -> Result<Due, Refused> {
+        let (mut given, mut due, mut answer) = (Given::default(), raw::Due { height: 0, sequence: 0 }, ANSWER);
+        let row = given.claim(self);
+        // SAFETY: each pointer is of a value or of a slice that lives over the call, with the slice's length.
+        let status =
+            unsafe { raw::enforce_claim(&row, given.slots.as_ptr(), given.slots.len(), given.bytes.as_ptr(), given.bytes.len(), &mut due, &mut answer) };
+        match status {
+            raw::DONE => Ok(Due { height: due.height, sequence: due.sequence }),
+            other => Err(refused(other, answer.number)),
         }
     }
 }

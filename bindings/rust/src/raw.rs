@@ -1,6 +1,13 @@
 //! Drawn from crates/enforce_c/src by `.ci/library --write`: do not edit.
 //! The exports of the library, its structs and its numbers.
 
+/// The slot is the signature of `key` over the spend.
+pub const SLOT_SIGNATURE: u32 = 0x1;
+/// The slot is 32 bytes whose SHA-256 is `hash`.
+pub const SLOT_PREIMAGE: u32 = 0x2;
+/// The slot is the `bytes_length` bytes from `bytes_at` on, at most 520.
+pub const SLOT_EXACT: u32 = 0x3;
+
 /// A funding output: both keys, `key` and `other`, in whichever order.
 pub const FORM_FUNDING: u32 = 0x1;
 /// A to_local output: `key` revokes, or `other` after `delay_blocks`.
@@ -59,15 +66,114 @@ pub const UNDECIDED: u32 = 0x203;
 pub const TOO_MANY_PATHS: u32 = 0x204;
 /// A path needs more than 1,000 stack elements.
 pub const TOO_TALL: u32 = 0x205;
+/// The script has no path of this index.
+pub const NO_SUCH_PATH: u32 = 0x301;
+/// The number of slots is not that of the path.
+pub const WRONG_ARITY: u32 = 0x302;
+/// The slots do not show a fact of the path.
+pub const UNMET: u32 = 0x303;
+/// The path asks for one fact with both polarities.
+pub const CONTRADICTION: u32 = 0x304;
+/// The program is not that of the script.
+pub const WRONG_PROGRAM: u32 = 0x305;
+/// The fixed transaction of a claim does not fit. No claim of these calls has one.
+pub const WRONG_SHELL: u32 = 0x306;
 /// There is no form of this kind.
 pub const NO_SUCH_FORM: u32 = 0x401;
-/// Bytes that the form uses do not have the form of a key.
+/// Bytes that are to be a key do not have the form of one.
 pub const NOT_A_KEY: u32 = 0x402;
 /// The expiry is 500,000,000 or more, which is a time and not a height.
 pub const NOT_A_HEIGHT: u32 = 0x403;
+/// A row refers to bytes or to rows that are not there.
+pub const OUT_OF_RANGE: u32 = 0x701;
+/// There is no slot of this kind.
+pub const NO_SUCH_SLOT: u32 = 0x702;
+/// The bytes of a slot are more than 520.
+pub const ITEM_TOO_LONG: u32 = 0x703;
 
 /// What declarations mean together: it is raised whenever one changes its meaning.
 pub const ABI: u32 = 0x1;
+
+/// How a claim fills a slot of its path. A field that the kind does not name is not read.
+#[repr(C)]
+#[derive(Clone, Copy, Debug, PartialEq, Eq)]
+pub struct SlotRow {
+    /// One of the kinds of slots.
+    pub kind: u32,
+    /// A compressed public key.
+    pub key: [u8; 33],
+    /// The SHA-256 of a preimage, in the hash's own byte order.
+    pub hash: [u8; 32],
+    /// Where the bytes begin among those that the call is given.
+    pub bytes_at: usize,
+    /// How many there are.
+    pub bytes_length: usize,
+}
+
+const _: () = {
+    assert!(size_of::<SlotRow>() == 88);
+    assert!(core::mem::offset_of!(SlotRow, kind) == 0);
+    assert!(core::mem::offset_of!(SlotRow, key) == 4);
+    assert!(core::mem::offset_of!(SlotRow, hash) == 37);
+    assert!(core::mem::offset_of!(SlotRow, bytes_at) == 72);
+    assert!(core::mem::offset_of!(SlotRow, bytes_length) == 80);
+};
+
+/// A claim on an output, by one path of its script. Its slots are the rows from `first_slot` on, `slots` of them, the top of the stack first.
+#[repr(C)]
+#[derive(Clone, Copy, Debug, PartialEq, Eq)]
+pub struct ClaimRow {
+    /// The id of the transaction that has the output, in the hash's own byte order.
+    pub txid: [u8; 32],
+    /// Which of that transaction's outputs it is, from 0.
+    pub index: u32,
+    /// What the output is worth, in satoshis.
+    pub value: u64,
+    /// Where its script begins among the bytes that the call is given.
+    pub script_at: usize,
+    /// How many bytes the script has.
+    pub script_length: usize,
+    /// Where its program begins among those bytes.
+    pub program_at: usize,
+    /// How many bytes the program has.
+    pub program_length: usize,
+    /// The index of the path, as the script's listing has it.
+    pub path: usize,
+    /// The index of the row of its first slot.
+    pub first_slot: usize,
+    /// How many rows its slots have.
+    pub slots: usize,
+}
+
+const _: () = {
+    assert!(size_of::<ClaimRow>() == 104);
+    assert!(core::mem::offset_of!(ClaimRow, txid) == 0);
+    assert!(core::mem::offset_of!(ClaimRow, index) == 32);
+    assert!(core::mem::offset_of!(ClaimRow, value) == 40);
+    assert!(core::mem::offset_of!(ClaimRow, script_at) == 48);
+    assert!(core::mem::offset_of!(ClaimRow, script_length) == 56);
+    assert!(core::mem::offset_of!(ClaimRow, program_at) == 64);
+    assert!(core::mem::offset_of!(ClaimRow, program_length) == 72);
+    assert!(core::mem::offset_of!(ClaimRow, path) == 80);
+    assert!(core::mem::offset_of!(ClaimRow, first_slot) == 88);
+    assert!(core::mem::offset_of!(ClaimRow, slots) == 96);
+};
+
+/// When an accepted claim is due: what the transaction that spends its output has to have.
+#[repr(C)]
+#[derive(Clone, Copy, Debug, PartialEq, Eq)]
+pub struct Due {
+    /// The least lock time, as a height below 500,000,000 (BIP 65); 0 if the path checks none.
+    pub height: u64,
+    /// The sequence of the claim's input, which is an age in blocks (BIP 68); 0 if the path checks none.
+    pub sequence: u32,
+}
+
+const _: () = {
+    assert!(size_of::<Due>() == 16);
+    assert!(core::mem::offset_of!(Due, height) == 0);
+    assert!(core::mem::offset_of!(Due, sequence) == 8);
+};
 
 /// A form of BOLT 3 with what its script has. A field that the kind does not name is not read.
 #[repr(C)]
@@ -194,6 +300,8 @@ unsafe extern "C" {
     pub fn enforce_script_program(script: *const u8, script_length: usize, program: *mut [u8; 34]);
     /// Writes the script of a form. Its length is the answer's `bytes`. The statuses of refusals are those of family 4, in the order of their numbers, and `TOO_SMALL`.
     pub fn enforce_form_script(form: *const Form, script: *mut u8, script_length: usize, answer: *mut Answer) -> u32;
+    /// Accepts a claim by one path of its script, in an open transaction: any of version 2 whose lock time is a height, below 500,000,000, and not below the one that is written. Writes when the claim is due. Whatever fills the slots as their rows say spends the output. The statuses of refusals are those of families 1, 2, 3 and 7, and `NOT_A_KEY`, in this order: what the rows refer to is there, slot by slot, the script, its listing, the claim.
+    pub fn enforce_claim(claim: *const ClaimRow, slots: *const SlotRow, slots_length: usize, bytes: *const u8, bytes_length: usize, due: *mut Due, answer: *mut Answer) -> u32;
 }
 
 /// The word for a status.
@@ -210,9 +318,18 @@ pub fn name(status: u32) -> &'static str {
         UNDECIDED => "Undecided",
         TOO_MANY_PATHS => "TooManyPaths",
         TOO_TALL => "TooTall",
+        NO_SUCH_PATH => "NoSuchPath",
+        WRONG_ARITY => "WrongArity",
+        UNMET => "Unmet",
+        CONTRADICTION => "Contradiction",
+        WRONG_PROGRAM => "WrongProgram",
+        WRONG_SHELL => "WrongShell",
         NO_SUCH_FORM => "NoSuchForm",
         NOT_A_KEY => "NotAKey",
         NOT_A_HEIGHT => "NotAHeight",
+        OUT_OF_RANGE => "OutOfRange",
+        NO_SUCH_SLOT => "NoSuchSlot",
+        ITEM_TOO_LONG => "ItemTooLong",
         _ => "Unknown",
     }
 }

@@ -1,5 +1,5 @@
 -- What a call answers, from what becomes of the bytes or of the form.
-use Rattle.std.proofs.Common.{◌≡◌, ℕ, List, Result, Ok, Err, All, sym, subst, refl}
+use Rattle.std.proofs.Common.{◌≡◌, ℕ, List, [], Result, Ok, Err, All, sym, subst, refl}
 use Rattle.script.specs.declared.opcode.Op.{Op}
 use Rattle.script.specs.Spelling.{Spells}
 use Rattle.paths.specs.declared.errors.CheckError.{CheckError}
@@ -15,8 +15,13 @@ use Rattle.enforce_c.specs.declared.statuses.Refusal.{Refusal}
 use Rattle.enforce_c.specs.declared.statuses.Refusal.TheVariants.{Check}
 use Rattle.enforce_c.specs.Statuses.{status_of}
 use Rattle.enforce_c.specs.Rows.{RowLists, rows_of}
-use Rattle.enforce_c.specs.Answers.{Left, LeftBytes, left_by_rows, left_by_bytes, refused_with}
+use Rattle.enforce_c.specs.Answers.{Left, LeftBytes, left_by_rows, left_by_bytes, bytes_answer, refused_with}
 use Rattle.enforce_c.specs.Listed.{IsListed, IsRefused, IsTold, AnswersListing, IsText, AnswersText}
+use Rattle.claim.specs.Claims.{ClaimParts}
+use Rattle.enforce_c.specs.declared.claim_rows.ClaimRow.{ClaimRow}
+use Rattle.enforce_c.specs.declared.claim_rows.SlotRow.{SlotRow}
+use Rattle.enforce_c.specs.declared.claim_rows.Due.{Due}
+use Rattle.enforce_c.specs.Claimed.{IsClaimed, due_of, AnswersClaim}
 use Rattle.enforce_c.specs.FormScripts.{IsOf, IsSpeltForm, AnswersForm, form_of}
 
 pub is_listed : (bytes : List ℕ) (ops : List Op) (c : CheckedScript) → Spells ops bytes → IsListing ops (Ok c) → All (IsSound c.ops) c.paths → IsExhaustive c.ops c.paths → IsListed bytes c
@@ -50,6 +55,14 @@ spelt_bytes f before bytes after spelt left = (Ok bytes, spelt, left)
 
 pub refused_bytes : (f : Form) (before : List ℕ) (e : Refusal) (s : ℕ) (a : Answer) → IsSpeltForm f (Err e) → s ≡ status_of e → a ≡ refused_with e → AnswersForm f before (record { status = s; answer = a; bytes = before })
 refused_bytes f before e s a refused status answer = (Err e, refused, rw (status, answer) refl)
+
+pub claimed_due : (row : ClaimRow) (rows : List SlotRow) (bytes : List ℕ) (before due : Due) (c : ClaimParts) (s : ℕ) (a : Answer) → IsClaimed row rows bytes (Ok c) → s ≡ 0 → a ≡ bytes_answer [] → due ≡ due_of c
+    → AnswersClaim row rows bytes before (record { status = s; answer = a; due = due })
+claimed_due row rows bytes before due c s a claimed status answer is = (Ok c, claimed, rw (status, answer, is) refl)
+
+pub refused_claim : (row : ClaimRow) (rows : List SlotRow) (bytes : List ℕ) (before : Due) (e : Refusal) (s : ℕ) (a : Answer) → IsClaimed row rows bytes (Err e) → s ≡ status_of e → a ≡ refused_with e
+    → AnswersClaim row rows bytes before (record { status = s; answer = a; due = before })
+refused_claim row rows bytes before e s a refused status answer = (Err e, refused, rw (status, answer) refl)
 
 pub is_text : (bytes : List ℕ) (c : CheckedScript) (paths : List Path) (text : List ℕ) → IsListed bytes c → paths ≡ c.paths → text ≡ listing_text paths → IsText bytes (Ok text)
 is_text bytes c paths text listed same told = (c, listed, rw (sym same) told)

@@ -1,3 +1,5 @@
 pub mod Answering
 mod StatusExamples
 mod RowExamples
+mod RangeExamples
+pub mod Slots

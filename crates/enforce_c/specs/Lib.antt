@@ -3,3 +3,5 @@ pub mod Rows
 pub mod Answers
 pub mod Listed
 pub mod FormScripts
+pub mod Ranges
+pub mod Claimed

@@ -7,7 +7,7 @@ use Rattle.paths.specs.Outcome.{IsRefusal}
 use Rattle.paths.specs.Sound.{IsSound}
 use Rattle.paths.specs.Exhaustive.{IsExhaustive}
 use Rattle.enforce_c.specs.declared.statuses.Refusal.{Refusal}
-use Rattle.enforce_c.specs.declared.statuses.Refusal.TheVariants.{NoMemory, Parse, Check, NoSuchForm, NotAKey, NotAHeight}
+use Rattle.enforce_c.specs.declared.statuses.Refusal.TheVariants.{NoMemory, Parse, Check}
 use Rattle.script_words.specs.Texts.{listing_text}
 use Rattle.enforce_c.specs.Rows.{RowLists, rows_of}
 use Rattle.enforce_c.specs.Answers.{Left, left_by, LeftBytes, bytes_left_by}
@@ -24,9 +24,7 @@ abbrev pub IsRefused : List ℕ → Refusal → Type 0
 IsRefused bytes NoMemory = Unit {0}
 IsRefused bytes (Parse e) = IsFault bytes e
 IsRefused bytes (Check e) = (ops : List Op) × Spells ops bytes × IsRefusal ops e
-IsRefused bytes NoSuchForm = ⊥
-IsRefused bytes NotAKey = ⊥
-IsRefused bytes NotAHeight = ⊥
+IsRefused bytes e = ⊥
 
 -- what C sees of the script with these bytes, or why it is not listed
 abbrev pub IsTold : List ℕ → Result RowLists Refusal → Type 0

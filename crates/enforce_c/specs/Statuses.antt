@@ -4,8 +4,10 @@ use Rattle.script.specs.declared.parse.ParseError.{ParseError}
 use Rattle.script.specs.declared.parse.ParseError.TheVariants.{NoMemory as ParseMemory, BadOpcode, Truncated, TooLong}
 use Rattle.paths.specs.declared.errors.CheckError.{CheckError}
 use Rattle.paths.specs.declared.errors.CheckError.TheVariants.{NoMemory as ListMemory, OpenBranch, TooManyOps, Undecided, TooManyPaths, TooTall}
+use Rattle.claim.specs.declared.errors.AcceptError.{AcceptError}
+use Rattle.claim.specs.declared.errors.AcceptError.TheVariants.{NoMemory as AcceptMemory, NoSuchPath, WrongArity, Unmet, Contradiction, WrongProgram, WrongShell}
 use Rattle.enforce_c.specs.declared.statuses.Refusal.{Refusal}
-use Rattle.enforce_c.specs.declared.statuses.Refusal.TheVariants.{NoMemory, Parse, Check, NoSuchForm, NotAKey, NotAHeight}
+use Rattle.enforce_c.specs.declared.statuses.Refusal.TheVariants.{NoMemory, Parse, Check, NoSuchForm, NotAKey, NotAHeight, OutOfRange, NoSuchSlot, ItemTooLong, Accept}
 
 -- of a script's bytes
 abbrev pub parse_status : ParseError → ℕ
@@ -23,6 +25,16 @@ check_status (Undecided at) = 515
 check_status TooManyPaths = 516
 check_status TooTall = 517
 
+-- of a claim
+abbrev pub accept_status : AcceptError → ℕ
+accept_status AcceptMemory = 1
+accept_status NoSuchPath = 769
+accept_status WrongArity = 770
+accept_status (Unmet stated) = 771
+accept_status Contradiction = 772
+accept_status WrongProgram = 773
+accept_status WrongShell = 774
+
 abbrev pub status_of : Refusal → ℕ
 status_of NoMemory = 1
 status_of (Parse e) = parse_status e
@@ -30,6 +42,10 @@ status_of (Check e) = check_status e
 status_of NoSuchForm = 1025
 status_of NotAKey = 1026
 status_of NotAHeight = 1027
+status_of (Accept e) = accept_status e
+status_of OutOfRange = 1793
+status_of NoSuchSlot = 1794
+status_of ItemTooLong = 1795
 
 -- the number that a refusal carries
 abbrev pub parse_number : ParseError → ℕ

@@ -1,13 +1,16 @@
 // What a call leaves in the caller's memory.
 
-ghost use Rattle.std.specs.Prelude.{◌≡◌};
+ghost use Rattle.std.specs.Prelude.{◌≡◌, []};
 ghost use Rattle.enforce_c.specs.Statuses.{status_of};
-ghost use Rattle.enforce_c.specs.Answers.{left_by_rows, left_by_bytes, refused_with};
+ghost use Rattle.enforce_c.specs.Answers.{left_by_rows, left_by_bytes, bytes_answer, refused_with};
+ghost use Rattle.enforce_c.specs.Claimed.{due_of};
 
 use crate::buffers::put;
+use crate::claim_rows::Due;
 use crate::rows::{Answer, FactRow, PathRow};
 use crate::statuses::{DONE, Refusal, TOO_SMALL};
 use crate::telling::Rows;
+use claim::Claim;
 
 /// Writes the rows if there is room for them, and their sizes. Gives the status.
 pub(crate) fn write_rows(
@@ -55,6 +58,25 @@ pub(crate) fn write_bytes(bytes: &[u8], room: &mut [u8], answer: &mut Answer) ->
     } else {
         TOO_SMALL
     }
+}
+
+/// Writes when a claim is due. Gives the status.
+pub(crate) fn write_due(claim: &Claim, due: &mut Due, answer: &mut Answer) -> u32
+    ensures status { result ≡ 0 }
+    ensures answer { answer.new ≡ bytes_answer [] }
+    ensures due { due.new ≡ due_of claim.now }
+{
+    *due = Due {
+        height: claim.needs_height(),
+        sequence: claim.sequence(),
+    };
+    *answer = Answer {
+        paths: 0,
+        facts: 0,
+        bytes: 0,
+        number: 0,
+    };
+    DONE
 }
 
 /// Writes the answer of a refusal. Gives its status.

@@ -42,7 +42,7 @@ pub struct Form {
 }
 
 // The key with these bytes, if they have the form of one.
-fn key_of(bytes: &[u8; 33]) -> Result<Key, Refusal>
+pub(crate) fn key_of(bytes: &[u8; 33]) -> Result<Key, Refusal>
     ensures { MatchResult result (λ k. (k.bytes ≡ bytes.now) × (is_key bytes.now ≡ true))
         (λ e. (e ≡ NotAKey) × (is_key bytes.now ≡ false)) }
 {

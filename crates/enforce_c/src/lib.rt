@@ -1,4 +1,4 @@
-//! The ways through a script and the scripts of BOLT 3, for programs in C, as a static library.
+//! The ways through a script, the scripts of BOLT 3, and claims, for programs in C, as a static library.
 //!
 //! Each export writes only to what it is given by a pointer that is not const, keeps no pointer, and may be called
 //! from several threads at once. No export has a `requires`: whatever bytes and lengths a caller gives, it is
@@ -6,8 +6,9 @@
 //! A buffer that is too short is left as it was, and the [`Answer`] says how long it has to be.
 //!
 //! `paths` lists the ways through a script, and `script_words` has the text of a listing. `forms` has the scripts of BOLT 3, and
-//! `sighash` the program of a script. No crate depends on this one. `docs/BINDINGS.md` has the header, and callers in C and in
-//! other languages.
+//! `sighash` the program of a script. `claim` accepts claims. Signatures are not among the arguments: an accepted claim can't
+//! fail with tokens, or with valid signatures where its path measures none. No crate depends on this one.
+//! `docs/BINDINGS.md` has the header, and callers in C and in other languages.
 //!
 //! ```text
 //! uint8_t script[] = {0x63, 0x51, 0x67, 0x52, 0x68};               // IF 1 ELSE 2 ENDIF
@@ -21,18 +22,24 @@ ghost use Rattle.std.specs.Prelude.{◌≡◌};
 ghost use Rattle.sighash.specs.Programs.{script_hash_program};
 ghost use Rattle.enforce_c.specs.Listed.{AnswersListing, AnswersText};
 ghost use Rattle.enforce_c.specs.FormScripts.{AnswersForm};
+ghost use Rattle.enforce_c.specs.Claimed.{AnswersClaim};
 
 mod answers;
 mod buffers;
+mod claim_rows;
+mod claims_of_c;
 mod forms_of_c;
 mod listing;
+mod ranges;
 mod rows;
 mod statuses;
 mod telling;
 
-use crate::answers::{refuse, write_bytes, write_rows};
+use crate::answers::{refuse, write_bytes, write_due, write_rows};
+use crate::claims_of_c::claimed;
 use crate::forms_of_c::form_bytes;
 use crate::listing::{text_of, told};
+pub use claim_rows::{ClaimRow, Due, SLOT_EXACT, SLOT_PREIMAGE, SLOT_SIGNATURE, SlotRow};
 use digest::sha256;
 pub use forms_of_c::{
     FORM_FUNDING, FORM_KEY_HASH, FORM_OFFERED, FORM_RECEIVED, FORM_TO_LOCAL, Form,
@@ -117,6 +124,27 @@ pub extern "C" fn enforce_form_script(
 {
     match form_bytes(alloc, form) {
         Ok(bytes) => write_bytes(bytes.bytes(), script, answer),
+        Err(refusal) => refuse(&refusal, answer),
+    }
+}
+
+/// Accepts a claim by one path of its script, in an open transaction: any of version 2 whose lock time is a height, below 500,000,000, and not below the one that is written. Writes when the claim is due.
+/// Whatever fills the slots as their rows say spends the output. The statuses of refusals are those of families 1, 2, 3 and 7, and `NOT_A_KEY`, in this order: what the rows refer to is there,
+/// slot by slot, the script, its listing, the claim.
+#[unsafe(no_mangle)]
+#[tactic(auto, using(crate::proofs::Answering::claimed_due, crate::proofs::Answering::refused_claim))]
+pub extern "C" fn enforce_claim(
+    alloc: Global,
+    claim: &ClaimRow,
+    slots: &[SlotRow],
+    bytes: &[u8],
+    due: &mut Due,
+    answer: &mut Answer,
+) -> u32
+    ensures { AnswersClaim claim.now slots.now bytes.now due.old (record { status = result; answer = answer.new; due = due.new }) }
+{
+    match claimed(alloc, claim, slots, bytes) {
+        Ok(claim) => write_due(&claim, due, answer),
         Err(refusal) => refuse(&refusal, answer),
     }
 }

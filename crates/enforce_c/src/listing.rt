@@ -13,7 +13,7 @@ use std::alloc::Global;
 
 // The script with its paths.
 #[tactic(auto, using(crate::proofs::Answering::is_listed, crate::proofs::Answering::is_refused))]
-fn listed(alloc: Global, bytes: &[u8]) -> Result<Checked, Refusal>
+pub(crate) fn listed(alloc: Global, bytes: &[u8]) -> Result<Checked, Refusal>
     ensures { MatchResult result (IsListed bytes.now) (IsRefused bytes.now) }
 {
     let script = match Script::parse(alloc, bytes) {

@@ -1,12 +1,13 @@
 // Why a call gives nothing: the statuses.
 
 ghost use Rattle.std.specs.Prelude.{◌≡◌, ◌<◌};
-ghost use Rattle.enforce_c.specs.Statuses.{status_of, number_of};
+ghost use Rattle.enforce_c.specs.Statuses.{parse_status, check_status, accept_status, status_of, number_of};
 ghost use Rattle.enforce_c.specs.declared.statuses.Refusal.TheVariants.{NoMemory};
 
+use claim::AcceptError;
 use paths::CheckError;
 use script::ParseError;
-use std::alloc::AllocError;
+use std::alloc::{AllocError, AllocFailed};
 
 /// The call did what it is for.
 pub const DONE: u32 = 0x000;
@@ -30,12 +31,30 @@ pub const UNDECIDED: u32 = 0x203;
 pub const TOO_MANY_PATHS: u32 = 0x204;
 /// A path needs more than 1,000 stack elements.
 pub const TOO_TALL: u32 = 0x205;
+/// The script has no path of this index.
+pub const NO_SUCH_PATH: u32 = 0x301;
+/// The number of slots is not that of the path.
+pub const WRONG_ARITY: u32 = 0x302;
+/// The slots do not show a fact of the path.
+pub const UNMET: u32 = 0x303;
+/// The path asks for one fact with both polarities.
+pub const CONTRADICTION: u32 = 0x304;
+/// The program is not that of the script.
+pub const WRONG_PROGRAM: u32 = 0x305;
+/// The fixed transaction of a claim does not fit. No claim of these calls has one.
+pub const WRONG_SHELL: u32 = 0x306;
 /// There is no form of this kind.
 pub const NO_SUCH_FORM: u32 = 0x401;
-/// Bytes that the form uses do not have the form of a key.
+/// Bytes that are to be a key do not have the form of one.
 pub const NOT_A_KEY: u32 = 0x402;
 /// The expiry is 500,000,000 or more, which is a time and not a height.
 pub const NOT_A_HEIGHT: u32 = 0x403;
+/// A row refers to bytes or to rows that are not there.
+pub const OUT_OF_RANGE: u32 = 0x701;
+/// There is no slot of this kind.
+pub const NO_SUCH_SLOT: u32 = 0x702;
+/// The bytes of a slot are more than 520.
+pub const ITEM_TOO_LONG: u32 = 0x703;
 
 /// Why a call gives nothing.
 #[derive(Drop)]
@@ -46,6 +65,54 @@ pub enum Refusal {
     NoSuchForm,
     NotAKey,
     NotAHeight,
+    OutOfRange,
+    NoSuchSlot,
+    ItemTooLong,
+    Accept(AcceptError),
+}
+
+// The status of a refused claim.
+fn accept_status(error: &AcceptError) -> u32
+    ensures value { result ≡ accept_status error.now }
+    ensures refused { DONE < result }
+{
+    match error {
+        AcceptError::NoMemory => NO_MEMORY,
+        AcceptError::NoSuchPath => NO_SUCH_PATH,
+        AcceptError::WrongArity => WRONG_ARITY,
+        AcceptError::Unmet(_) => UNMET,
+        AcceptError::Contradiction => CONTRADICTION,
+        AcceptError::WrongProgram => WRONG_PROGRAM,
+        AcceptError::WrongShell => WRONG_SHELL,
+    }
+}
+
+// The status of a script's bytes that are refused.
+fn parse_status(error: &ParseError) -> u32
+    ensures value { result ≡ parse_status error.now }
+    ensures refused { DONE < result }
+{
+    match error {
+        ParseError::NoMemory => NO_MEMORY,
+        ParseError::BadOpcode(_) => BAD_OPCODE,
+        ParseError::Truncated(_) => TRUNCATED,
+        ParseError::TooLong => TOO_LONG,
+    }
+}
+
+// The status of a script that is not listed.
+fn check_status(error: &CheckError) -> u32
+    ensures value { result ≡ check_status error.now }
+    ensures refused { DONE < result }
+{
+    match error {
+        CheckError::NoMemory => NO_MEMORY,
+        CheckError::OpenBranch => OPEN_BRANCH,
+        CheckError::TooManyOps => TOO_MANY_OPS,
+        CheckError::Undecided(_) => UNDECIDED,
+        CheckError::TooManyPaths => TOO_MANY_PATHS,
+        CheckError::TooTall => TOO_TALL,
+    }
 }
 
 impl Refusal {
@@ -56,23 +123,15 @@ impl Refusal {
     {
         match self {
             Refusal::NoMemory => NO_MEMORY,
-            Refusal::Parse(error) => match error {
-                ParseError::NoMemory => NO_MEMORY,
-                ParseError::BadOpcode(_) => BAD_OPCODE,
-                ParseError::Truncated(_) => TRUNCATED,
-                ParseError::TooLong => TOO_LONG,
-            },
-            Refusal::Check(error) => match error {
-                CheckError::NoMemory => NO_MEMORY,
-                CheckError::OpenBranch => OPEN_BRANCH,
-                CheckError::TooManyOps => TOO_MANY_OPS,
-                CheckError::Undecided(_) => UNDECIDED,
-                CheckError::TooManyPaths => TOO_MANY_PATHS,
-                CheckError::TooTall => TOO_TALL,
-            },
+            Refusal::Parse(error) => parse_status(error),
+            Refusal::Check(error) => check_status(error),
             Refusal::NoSuchForm => NO_SUCH_FORM,
             Refusal::NotAKey => NOT_A_KEY,
             Refusal::NotAHeight => NOT_A_HEIGHT,
+            Refusal::OutOfRange => OUT_OF_RANGE,
+            Refusal::NoSuchSlot => NO_SUCH_SLOT,
+            Refusal::ItemTooLong => ITEM_TOO_LONG,
+            Refusal::Accept(error) => accept_status(error),
         }
     }
 
@@ -93,6 +152,14 @@ impl From<AllocError> for Refusal {
     ghost from_gives = { λ _ e. e ≡ NoMemory };
 
     fn from(_error: AllocError) -> Refusal {
+        Refusal::NoMemory
+    }
+}
+
+impl<T: Drop> From<AllocFailed<T>> for Refusal {
+    ghost from_gives = { λ _ e. e ≡ NoMemory };
+
+    fn from(_error: AllocFailed<T>) -> Refusal {
         Refusal::NoMemory
     }
 }
