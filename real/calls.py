@@ -169,6 +169,7 @@ PSBT = [
     ("make", other_input(previous=HEX), "refused OtherTransaction 0\n", 1),
     ("make", other_input(derivations=[{"key": "02" * 33, "fingerprint": "00000000", "path": "m/x"}]), "refused BadShape inputs[0].derivations[0].path\n", 1),
     ("make", changed(fees=1), "refused BadShape fees\n", 1),
+    ("make", changed(weight="951"), "refused BadShape weight\n", 1),
     ("make", other_input(path=0), MADE + "\n", 0),
     ("make", other_input(path="0"), "refused BadShape inputs[0].path\n", 1),
     ("make", other_input(prevoius=HEX), "refused BadShape inputs[0].prevoius\n", 1),

@@ -12,8 +12,8 @@ from transaction import MAX_MONEY, Digests, Output, Transaction, read_transactio
 KEY_SIZE, FINGERPRINT_SIZE, HARDENED = 33, 4, 1 << 31
 # more digits than any number of a plan has
 DIGITS = 20
-# more paths than a script may have
-MAX_PATH = 1 << 32
+# more paths than a script may have, and a greater weight than a transaction of 4,000 inputs
+MAX_PATH = MAX_WEIGHT = 1 << 32
 # the names of members that are said where they are unknown
 NAME = re.compile(r"\w{1,40}", re.ASCII)
 
@@ -182,7 +182,9 @@ def read_object(given, place):
 
 def read_plan(given):
     """The plan that a JSON text tells."""
-    shape = read_object(given, "plan").only("transaction", "fee", "inputs")
+    shape = read_object(given, "plan").only("transaction", "fee", "weight", "inputs")
+    # who makes a plan may say by which weight its fee is; nothing follows from it here
+    shape.number("weight", MAX_WEIGHT, optional=True)
     transaction = read_transaction(shape.bytes("transaction"), marked=False)
     plan = Plan(transaction, shape.number("fee", MAX_MONEY, optional=True), [read_input(it) for it in shape.objects("inputs")])
     if len(plan.inputs) != len(transaction.inputs) or any(it.script for it in transaction.inputs):

@@ -1,6 +1,7 @@
 """Tests of partially signed transactions: each HTLC transaction of BOLT 3's Appendix C is made, signed and finished, and faults are refused. Tested, not proved."""
 import json
 
+import asking
 import assembling
 import bolt3
 import judging
@@ -53,6 +54,19 @@ def spend_key_hashes(count, privates, curve, trace):
     count.check([len(partial.with_kind(it, partial.PARTIAL_SIG)) for it in signed.inputs] == [1, 1], "a signature for each input's own key")
     found = judging.judge(assembling.finish(read_plan(plan), signed, curve), spent, curve, trace)
     count.check([it["answer"] for it in found] == ["clean", "clean"], f"the hash of a key, and a script: {found}")
+
+
+def spend_asked(count, curve, trace):
+    """What the program `spend` makes is signed by the peer's key, finished and judged: an HTLC by its preimage, and one after its timeout."""
+    told = bolt3.read()
+    plan, _ = asking.asked_of_spend(asking.line(next(asking.requests(told))[0]))
+    signed = sign(assembling.make(read_plan(plan)), [bytes.fromhex(told["terms"]["keys"]["remote_htlc_privkey"])], curve)
+    finished = assembling.finish(read_plan(plan), signed, curve)
+    spent = [it.output for it in read_plan(plan).inputs]
+    found = judging.judge(finished, spent, curve, trace)
+    count.check([(it["answer"], it.get("path")) for it in found] == [("clean", 2), ("clean", 2)], f"a spend of {len(spent)} outputs: {found}")
+    weight = 3 * len(finished.stripped()) + len(finished.bytes())
+    count.check(weight <= json.loads(plan)["weight"] < weight + 8, f"a weight of {weight}")
 
 
 def push_of(key):
