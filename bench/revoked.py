@@ -3,7 +3,11 @@
 
 `real/tests/bolt3.json` has the appendix: its keys, HTLCs, transactions, programs and scripts. Each transaction is read with all that it is made of, with HTLCs
 that it does not have among the others, and with one key, the delay, or one part of an HTLC changed. What still matches is told from the appendix's own scripts,
-as bytes: an output is claimed if none of what its script is made of was changed. Nothing here hashes a script or builds one."""
+as bytes: an output is claimed if none of what its script is made of was changed.
+
+The appendix has no anchors. So the commitment with the most outputs is read once more, as BOLT 3 has it with `option_anchors`: each HTLC's script has
+`1 CHECKSEQUENCEVERIFY DROP` before its last ENDIF, to_remote another script, and two anchors come with it. Both commitments are read as of the other type too."""
+import hashlib
 import json
 import pathlib
 import sys
@@ -20,8 +24,9 @@ OWN = {
     "remote_htlc": KEYS["remote_htlcpubkey"],
     "remote": KEYS["remote_payment_basepoint"],
     "delay": TERMS["local_delay"],
+    "type": "static_remotekey",
 }
-# What each kind of output is made of.
+# What each kind of output is made of. With anchors to_remote and the anchors are never claimed.
 MADE_OF = {
     "to_local": {"revocation", "delayed", "delay"},
     "to_remote": {"remote"},
@@ -33,6 +38,38 @@ MADE_OF = {
 def htlc_of(number):
     htlc = next(h for h in APPENDIX["htlcs"] if h["id"] == number)
     return ("received" if not htlc["offered_by_local"] else "offered", htlc["payment_hash"], htlc["cltv_expiry"])
+
+
+WAITS_FOR_A_BLOCK = "51b275"
+ANCHOR_SAT = 330
+
+
+def program_of(script):
+    return "0020" + hashlib.sha256(bytes.fromhex(script)).hexdigest()
+
+
+def with_anchors(case):
+    """The outputs of a case's commitment as they are with anchors, in their order (BIP 69)."""
+    outputs = []
+    for it in case["outputs"]:
+        if it["kind"] == "to_remote":
+            outputs.append(dict(it, kind="to_remote_after_a_block", script_pubkey=program_of("21" + OWN["remote"] + "ad51b2")))
+        elif it["kind"] == "to_local":
+            outputs.append(it)
+        else:
+            script = it["witness_script"][:-2] + WAITS_FOR_A_BLOCK + it["witness_script"][-2:]
+            outputs.append(dict(it, witness_script=script, script_pubkey=program_of(script)))
+    for key in (KEYS["local_funding_pubkey"], KEYS["remote_funding_pubkey"]):
+        outputs.append({"kind": "anchor", "value_sat": ANCHOR_SAT, "script_pubkey": program_of("21" + key + "ac736460b268")})
+    return sorted(outputs, key=lambda it: (it["value_sat"], bytes.fromhex(it["script_pubkey"])))
+
+
+def with_outputs(tx, outputs):
+    """A transaction of one input with other outputs, and its id in the hash's own byte order."""
+    up_to_outputs = 2 * (4 + 1 + 41)
+    spelt = "".join(it["value_sat"].to_bytes(8, "little").hex() + f"{len(it['script_pubkey']) // 2:02x}" + it["script_pubkey"] for it in outputs)
+    found = tx[:up_to_outputs] + f"{len(outputs):02x}" + spelt + tx[-8:]
+    return found, hashlib.sha256(hashlib.sha256(bytes.fromhex(found)).digest()).hexdigest()
 
 
 def same_script(one, other):
@@ -48,19 +85,22 @@ def changed_key(key):
 class Row:
     """A commitment as a line has it, with the transaction and its outputs."""
 
-    def __init__(self, values, tx, txid, outputs, htlcs):
+    def __init__(self, values, tx, txid, outputs, htlcs, channel_type="static_remotekey"):
         self.values, self.tx, self.txid, self.outputs, self.htlcs = values, tx, txid, outputs, htlcs
+        self.channel_type = channel_type
 
     def line(self):
-        words = [self.values[name] for name in NAMES] + [str(self.values["delay"]), self.tx]
+        words = [self.values["type"]] + [self.values[name] for name in NAMES] + [str(self.values["delay"]), self.tx]
         return " ".join(words + [f"{d}:{h}:{e}" for d, h, e in self.htlcs])
 
     def is_claimed(self, output):
         kind = output["kind"]
-        if any(self.values[part] != OWN[part] for part in MADE_OF[kind]):
+        if kind not in MADE_OF or any(self.values[part] != OWN[part] for part in MADE_OF[kind]):
             return False
         if kind not in ("offered", "received"):
             return True
+        if self.values["type"] != self.channel_type:
+            return False
         own = htlc_of(output["htlc"])
         assert own[0] == kind
         return any(same_script(own, htlc) for htlc in self.htlcs)
@@ -107,6 +147,25 @@ def rows():
             for values in (OWN, dict(OWN, remote=changed_key(OWN["remote"])), dict(OWN, delayed=changed_key(OWN["delayed"])),
                            dict(OWN, revocation=changed_key(OWN["revocation"])), dict(OWN, delay=OWN["delay"] + 1)):
                 yield Row(values, second["unsigned_tx_no_witness"], second["txid_hash_order"], [output], htlcs)
+    yield from rows_with_anchors(everything)
+
+
+def rows_with_anchors(everything):
+    """The commitment with the most outputs, with and without anchors, as of its own type and of the other one, and an HTLC transaction."""
+    case = max(APPENDIX["cases"], key=lambda it: len(it["outputs"]))
+    htlcs = [htlc_of(number) for number in case["htlcs_given"]]
+    outputs = with_anchors(case)
+    tx, txid = with_outputs(case["unsigned_tx_no_witness"], outputs)
+    own = dict(OWN, type="anchors")
+    for values, known in with_changes(own, htlcs):
+        yield Row(values, tx, txid, outputs, known, "anchors")
+    yield Row(own, tx, txid, outputs, everything, "anchors")
+    yield Row(OWN, tx, txid, outputs, htlcs, "anchors")
+    yield Row(own, case["unsigned_tx_no_witness"], case["txid_hash_order"], case["outputs"], htlcs)
+    second = case["htlc_transactions"][0]
+    script = next(it["witness_script"] for it in case["outputs"] if it["kind"] == "to_local")
+    output = {"kind": "to_local", "value_sat": second["output_value_sat"], "script_pubkey": second["output_script_pubkey"], "witness_script": script}
+    yield Row(own, second["unsigned_tx_no_witness"], second["txid_hash_order"], [output], htlcs)
 
 
 def main(argument):

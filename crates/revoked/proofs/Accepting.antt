@@ -1,32 +1,34 @@
 -- Claims on the forms of a revoked commitment's outputs are accepted, where the programs stand for them.
-use Rattle.std.proofs.Common.{◌≡◌, ℕ, true, List, ◌∷◌, length, refl, sym, ap, subst, ◌∙◌}
+use Rattle.std.proofs.Common.{◌≡◌, ℕ, true, List, [], ◌∷◌, map, length, refl, sym, ap, subst, ◌∙◌}
 use Rattle.std.specs.Str.{bytes_eq}
 use Rattle.std.proofs.lemmas.Bool.{or_left, or_right}
 use Rattle.std.proofs.lemmas.Slice.Eq.{bytes_eq-Decides}
 use Rattle.digest.specs.Hash.{hash160}
-use Rattle.digest.specs.Ripemd160.{ripemd160}
 use Rattle.digest.proofs.OutsideVectors.{length-ripemd160}
 use Rattle.script.specs.Spelling.{spelling}
 use Rattle.sighash.specs.Programs.{script_hash_program, key_hash_program, key_hash_script}
 use Rattle.terms.specs.Scripts.{key_hash}
 use Rattle.paths.specs.Listing.{CheckedScript}
 use Rattle.claim.specs.declared.parts.Place.{Place}
+use Rattle.claim.specs.declared.parts.Shell.{Shell}
 use Rattle.claim.specs.declared.parts.Shell.TheVariants.{Open}
 use Rattle.claim.specs.Claims.{ClaimParts}
 use Rattle.claim.specs.Judgement.{is_key_program, is_program}
 use Rattle.forms.specs.declared.kinds.ClaimKind.{ClaimKind}
-use Rattle.forms.specs.declared.kinds.ClaimKind.TheVariants.{HtlcPenalty}
-use Rattle.forms.specs.Claims.{Claims, of_offered_penalty, of_received_penalty, path_taken_by}
+use Rattle.forms.specs.Claims.{path_taken_by}
 use Rattle.forms.specs.Forms.{key_hash_form}
-use Rattle.forms.specs.Fillings.{fillings_of}
+use Rattle.forms.specs.Fillings.{Filling, Signature, Bytes, filling_of, fillings_of}
+use Rattle.anchor_forms.specs.declared.channel_types.ChannelType.{ChannelType}
+use Rattle.anchor_forms.specs.declared.channel_types.ChannelType.TheVariants.{StaticRemoteKey, Anchors}
+use Rattle.anchor_forms.specs.Penalties.{IsPenaltyForm, IsPenaltyOn}
 use Rattle.commit.specs.declared.fees.Direction.{Direction}
 use Rattle.commit.specs.declared.fees.Direction.TheVariants.{Offered, Received}
 use Rattle.commit.specs.declared.derived.CommitmentKeys.{CommitmentKeys}
-use Rattle.commit.specs.Keys.{bytes_of}
-use Rattle.penalty.specs.Claimable.{Claimable}
+use Rattle.commit.specs.Keys.{KeyBytes, bytes_of}
+use Rattle.penalty.specs.Claimable.{Claimable, claimable_with}
 use Rattle.penalty.specs.Sets.{IsClaimOn}
 use Rattle.revoked.specs.declared.outputs.RevokedHtlc.{RevokedHtlc}
-use Rattle.revoked.specs.Programs.{form_by, form_of_htlc}
+use Rattle.revoked.specs.Programs.{form_by, form_of_htlc, claim_on_htlc}
 
 same_bytes : (xs : List ℕ) → bytes_eq xs xs ≡ true
 same_bytes xs = (bytes_eq-Decides xs xs).1 refl
@@ -51,14 +53,28 @@ by_key key checked program e f =
     ap (λ (x : CheckedScript). is_program (spelling x.ops) program) e
     ∙ ap (is_program (spelling (key_hash (hash160 key)))) f ∙ key_program key
 
--- the claims on the forms
-pub claims_htlc : (k : CommitmentKeys) (h : RevokedHtlc) (checked : CheckedScript) (place : Place) → checked ≡ form_of_htlc (bytes_of k) h → Claims (HtlcPenalty k.revocation) checked 0 place Open
-claims_htlc k h checked place e =
-    subst (λ x. Claims (HtlcPenalty k.revocation) x 0 place Open) (sym e) (at h.direction)
-  where
-    at : (direction : Direction) → Claims (HtlcPenalty k.revocation) (form_by (bytes_of k) direction h.hash h.expiry.height) 0 place Open
-    at Offered = of_offered_penalty k.revocation k.remote_htlc.bytes k.local_htlc.bytes (ripemd160 h.hash) place
-    at Received = of_received_penalty k.revocation k.remote_htlc.bytes k.local_htlc.bytes (ripemd160 h.hash) h.expiry.height place
+-- the first path of each HTLC's form is that of the revocation key
+penalty_form : (t : ChannelType) (k : KeyBytes) (direction : Direction) (hash : List ℕ) (expiry_height : ℕ) → IsPenaltyForm k.revocation (form_by t k direction hash expiry_height)
+penalty_form StaticRemoteKey k Offered hash expiry_height = record { counted = 19; first = refl }
+penalty_form StaticRemoteKey k Received hash expiry_height = record { counted = 21; first = refl }
+penalty_form Anchors k Offered hash expiry_height = record { counted = 21; first = refl }
+penalty_form Anchors k Received hash expiry_height = record { counted = 23; first = refl }
+
+pub has_penalty : (t : ChannelType) (k : CommitmentKeys) (h : RevokedHtlc) (checked : CheckedScript) → checked ≡ form_of_htlc t (bytes_of k) h → IsPenaltyForm k.revocation.bytes checked
+has_penalty t k h checked e = subst (IsPenaltyForm k.revocation.bytes) (sym e) (penalty_form t (bytes_of k) h.direction h.hash h.expiry.height)
+
+-- a penalty on the form that was built is the claim on the HTLC
+pub of_penalty_on : (t : ChannelType) (k : CommitmentKeys) (h : RevokedHtlc) (checked : CheckedScript) (place : Place) (c : ClaimParts) → checked ≡ form_of_htlc t (bytes_of k) h
+    → IsPenaltyOn k.revocation.bytes checked place c → IsClaimOn (claim_on_htlc t (bytes_of k) h place) c
+of_penalty_on t k h checked place c e p = record {
+  exact =
+      ap (λ (x : CheckedScript). claimable_with c.place x c.index (map filling_of c.slots) c.shell) (p.ways ∙ e)
+      ∙ ap (λ (x : Place). claimable_with x (form_of_htlc t (bytes_of k) h) c.index (map filling_of c.slots) c.shell) p.place_is
+      ∙ ap (λ (n : ℕ). claimable_with place (form_of_htlc t (bytes_of k) h) n (map filling_of c.slots) c.shell) p.index
+      ∙ ap (λ (fs : List Filling). claimable_with place (form_of_htlc t (bytes_of k) h) 0 fs c.shell) p.slots
+      ∙ ap (λ (s : Shell). claimable_with place (form_of_htlc t (bytes_of k) h) 0 (Bytes k.revocation.bytes ∷ Signature k.revocation.bytes ∷ []) s) p.shell;
+  accepted = p.accepted;
+}
 
 -- on the form that was built
 abbrev claimed_with : ClaimKind → Place → CheckedScript → Claimable

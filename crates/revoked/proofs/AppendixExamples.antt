@@ -6,6 +6,7 @@ use Rattle.digest.specs.Ripemd160.{left_words, right_words, left_rotations, righ
 use Rattle.script.specs.Number.{minimal_bytes_of, digits}
 use Rattle.sighash.specs.Programs.{script_hash_program, key_hash_program}
 use Rattle.terms.specs.Scripts.{number_push}
+use Rattle.anchor_forms.specs.declared.channel_types.ChannelType.TheVariants.{StaticRemoteKey}
 use Rattle.commit.specs.Keys.{KeyBytes}
 use Rattle.commit.specs.declared.fees.Direction.TheVariants.{Offered, Received}
 use Rattle.revoked.specs.Parts.{RevokedParts}
@@ -41,7 +42,7 @@ abbrev second_received : RevokedHtlc
 second_received = record { direction = Received; hash = 0x9f ∷ 0x4f ∷ 0xb6 ∷ 0x8f ∷ 0x3e ∷ 0x1d ∷ 0xac ∷ 0x82 ∷ 0x20 ∷ 0x2f ∷ 0x9a ∷ 0xa5 ∷ 0x81 ∷ 0xce ∷ 0x0b ∷ 0xbf ∷ 0x1f ∷ 0x76 ∷ 0x5d ∷ 0xf0 ∷ 0xe9 ∷ 0xac ∷ 0x3c ∷ 0x8c ∷ 0x57 ∷ 0xe2 ∷ 0x0f ∷ 0x68 ∷ 0x5a ∷ 0xba ∷ 0xb8 ∷ 0xed ∷ []; expiry = record { height = 504; low = omega arith } }
 
 abbrev commitment : RevokedParts
-commitment = record { keys = keys; delay_blocks = 144; htlcs = first_received ∷ first_offered ∷ second_offered ∷ second_received ∷ [] }
+commitment = record { channel_type = StaticRemoteKey; keys = keys; delay_blocks = 144; htlcs = first_received ∷ first_offered ∷ second_offered ∷ second_received ∷ [] }
 
 program_of_to_local : known_program commitment ToLocal ≡ 0x00 ∷ 0x20 ∷ 0x4a ∷ 0xdb ∷ 0x4e ∷ 0x2f ∷ 0x00 ∷ 0x64 ∷ 0x3d ∷ 0xb3 ∷ 0x96 ∷ 0xdd ∷ 0x12 ∷ 0x0d ∷ 0x4e ∷ 0x7d ∷ 0xc1 ∷ 0x76 ∷ 0x25 ∷ 0xf5 ∷ 0xf2 ∷ 0xc1 ∷ 0x1a ∷ 0x40 ∷ 0xd8 ∷ 0x57 ∷ 0xac ∷ 0xcc ∷ 0x86 ∷ 0x2d ∷ 0x6b ∷ 0x7d ∷ 0xd8 ∷ 0x0e ∷ []
 unfolding number_push minimal_bytes_of digits script_hash_program sha256 digest_bytes hash_after compress rounds schedule first_words left_words right_words left_rotations right_rotations left_constants right_constants block_words left_line right_line blocks ripemd_compress ripemd_hash_after ripemd_bytes ripemd160

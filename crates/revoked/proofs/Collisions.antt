@@ -11,14 +11,16 @@ use Rattle.digest.specs.Hash.{hash160, Collide}
 use Rattle.digest.specs.Ripemd160.{ripemd160}
 use Rattle.digest.proofs.OutsideVectors.{length-ripemd160}
 use Rattle.script.specs.declared.opcode.Op.{Op}
-use Rattle.script.specs.declared.opcode.Op.TheVariants.{Push, Number, If, NotIf, Else, EndIf, Drop, Dup, Swap, Size, Equal, EqualVerify, Hash160, CheckSig, CheckMultiSig, CheckLockTimeVerify}
+use Rattle.script.specs.declared.opcode.Op.TheVariants.{Push, Number, If, NotIf, Else, EndIf, Drop, Dup, Swap, Size, Equal, EqualVerify, Hash160, CheckSig, CheckMultiSig, CheckLockTimeVerify, CheckSequenceVerify}
 use Rattle.script.specs.declared.num.Number.{Number as Signed}
 use Rattle.script.specs.Number.{number_of}
 use Rattle.script.specs.Spelling.{spelling, code_of, payload_of}
 use Rattle.sighash.specs.Programs.{script_hash_program, key_hash_program}
-use Rattle.terms.specs.Scripts.{offered, received, number_push}
+use Rattle.terms.specs.Scripts.{number_push}
 use Rattle.paths.specs.Listing.{CheckedScript}
-use Rattle.forms.specs.Forms.{offered_form, received_form}
+use Rattle.anchor_forms.specs.declared.channel_types.ChannelType.{ChannelType}
+use Rattle.anchor_forms.specs.declared.channel_types.ChannelType.TheVariants.{StaticRemoteKey, Anchors}
+use Rattle.anchor_forms.specs.Forms.{offered_form_in, received_form_in}
 use Rattle.forms.proofs.Pushes.{signed, by_push}
 use Rattle.commit.specs.declared.fees.Direction.{Direction}
 use Rattle.commit.specs.declared.fees.Direction.TheVariants.{Offered, Received}
@@ -86,8 +88,13 @@ start hash remote = Dup ∷ Hash160 ∷ Push hash ∷ Equal ∷ If ∷ CheckSig 
 abbrev offered_start : List ℕ → List ℕ → List ℕ → List Op
 offered_start hash remote local = start hash remote ++ (NotIf ∷ Drop ∷ Number 2 ∷ Swap ∷ Push local ∷ Number 2 ∷ CheckMultiSig ∷ Else ∷ Hash160 ∷ [])
 
-abbrev offered_end : List Op
-offered_end = EqualVerify ∷ CheckSig ∷ EndIf ∷ EndIf ∷ []
+-- how both directions end, by the type of the channel
+abbrev ending : ChannelType → List Op
+ending StaticRemoteKey = EndIf ∷ EndIf ∷ []
+ending Anchors = EndIf ∷ Number 1 ∷ CheckSequenceVerify ∷ Drop ∷ EndIf ∷ []
+
+abbrev offered_end : ChannelType → List Op
+offered_end t = EqualVerify ∷ CheckSig ∷ ending t
 
 abbrev received_start : List ℕ → List ℕ → List Op
 received_start hash remote = start hash remote ++ (If ∷ Hash160 ∷ [])
@@ -95,37 +102,55 @@ received_start hash remote = start hash remote ++ (If ∷ Hash160 ∷ [])
 abbrev received_middle : List ℕ → List Op
 received_middle local = EqualVerify ∷ Number 2 ∷ Swap ∷ Push local ∷ Number 2 ∷ CheckMultiSig ∷ Else ∷ Drop ∷ []
 
-abbrev received_end : List Op
-received_end = CheckLockTimeVerify ∷ Drop ∷ CheckSig ∷ EndIf ∷ EndIf ∷ []
+abbrev received_end : ChannelType → List Op
+received_end t = CheckLockTimeVerify ∷ Drop ∷ CheckSig ∷ ending t
 
-two_offered : (hash remote local p q : List ℕ) → length p ≡ length q → spelling (offered hash remote local p) ≡ spelling (offered hash remote local q) → p ≡ q
-two_offered hash remote local p q l e = (same_push p q offered_end offered_end l (after (offered_start hash remote local) (Push p ∷ offered_end) (Push q ∷ offered_end) e)).0
+abbrev received_rest : ChannelType → List ℕ → ℕ → List Op
+received_rest t local n = received_middle local ++ (number_push n ∷ received_end t)
 
-two_received : (hash remote local p q : List ℕ) (n m : ℕ) → length p ≡ length q → n < 2 ^ 32 → m < 2 ^ 32
-    → spelling (received hash remote local p n) ≡ spelling (received hash remote local q m) → (p ≡ q) × (n ≡ m)
-two_received hash remote local p q n m l a b e =
-    let rest : ℕ → List Op = λ t. received_middle local ++ (number_push t ∷ received_end) in
-    let c = same_push p q (rest n) (rest m) l (after (received_start hash remote) (Push p ∷ rest n) (Push q ∷ rest m) e) in
-    (c.0, same_number n m received_end a b (after (received_middle local) (number_push n ∷ received_end) (number_push m ∷ received_end) c.1))
+-- the spelled scripts, by these parts
+spelt_offered : (t : ChannelType) (hash remote local p : List ℕ) → spelling (offered_form_in t hash remote local p).ops ≡ spelling (offered_start hash remote local ++ (Push p ∷ offered_end t))
+spelt_offered StaticRemoteKey hash remote local p = refl
+spelt_offered Anchors hash remote local p = refl
 
-if_notif : (hash remote local p q : List ℕ) (n : ℕ) → spelling (offered hash remote local p) ≡ spelling (received hash remote local q n) → ⊥
-if_notif hash remote local p q n e =
-    let offers : List Op = Drop ∷ Number 2 ∷ Swap ∷ Push local ∷ Number 2 ∷ CheckMultiSig ∷ Else ∷ Hash160 ∷ Push p ∷ offered_end in
-    let receives : List Op = Hash160 ∷ Push q ∷ (received_middle local ++ (number_push n ∷ received_end)) in
+spelt_received : (t : ChannelType) (hash remote local p : List ℕ) (n : ℕ) → spelling (received_form_in t hash remote local p n).ops ≡ spelling (received_start hash remote ++ (Push p ∷ received_rest t local n))
+spelt_received StaticRemoteKey hash remote local p n = refl
+spelt_received Anchors hash remote local p n = refl
+
+two_offered : (t : ChannelType) (hash remote local p q : List ℕ) → length p ≡ length q → spelling (offered_start hash remote local ++ (Push p ∷ offered_end t)) ≡ spelling (offered_start hash remote local ++ (Push q ∷ offered_end t)) → p ≡ q
+two_offered t hash remote local p q l e = (same_push p q (offered_end t) (offered_end t) l (after (offered_start hash remote local) (Push p ∷ offered_end t) (Push q ∷ offered_end t) e)).0
+
+two_received : (t : ChannelType) (hash remote local p q : List ℕ) (n m : ℕ) → length p ≡ length q → n < 2 ^ 32 → m < 2 ^ 32
+    → spelling (received_start hash remote ++ (Push p ∷ received_rest t local n)) ≡ spelling (received_start hash remote ++ (Push q ∷ received_rest t local m)) → (p ≡ q) × (n ≡ m)
+two_received t hash remote local p q n m l a b e =
+    let c = same_push p q (received_rest t local n) (received_rest t local m) l (after (received_start hash remote) (Push p ∷ received_rest t local n) (Push q ∷ received_rest t local m) e) in
+    (c.0, same_number n m (received_end t) a b (after (received_middle local) (number_push n ∷ received_end t) (number_push m ∷ received_end t) c.1))
+
+if_notif : (t : ChannelType) (hash remote local p q : List ℕ) (n : ℕ) → spelling (offered_start hash remote local ++ (Push p ∷ offered_end t)) ≡ spelling (received_start hash remote ++ (Push q ∷ received_rest t local n)) → ⊥
+if_notif t hash remote local p q n e =
+    let offers : List Op = Drop ∷ Number 2 ∷ Swap ∷ Push local ∷ Number 2 ∷ CheckMultiSig ∷ Else ∷ Hash160 ∷ Push p ∷ offered_end t in
+    let receives : List Op = Hash160 ∷ Push q ∷ received_rest t local n in
     let f : 0x64 ≡ 0x63 = ap first_byte (after (start hash remote) (NotIf ∷ offers) (If ∷ receives) e) in omega (arith, f)
 
 hashes_alike : (a b : List ℕ) → length (ripemd160 a) ≡ length (ripemd160 b)
 hashes_alike a b = length-ripemd160 a ∙ sym (length-ripemd160 b)
 
 -- HTLCs of one commitment with one script have one form
-one_form : (k : KeyBytes) (d e : Direction) (g h : List ℕ) (n m : ℕ) → n < 2 ^ 32 → m < 2 ^ 32 → spelling (form_by k d g n).ops ≡ spelling (form_by k e h m).ops → form_by k d g n ≡ form_by k e h m
-one_form k Offered Offered g h n m a b s =
-    ap (offered_form (hash160 k.revocation) k.remote_htlc k.local_htlc) (two_offered (hash160 k.revocation) k.remote_htlc k.local_htlc (ripemd160 g) (ripemd160 h) (hashes_alike g h) s)
-one_form k Received Received g h n m a b s =
-    let c = two_received (hash160 k.revocation) k.remote_htlc k.local_htlc (ripemd160 g) (ripemd160 h) n m (hashes_alike g h) a b s in
-    ap (λ p. received_form (hash160 k.revocation) k.remote_htlc k.local_htlc p n) c.0 ∙ ap (received_form (hash160 k.revocation) k.remote_htlc k.local_htlc (ripemd160 h)) c.1
-one_form k Offered Received g h n m a b s = absurd (if_notif (hash160 k.revocation) k.remote_htlc k.local_htlc (ripemd160 g) (ripemd160 h) m s)
-one_form k Received Offered g h n m a b s = absurd (if_notif (hash160 k.revocation) k.remote_htlc k.local_htlc (ripemd160 h) (ripemd160 g) n (sym s))
+one_form : (t : ChannelType) (k : KeyBytes) (d e : Direction) (g h : List ℕ) (n m : ℕ) → n < 2 ^ 32 → m < 2 ^ 32 → spelling (form_by t k d g n).ops ≡ spelling (form_by t k e h m).ops → form_by t k d g n ≡ form_by t k e h m
+one_form t k Offered Offered g h n m a b s =
+    let f = spelt_offered t (hash160 k.revocation) k.remote_htlc k.local_htlc in
+    ap (offered_form_in t (hash160 k.revocation) k.remote_htlc k.local_htlc)
+    (two_offered t (hash160 k.revocation) k.remote_htlc k.local_htlc (ripemd160 g) (ripemd160 h) (hashes_alike g h) (sym (f (ripemd160 g)) ∙ s ∙ f (ripemd160 h)))
+one_form t k Received Received g h n m a b s =
+    let f = spelt_received t (hash160 k.revocation) k.remote_htlc k.local_htlc in
+    let c = two_received t (hash160 k.revocation) k.remote_htlc k.local_htlc (ripemd160 g) (ripemd160 h) n m (hashes_alike g h) a b (sym (f (ripemd160 g) n) ∙ s ∙ f (ripemd160 h) m) in
+    ap (λ p. received_form_in t (hash160 k.revocation) k.remote_htlc k.local_htlc p n) c.0 ∙ ap (received_form_in t (hash160 k.revocation) k.remote_htlc k.local_htlc (ripemd160 h)) c.1
+one_form t k Offered Received g h n m a b s =
+    absurd (if_notif t (hash160 k.revocation) k.remote_htlc k.local_htlc (ripemd160 g) (ripemd160 h) m
+    (sym (spelt_offered t (hash160 k.revocation) k.remote_htlc k.local_htlc (ripemd160 g)) ∙ s ∙ spelt_received t (hash160 k.revocation) k.remote_htlc k.local_htlc (ripemd160 h) m))
+one_form t k Received Offered g h n m a b s =
+    absurd (if_notif t (hash160 k.revocation) k.remote_htlc k.local_htlc (ripemd160 h) (ripemd160 g) n
+    (sym (spelt_offered t (hash160 k.revocation) k.remote_htlc k.local_htlc (ripemd160 h)) ∙ sym s ∙ spelt_received t (hash160 k.revocation) k.remote_htlc k.local_htlc (ripemd160 g) n))
 
 -- ---- programs
 
@@ -146,9 +171,11 @@ lengths_differ : (script key : List ℕ) → script_hash_program script ≡ key_
 unfolding script_hash_program key_hash_program
 lengths_differ script key e = let f : 0x20 ≡ 0x14 = ap second_byte e in omega (arith, f)
 
-begins : (k : KeyBytes) (d : Direction) (hash : List ℕ) (n : ℕ) → first_byte (spelling (form_by k d hash n).ops) ≡ 0x76
-begins k Offered hash n = refl
-begins k Received hash n = refl
+begins : (t : ChannelType) (k : KeyBytes) (d : Direction) (hash : List ℕ) (n : ℕ) → first_byte (spelling (form_by t k d hash n).ops) ≡ 0x76
+begins StaticRemoteKey k Offered hash n = refl
+begins StaticRemoteKey k Received hash n = refl
+begins Anchors k Offered hash n = refl
+begins Anchors k Received hash n = refl
 
 begin_apart : (f g : CheckedScript) → first_byte (spelling f.ops) ≡ 0x63 → first_byte (spelling g.ops) ≡ 0x76 → spelling f.ops ≡ spelling g.ops → f ≡ g
 begin_apart f g a b e = let c : 0x63 ≡ 0x76 = sym a ∙ ap first_byte e ∙ b in absurd (omega (arith, c))
@@ -161,11 +188,11 @@ sharing r ToRemote ToLocal e = absurd (lengths_differ _ _ (sym e))
 sharing r ToRemote (ToHtlc h) e = absurd (lengths_differ _ _ (sym e))
 sharing r (ToHtlc h) ToRemote e = absurd (lengths_differ _ _ e)
 sharing r ToLocal (ToHtlc h) e =
-    one_or_collide (known_form r ToLocal) (form_of_htlc r.keys h) (begin_apart (known_form r ToLocal) (form_of_htlc r.keys h) refl (begins r.keys h.direction h.hash h.expiry.height)) e
+    one_or_collide (known_form r ToLocal) (form_of_htlc r.channel_type r.keys h) (begin_apart (known_form r ToLocal) (form_of_htlc r.channel_type r.keys h) refl (begins r.channel_type r.keys h.direction h.hash h.expiry.height)) e
 sharing r (ToHtlc h) ToLocal e =
-    one_or_collide (form_of_htlc r.keys h) (known_form r ToLocal)
-    (λ s. sym (begin_apart (known_form r ToLocal) (form_of_htlc r.keys h) refl (begins r.keys h.direction h.hash h.expiry.height) (sym s))) e
+    one_or_collide (form_of_htlc r.channel_type r.keys h) (known_form r ToLocal)
+    (λ s. sym (begin_apart (known_form r ToLocal) (form_of_htlc r.channel_type r.keys h) refl (begins r.channel_type r.keys h.direction h.hash h.expiry.height) (sym s))) e
 sharing r (ToHtlc g) (ToHtlc h) e =
     let low_g = g.expiry.low in let low_h = h.expiry.low in
-    one_or_collide (form_of_htlc r.keys g) (form_of_htlc r.keys h)
-    (one_form r.keys g.direction h.direction g.hash h.hash g.expiry.height h.expiry.height (omega (arith, low_g)) (omega (arith, low_h))) e
+    one_or_collide (form_of_htlc r.channel_type r.keys g) (form_of_htlc r.channel_type r.keys h)
+    (one_form r.channel_type r.keys g.direction h.direction g.hash h.hash g.expiry.height h.expiry.height (omega (arith, low_g)) (omega (arith, low_h))) e

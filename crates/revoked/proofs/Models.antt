@@ -14,6 +14,8 @@ use Rattle.terms.specs.declared.htlcs.Htlc.{Htlc}
 use Rattle.paths.specs.Listing.{CheckedScript}
 use Rattle.claim.specs.declared.parts.Place.{Place}
 use Rattle.keys.specs.Derivation.{point_of}
+use Rattle.anchor_forms.specs.declared.channel_types.ChannelType.{ChannelType}
+use Rattle.anchor_forms.specs.declared.channel_types.ChannelType.TheVariants.{StaticRemoteKey, Anchors}
 use Rattle.commit.specs.declared.fees.Direction.{Direction}
 use Rattle.commit.specs.declared.fees.Direction.TheVariants.{Offered, Received}
 use Rattle.commit.specs.declared.outputs.OutputKind.{OutputKind}
@@ -61,13 +63,17 @@ hit test (x ∷ xs) (suc k) y l e p = at (test x) refl (hit test xs k y (omega (
     at false t h = record { one = h.one; found = ap (λ b. cond b (Some x) (find test xs)) t ∙ h.found; among = deeper x xs h.one h.among; passes = h.passes }
 
 -- the opcodes at which the forms differ
-dup_first : (k : KeyBytes) (direction : Direction) (hash : List ℕ) (expiry_height : ℕ) → slice_get (form_by k direction hash expiry_height).ops 0 ≡ Some Dup
-dup_first k Offered hash expiry_height = refl
-dup_first k Received hash expiry_height = refl
+dup_first : (t : ChannelType) (k : KeyBytes) (direction : Direction) (hash : List ℕ) (expiry_height : ℕ) → slice_get (form_by t k direction hash expiry_height).ops 0 ≡ Some Dup
+dup_first StaticRemoteKey k Offered hash expiry_height = refl
+dup_first StaticRemoteKey k Received hash expiry_height = refl
+dup_first Anchors k Offered hash expiry_height = refl
+dup_first Anchors k Received hash expiry_height = refl
 
-equal_fourth : (k : KeyBytes) (direction : Direction) (hash : List ℕ) (expiry_height : ℕ) → slice_get (form_by k direction hash expiry_height).ops 3 ≡ Some Equal
-equal_fourth k Offered hash expiry_height = refl
-equal_fourth k Received hash expiry_height = refl
+equal_fourth : (t : ChannelType) (k : KeyBytes) (direction : Direction) (hash : List ℕ) (expiry_height : ℕ) → slice_get (form_by t k direction hash expiry_height).ops 3 ≡ Some Equal
+equal_fourth StaticRemoteKey k Offered hash expiry_height = refl
+equal_fourth StaticRemoteKey k Received hash expiry_height = refl
+equal_fourth Anchors k Offered hash expiry_height = refl
+equal_fourth Anchors k Received hash expiry_height = refl
 
 if_dup : Some If ≡ Some Dup → ⊥
 if_dup e = cc
@@ -86,17 +92,17 @@ fourth_of f g e = ap (λ (x : CheckedScript). slice_get x.ops 3) e
 alike : (r : RevokedParts) (place : Place) (a b : RevokedOutput) → known_form r a ≡ known_form r b → claim_on r a place ≡ claim_on r b place
 alike r place ToLocal ToLocal e = refl
 alike r place ToRemote ToRemote e = refl
-alike r place (ToHtlc g) (ToHtlc h) e = ap (λ (f : CheckedScript). record (claim_on_htlc r.keys g place) { form = f }) e
+alike r place (ToHtlc g) (ToHtlc h) e = ap (λ (f : CheckedScript). record (claim_on_htlc r.channel_type r.keys g place) { form = f }) e
 alike r place ToLocal ToRemote e = absurd (if_dup (first_of (known_form r ToLocal) (known_form r ToRemote) e))
 alike r place ToRemote ToLocal e = absurd (if_dup (sym (first_of (known_form r ToRemote) (known_form r ToLocal) e)))
 alike r place ToLocal (ToHtlc h) e =
-    absurd (if_dup (first_of (known_form r ToLocal) (form_of_htlc r.keys h) e ∙ dup_first r.keys h.direction h.hash h.expiry.height))
+    absurd (if_dup (first_of (known_form r ToLocal) (form_of_htlc r.channel_type r.keys h) e ∙ dup_first r.channel_type r.keys h.direction h.hash h.expiry.height))
 alike r place (ToHtlc h) ToLocal e =
-    absurd (if_dup (sym (first_of (form_of_htlc r.keys h) (known_form r ToLocal) e) ∙ dup_first r.keys h.direction h.hash h.expiry.height))
+    absurd (if_dup (sym (first_of (form_of_htlc r.channel_type r.keys h) (known_form r ToLocal) e) ∙ dup_first r.channel_type r.keys h.direction h.hash h.expiry.height))
 alike r place ToRemote (ToHtlc h) e =
-    absurd (verify_equal (fourth_of (known_form r ToRemote) (form_of_htlc r.keys h) e ∙ equal_fourth r.keys h.direction h.hash h.expiry.height))
+    absurd (verify_equal (fourth_of (known_form r ToRemote) (form_of_htlc r.channel_type r.keys h) e ∙ equal_fourth r.channel_type r.keys h.direction h.hash h.expiry.height))
 alike r place (ToHtlc h) ToRemote e =
-    absurd (verify_equal (sym (fourth_of (form_of_htlc r.keys h) (known_form r ToRemote) e) ∙ equal_fourth r.keys h.direction h.hash h.expiry.height))
+    absurd (verify_equal (sym (fourth_of (form_of_htlc r.channel_type r.keys h) (known_form r ToRemote) e) ∙ equal_fourth r.channel_type r.keys h.direction h.hash h.expiry.height))
 
 -- an output of the commitment is among the known ones, with this program and this claim
 record IsKnown (r : RevokedParts) (program : List ℕ) (place : Place) (claim : Claimable) : Type 0 where
@@ -120,12 +126,12 @@ found_of r program place claim s k =
     record { known = h.one; found = h.found; claim_is = alike r place h.one k.known (s h.one k.known h.among k.among same) ∙ k.claim_is }
 
 -- the model's programs are those of the forms
-local_program : (k : KeyBytes) (delay_blocks : ℕ) (htlcs : List RevokedHtlc)
-    → known_program (record { keys = k; delay_blocks = delay_blocks; htlcs = htlcs }) ToLocal ≡ script_hash_program (to_local_script delay_blocks k)
+local_program : (t : ChannelType) (k : KeyBytes) (delay_blocks : ℕ) (htlcs : List RevokedHtlc)
+    → known_program (record { channel_type = t; keys = k; delay_blocks = delay_blocks; htlcs = htlcs }) ToLocal ≡ script_hash_program (to_local_script delay_blocks k)
 unfolding to_local_script
-local_program k delay_blocks htlcs = refl
+local_program t k delay_blocks htlcs = refl
 
-same_form : (k : KeyBytes) (direction : Direction) (h : Htlc) → form_by k direction h.hash h.expiry_height ≡ penalty_form k direction h
+same_form : (k : KeyBytes) (direction : Direction) (h : Htlc) → form_by StaticRemoteKey k direction h.hash h.expiry_height ≡ penalty_form k direction h
 same_form k Offered h = refl
 same_form k Received h = refl
 
@@ -134,9 +140,9 @@ unfolding htlc_script
 same_script k Offered h = refl
 same_script k Received h = refl
 
-module _ (r : RevokedParts) (c : Contents) (keys : r.keys ≡ c.keys) (delay : r.delay_blocks ≡ c.delay_blocks) where
+module _ (r : RevokedParts) (c : Contents) (type_is : r.channel_type ≡ StaticRemoteKey) (keys : r.keys ≡ c.keys) (delay : r.delay_blocks ≡ c.delay_blocks) where
   of_local : known_program r ToLocal ≡ penalty_program c.delay_blocks c.keys PaysLocal
-  of_local = local_program r.keys r.delay_blocks r.htlcs ∙ ap (λ k. script_hash_program (to_local_script r.delay_blocks k)) keys ∙ ap (λ n. script_hash_program (to_local_script n c.keys)) delay
+  of_local = local_program r.channel_type r.keys r.delay_blocks r.htlcs ∙ ap (λ k. script_hash_program (to_local_script r.delay_blocks k)) keys ∙ ap (λ n. script_hash_program (to_local_script n c.keys)) delay
 
   local_is : (place : Place) → claim_on r ToLocal place ≡ penalty_on c place
   local_is place = ap (λ k. claim_on_to_local k r.delay_blocks place) keys ∙ ap (λ n. claim_on_to_local c.keys n place) delay
@@ -147,21 +153,22 @@ module _ (r : RevokedParts) (c : Contents) (keys : r.keys ≡ c.keys) (delay : r
   remote_is : (place : Place) → claim_on r ToRemote place ≡ payment_on c place
   remote_is place = ap (λ k. claim_on_to_remote k place) keys
 
-  form_is : (x : RevokedHtlc) (direction : Direction) (h : Htlc) → x.direction ≡ direction → x.hash ≡ h.hash → x.expiry.height ≡ h.expiry_height → form_of_htlc r.keys x ≡ penalty_form c.keys direction h
+  form_is : (x : RevokedHtlc) (direction : Direction) (h : Htlc) → x.direction ≡ direction → x.hash ≡ h.hash → x.expiry.height ≡ h.expiry_height → form_of_htlc r.channel_type r.keys x ≡ penalty_form c.keys direction h
   form_is x direction h e f g =
-      ap (λ k. form_by k x.direction x.hash x.expiry.height) keys
-      ∙ ap (λ d. form_by c.keys d x.hash x.expiry.height) e
-      ∙ ap (λ b. form_by c.keys direction b x.expiry.height) f
-      ∙ ap (λ n. form_by c.keys direction h.hash n) g
+      ap (λ t. form_by t r.keys x.direction x.hash x.expiry.height) type_is
+      ∙ ap (λ k. form_by StaticRemoteKey k x.direction x.hash x.expiry.height) keys
+      ∙ ap (λ d. form_by StaticRemoteKey c.keys d x.hash x.expiry.height) e
+      ∙ ap (λ b. form_by StaticRemoteKey c.keys direction b x.expiry.height) f
+      ∙ ap (λ n. form_by StaticRemoteKey c.keys direction h.hash n) g
       ∙ same_form c.keys direction h
 
-  of_htlc : (x : RevokedHtlc) (direction : Direction) (h : Htlc) → form_of_htlc r.keys x ≡ penalty_form c.keys direction h → known_program r (ToHtlc x) ≡ penalty_program c.delay_blocks c.keys (PaysHtlc direction h)
+  of_htlc : (x : RevokedHtlc) (direction : Direction) (h : Htlc) → form_of_htlc r.channel_type r.keys x ≡ penalty_form c.keys direction h → known_program r (ToHtlc x) ≡ penalty_program c.delay_blocks c.keys (PaysHtlc direction h)
   of_htlc x direction h e = ap (λ (f : CheckedScript). script_hash_program (spelling f.ops)) e ∙ ap script_hash_program (sym (same_script c.keys direction h))
 
-  htlc_is : (x : RevokedHtlc) (direction : Direction) (h : Htlc) (place : Place) → form_of_htlc r.keys x ≡ penalty_form c.keys direction h → claim_on r (ToHtlc x) place ≡ htlc_penalty_on c direction h place
+  htlc_is : (x : RevokedHtlc) (direction : Direction) (h : Htlc) (place : Place) → form_of_htlc r.channel_type r.keys x ≡ penalty_form c.keys direction h → claim_on r (ToHtlc x) place ≡ htlc_penalty_on c direction h place
   htlc_is x direction h place e =
-      ap (λ k. claim_on_htlc k x place) keys
-      ∙ ap (λ (f : CheckedScript). record (claim_on_htlc c.keys x place) { form = f }) (ap (λ k. form_of_htlc k x) (sym keys) ∙ e)
+      ap (λ k. claim_on_htlc r.channel_type k x place) keys
+      ∙ ap (λ (f : CheckedScript). record (claim_on_htlc r.channel_type c.keys x place) { form = f }) (ap (λ k. form_of_htlc r.channel_type k x) (sym keys) ∙ e)
 
   -- the claim on an output while no HTLC transaction is on the chain
   abbrev stage : Place → OutputKind → Claimable
@@ -180,7 +187,7 @@ module _ (r : RevokedParts) (c : Contents) (keys : r.keys ≡ c.keys) (delay : r
   known_of i place program PaysRemote rest a e = record { known = ToRemote; among = (1, omega arith, refl); program_is = of_remote ∙ sym e; claim_is = remote_is place }
   known_of i place program (PaysHtlc direction h) rest a e =
       let x : RevokedHtlc = a.0.htlc in
-      let f : form_of_htlc r.keys x ≡ penalty_form c.keys direction h = form_is x direction h a.0.direction a.0.hash a.0.expiry in
+      let f : form_of_htlc r.channel_type r.keys x ≡ penalty_form c.keys direction h = form_is x direction h a.0.direction a.0.hash a.0.expiry in
       record {
         known = ToHtlc x;
         among = deeper ToLocal (ToRemote ∷ map ToHtlc r.htlcs) (ToHtlc x) (deeper ToRemote (map ToHtlc r.htlcs) (ToHtlc x) (at_htlcs r.htlcs x a.0.among));
@@ -236,16 +243,16 @@ pub reads : ReadsCommitments
 reads s r k alone =
     let c = commitment_in s in
     let stand = recursion_from_All (λ o. IsOutput c.delay_blocks c.keys o) c.outputs (outputs_stand s.terms s.view s.owner s.number (point_of s.secret) (state_pays s)).each in (
-      ap (claimed_from r (transaction_of c) 0) (outputs_of_transaction c) ∙ reads_from r c k.keys k.delay alone 0 c.outputs stand k.htlcs,
-      ap (others_from r 0) (outputs_of_transaction c) ∙ none_from r c k.keys k.delay alone 0 c.outputs stand k.htlcs,
+      ap (claimed_from r (transaction_of c) 0) (outputs_of_transaction c) ∙ reads_from r c k.channel_type k.keys k.delay alone 0 c.outputs stand k.htlcs,
+      ap (others_from r 0) (outputs_of_transaction c) ∙ none_from r c k.channel_type k.keys k.delay alone 0 c.outputs stand k.htlcs,
     )
 
-one_claim : (r : RevokedParts) (c : Contents) (t : Transaction) (o : Output) → r.keys ≡ c.keys → r.delay_blocks ≡ c.delay_blocks → output_with r o.script ≡ Some ToLocal
+one_claim : (r : RevokedParts) (c : Contents) (t : Transaction) (o : Output) → r.channel_type ≡ StaticRemoteKey → r.keys ≡ c.keys → r.delay_blocks ≡ c.delay_blocks → output_with r o.script ≡ Some ToLocal
     → claimed_from r t 0 (o ∷ []) ≡ penalty_on c (place_in t 0 o) ∷ []
 unfolding claimed_from
-one_claim r c t o keys delay e =
+one_claim r c t o type_is keys delay e =
     ap (λ (x : Option RevokedOutput). cons_option (option_map (λ k. claim_on r k (place_in t 0 o)) x) []) e
-    ∙ ap (λ x. x ∷ []) (local_is r c keys delay (place_in t 0 o))
+    ∙ ap (λ x. x ∷ []) (local_is r c type_is keys delay (place_in t 0 o))
 
 no_other : (r : RevokedParts) (o : Output) → output_with r o.script ≡ Some ToLocal → others_from r 0 (o ∷ []) ≡ []
 unfolding others_from
@@ -254,7 +261,7 @@ no_other r o e = ap (λ x. cons_option (unless_found x 0) []) e
 pub reads_htlc_tx : ReadsHtlcTransactions
 reads_htlc_tx s r h k =
     let c = commitment_in s in
-    let f = htlc_tx_found r c k.keys k.delay h in (
-      ap (claimed_from r (htlc_tx_of c h) 0) (outputs_of_htlc_tx c h) ∙ one_claim r c (htlc_tx_of c h) (htlc_tx_output c h) k.keys k.delay f,
+    let f = htlc_tx_found r c k.channel_type k.keys k.delay h in (
+      ap (claimed_from r (htlc_tx_of c h) 0) (outputs_of_htlc_tx c h) ∙ one_claim r c (htlc_tx_of c h) (htlc_tx_output c h) k.channel_type k.keys k.delay f,
       ap (others_from r 0) (outputs_of_htlc_tx c h) ∙ no_other r (htlc_tx_output c h) f,
     )

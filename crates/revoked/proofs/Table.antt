@@ -11,6 +11,7 @@ use Rattle.std.proofs.lemmas.Slice.Eq.{bytes_eq-Decides}
 use Rattle.sha2.proofs.Facts256.{length-sha256}
 use Rattle.script.specs.Spelling.{spelling}
 use Rattle.sighash.specs.Programs.{script_hash_program}
+use Rattle.anchor_forms.specs.declared.channel_types.ChannelType.{ChannelType}
 use Rattle.commit.specs.Keys.{KeyBytes}
 use Rattle.revoked.specs.declared.outputs.RevokedHtlc.{RevokedHtlc}
 use Rattle.revoked.specs.declared.outputs.RevokedOutput.{RevokedOutput}
@@ -44,13 +45,13 @@ split : {V : Type 0} (xs : List V) (i : ℕ) (d x : V) → i < length xs → x �
 split xs i d x h e = rw (add-one, e) (drop-cons xs i d h)
 
 -- one more is noted: what the table has, then what is left, is the whole
-pub next : (k : KeyBytes) (old new : List ℕ → Option RevokedHtlc) (hs : List RevokedHtlc) (i : ℕ) (d x : RevokedHtlc) → i < length hs → x ≡ get_or hs i d
-    → ((p : List ℕ) → new p ≡ option_or (old p) (htlc_with k (x ∷ []) p))
-    → (p : List ℕ) → option_or (new p) (htlc_with k (drop (i + 1) hs) p) ≡ option_or (old p) (htlc_with k (drop i hs) p)
-next k old new hs i d x b e u p =
-    ap (λ o. option_or o (htlc_with k (drop (i + 1) hs) p)) (u p)
-    ∙ moved (old p) (bytes_eq (htlc_program k x) p) x (htlc_with k (drop (i + 1) hs) p)
-    ∙ ap (λ (xs : List RevokedHtlc). option_or (old p) (htlc_with k xs p)) (sym (split hs i d x b e))
+pub next : (t : ChannelType) (k : KeyBytes) (old new : List ℕ → Option RevokedHtlc) (hs : List RevokedHtlc) (i : ℕ) (d x : RevokedHtlc) → i < length hs → x ≡ get_or hs i d
+    → ((p : List ℕ) → new p ≡ option_or (old p) (htlc_with t k (x ∷ []) p))
+    → (p : List ℕ) → option_or (new p) (htlc_with t k (drop (i + 1) hs) p) ≡ option_or (old p) (htlc_with t k (drop i hs) p)
+next t k old new hs i d x b e u p =
+    ap (λ o. option_or o (htlc_with t k (drop (i + 1) hs) p)) (u p)
+    ∙ moved (old p) (bytes_eq (htlc_program t k x) p) x (htlc_with t k (drop (i + 1) hs) p)
+    ∙ ap (λ (xs : List RevokedHtlc). option_or (old p) (htlc_with t k xs p)) (sym (split hs i d x b e))
 
 length-program : (script : List ℕ) → length (script_hash_program script) ≡ 34
 unfolding script_hash_program
@@ -64,18 +65,18 @@ not_it a p l n = at (bytes_eq a p) refl
     at true e = absurd (n (ap length (sym ((bytes_eq-Decides a p).0 e)) ∙ l))
 
 -- bytes that are not 34 are no HTLC's program
-pub of_no_htlc : (k : KeyBytes) (hs : List RevokedHtlc) (p : List ℕ) → length p ≢ 34 → htlc_with k hs p ≡ None
-of_no_htlc k [] p n = refl
-of_no_htlc k (h ∷ hs) p n =
-    ap (λ t. cond t (Some h) (htlc_with k hs p)) (not_it (htlc_program k h) p (length-program (spelling (form_of_htlc k h).ops)) n)
-    ∙ of_no_htlc k hs p n
+pub of_no_htlc : (t : ChannelType) (k : KeyBytes) (hs : List RevokedHtlc) (p : List ℕ) → length p ≢ 34 → htlc_with t k hs p ≡ None
+of_no_htlc t k [] p n = refl
+of_no_htlc t k (h ∷ hs) p n =
+    ap (λ b. cond b (Some h) (htlc_with t k hs p)) (not_it (htlc_program t k h) p (length-program (spelling (form_of_htlc t k h).ops)) n)
+    ∙ of_no_htlc t k hs p n
 
-mapped : (r : RevokedParts) (p : List ℕ) (hs : List RevokedHtlc) → find (λ o. bytes_eq (known_program r o) p) (map ToHtlc hs) ≡ option_map ToHtlc (htlc_with r.keys hs p)
+mapped : (r : RevokedParts) (p : List ℕ) (hs : List RevokedHtlc) → find (λ o. bytes_eq (known_program r o) p) (map ToHtlc hs) ≡ option_map ToHtlc (htlc_with r.channel_type r.keys hs p)
 mapped r p [] = refl
-mapped r p (h ∷ hs) = at (bytes_eq (htlc_program r.keys h) p) (mapped r p hs)
+mapped r p (h ∷ hs) = at (bytes_eq (htlc_program r.channel_type r.keys h) p) (mapped r p hs)
   where
-    at : (b : Bool) → find (λ o. bytes_eq (known_program r o) p) (map ToHtlc hs) ≡ option_map ToHtlc (htlc_with r.keys hs p)
-        → cond b (Some (ToHtlc h)) (find (λ o. bytes_eq (known_program r o) p) (map ToHtlc hs)) ≡ option_map ToHtlc (cond b (Some h) (htlc_with r.keys hs p))
+    at : (b : Bool) → find (λ o. bytes_eq (known_program r o) p) (map ToHtlc hs) ≡ option_map ToHtlc (htlc_with r.channel_type r.keys hs p)
+        → cond b (Some (ToHtlc h)) (find (λ o. bytes_eq (known_program r o) p) (map ToHtlc hs)) ≡ option_map ToHtlc (cond b (Some h) (htlc_with r.channel_type r.keys hs p))
     at true e = refl
     at false e = e
 
@@ -92,7 +93,7 @@ is_to_remote r p e f =
     ∙ ap (λ t. cond t (Some ToRemote) (find (λ o. bytes_eq (known_program r o) p) (map ToHtlc r.htlcs))) f
 
 pub is_of_htlcs : (r : RevokedParts) (p : List ℕ) (o : Option RevokedHtlc) → bytes_eq (known_program r ToLocal) p ≡ false → bytes_eq (known_program r ToRemote) p ≡ false
-    → o ≡ htlc_with r.keys r.htlcs p → output_with r p ≡ option_map ToHtlc o
+    → o ≡ htlc_with r.channel_type r.keys r.htlcs p → output_with r p ≡ option_map ToHtlc o
 unfolding output_with
 is_of_htlcs r p o e f g =
     ap (λ t. cond t (Some ToLocal) (cond (bytes_eq (known_program r ToRemote) p) (Some ToRemote) (find (λ o. bytes_eq (known_program r o) p) (map ToHtlc r.htlcs)))) e
@@ -100,13 +101,13 @@ is_of_htlcs r p o e f g =
     ∙ mapped r p r.htlcs ∙ ap (option_map ToHtlc) (sym g)
 
 -- the table's answer is that of a search along the list, whatever the length
-pub looked_up : (k : KeyBytes) (hs : List RevokedHtlc) (p : List ℕ) (noted : List ℕ → Option RevokedHtlc) (o : Option RevokedHtlc)
-    → ((q : List ℕ) → noted q ≡ htlc_with k hs q) → (length p ≡ 34 → o ≡ noted p) → (length p ≢ 34 → o ≡ None) → o ≡ htlc_with k hs p
-looked_up k hs p noted o n a b = at (eqb (length p) 34) refl
+pub looked_up : (t : ChannelType) (k : KeyBytes) (hs : List RevokedHtlc) (p : List ℕ) (noted : List ℕ → Option RevokedHtlc) (o : Option RevokedHtlc)
+    → ((q : List ℕ) → noted q ≡ htlc_with t k hs q) → (length p ≡ 34 → o ≡ noted p) → (length p ≢ 34 → o ≡ None) → o ≡ htlc_with t k hs p
+looked_up t k hs p noted o n a b = at (eqb (length p) 34) refl
   where
-    at : (t : Bool) → t ≡ eqb (length p) 34 → o ≡ htlc_with k hs p
+    at : (b : Bool) → b ≡ eqb (length p) 34 → o ≡ htlc_with t k hs p
     at true e = a (true-eqb (length p) 34 e) ∙ n p
-    at false e = b (false-eqb (length p) 34 e) ∙ sym (of_no_htlc k hs p (false-eqb (length p) 34 e))
+    at false e = b (false-eqb (length p) 34 e) ∙ sym (of_no_htlc t k hs p (false-eqb (length p) 34 e))
 
 -- what a search finds passes the test
 passes : {X : Type 0} (test : X → Bool) (xs : List X) (x : X) → find test xs ≡ Some x → test x ≡ true

@@ -7,6 +7,7 @@ use Rattle.digest.specs.Hash.{Collide}
 use Rattle.script.specs.Spelling.{spelling}
 use Rattle.tx.specs.Parts.{Output}
 use Rattle.tx.specs.Fields.{Transaction}
+use Rattle.anchor_forms.specs.declared.channel_types.ChannelType.TheVariants.{StaticRemoteKey}
 use Rattle.commit.specs.declared.outputs.HtlcOutput.{HtlcOutput}
 use Rattle.commit.specs.Commitments.{Contents, transaction_of, htlcs_of, htlc_tx_of}
 use Rattle.penalty.specs.declared.states.RevokedState.{RevokedState}
@@ -61,8 +62,9 @@ pub record IsAmong (htlcs : List RevokedHtlc) (h : HtlcOutput) : Type 0 where
   pub hash : htlc.hash ≡ h.htlc.hash
   pub expiry : htlc.expiry.height ≡ h.htlc.expiry_height
 
--- these are the keys and the delay of a commitment, and each of its HTLCs is among those that are known
+-- these are the keys and the delay of a commitment, which has no anchors, and each of its HTLCs is among those that are known
 pub record KnowsAll (r : RevokedParts) (c : Contents) : Type 0 where
+  pub channel_type : r.channel_type ≡ StaticRemoteKey
   pub keys : r.keys ≡ c.keys
   pub delay : r.delay_blocks ≡ c.delay_blocks
   pub htlcs : AllByRecursion (IsAmong r.htlcs) (htlcs_of c)
@@ -80,7 +82,7 @@ SharingCollides =
     → (known_form r a ≡ known_form r b)
     ⊎ Collide sha256 (spelling (known_form r a).ops) (spelling (known_form r b).ops)
 
--- all of a revoked commitment is claimed, as the penalty claims it while none of its HTLC transactions is on the chain
+-- all of a revoked commitment without anchors is claimed, as the penalty claims it while none of its HTLC transactions is on the chain
 abbrev pub ReadsCommitments : Type 0
 ReadsCommitments =
     (s : RevokedState) (r : RevokedParts) → KnowsAll r (commitment_in s) → SharesNoProgram r

@@ -11,6 +11,7 @@ ghost use Rattle.revoked.specs.Programs.{htlc_program, known_program, claim_on_t
 use crate::commitments::Revoked;
 use crate::outputs::{RevokedHtlc, RevokedOutput};
 use crate::scripts::htlc_script;
+use anchor_forms::{ChannelPatterns, ChannelType, htlc_penalty};
 use claim::{Claim, Place, Shell};
 use commit::CommitmentKeys;
 use forms::{ClaimKind, Patterns, key_hash};
@@ -64,29 +65,24 @@ fn claim_on_to_remote(
 // The claim on an HTLC's output, by the revocation key.
 fn claim_on_htlc(
     alloc: Global,
-    patterns: &Patterns,
+    patterns: &ChannelPatterns,
+    channel_type: ChannelType,
     keys: &CommitmentKeys,
     htlc: &RevokedHtlc,
     place: Place,
 ) -> Result<Claim, AllocError>
-    requires { place.program ≡ htlc_program (bytes_of keys.now) htlc.now }
-    ensures { IfOk result (IsClaimOn (claim_on_htlc (bytes_of keys.now) htlc.now place)) }
+    requires { place.program ≡ htlc_program channel_type (bytes_of keys.now) htlc.now }
+    ensures { IfOk result (IsClaimOn (claim_on_htlc channel_type
+        (bytes_of keys.now) htlc.now place)) }
 {
-    let revocation = keys.revocation;
-    let checked = htlc_script(alloc, patterns, keys, htlc)?;
-    claim_of(
-        alloc,
-        &ClaimKind::HtlcPenalty { revocation },
-        checked,
-        place,
-        Shell::Open,
-    )
+    let checked = htlc_script(alloc, patterns, channel_type, keys, htlc)?;
+    htlc_penalty(alloc, &keys.revocation, checked, place)
 }
 
 /// The claim on an output of the commitment. The only error is that memory ran out.
 pub(crate) fn claim_on(
     alloc: Global,
-    patterns: &Patterns,
+    patterns: &ChannelPatterns,
     revoked: &Revoked,
     output: &RevokedOutput,
     place: Place,
@@ -97,9 +93,11 @@ pub(crate) fn claim_on(
     let keys = revoked.keys();
     match output {
         RevokedOutput::ToLocal => {
-            claim_on_to_local(alloc, patterns, keys, revoked.delay_blocks(), place)
+            claim_on_to_local(alloc, &patterns.forms, keys, revoked.delay_blocks(), place)
         }
-        RevokedOutput::ToRemote => claim_on_to_remote(alloc, patterns, keys, place),
-        RevokedOutput::ToHtlc(htlc) => claim_on_htlc(alloc, patterns, keys, htlc, place),
+        RevokedOutput::ToRemote => claim_on_to_remote(alloc, &patterns.forms, keys, place),
+        RevokedOutput::ToHtlc(htlc) => {
+            claim_on_htlc(alloc, patterns, revoked.channel_type(), keys, htlc, place)
+        }
     }
 }

@@ -4,18 +4,19 @@ ghost use Rattle.std.specs.Prelude.{◌≡◌, IfOk};
 
 use crate::outputs::{RevokedHtlc, RevokedOutput};
 use crate::scripts::{by_programs, htlc_of, to_local_program};
+use anchor_forms::{ChannelPatterns, ChannelType};
 use commit::CommitmentKeys;
-use forms::Patterns;
 use lists::{ByteString, List};
 use sighash::programs::key_hash_program;
 use std::alloc::{AllocError, Global};
 use std::collections::BTreeMap;
 use std::marker::Model;
 
-/// A revoked commitment, as far as its peer has to know it: the keys of its outputs, its delay and its HTLCs. The programs of its outputs are kept in a
+/// A revoked commitment, as far as its peer has to know it: the type of its channel, the keys of its outputs, its delay and its HTLCs. The programs of its outputs are kept in a
 /// table, so that an output is found in a time logarithmic in the number of HTLCs. A contract sees it as these parts.
 #[derive(Drop)]
 pub struct Revoked {
+    channel_type: ChannelType,
     keys: CommitmentKeys,
     delay_blocks: u16,
     htlcs: List<RevokedHtlc>,
@@ -35,12 +36,14 @@ impl Model for Revoked {
     ghost Value = { RevokedParts };
 
     ghost view = { λ a. record {
+      channel_type = a.channel_type;
       keys = bytes_of a.keys;
       delay_blocks = a.delay_blocks;
       htlcs = a.htlcs;
     } };
 
     ghost invariant = { λ a. HasPrograms (record {
+      channel_type = a.channel_type;
       keys = bytes_of a.keys;
       delay_blocks = a.delay_blocks;
       htlcs = a.htlcs;
@@ -53,25 +56,28 @@ impl Revoked {
     ghost use Rattle.commit.specs.Keys.{bytes_of};
     ghost use Rattle.revoked.specs.Programs.{output_with};
 
-    /// The commitment with these keys, the delay of to_local and of HTLC transactions' outputs in blocks, and these HTLCs. The HTLCs may come in any order,
+    /// The commitment in a channel of this type with these keys, the delay of to_local and of HTLC transactions' outputs in blocks, and these HTLCs. The HTLCs may come in any order,
     /// and may be more than its outputs. The script of each is built once. The only error is that memory ran out.
     pub fn new(
         alloc: Global,
-        patterns: &Patterns,
+        patterns: &ChannelPatterns,
+        channel_type: ChannelType,
         keys: CommitmentKeys,
         delay_blocks: u16,
         htlcs: Vec<RevokedHtlc>,
     ) -> Result<Revoked, AllocError>
         ensures { IfOk result (λ r. r ≡ record {
+          channel_type = channel_type;
           keys = bytes_of keys;
           delay_blocks = delay_blocks;
           htlcs = htlcs.items;
         }) }
     {
-        let to_local = to_local_program(alloc, patterns, &keys, delay_blocks)?;
+        let to_local = to_local_program(alloc, &patterns.forms, &keys, delay_blocks)?;
         let to_remote = key_hash_program(alloc, &keys.remote.bytes)?;
-        let by_program = by_programs(alloc, patterns, &keys, htlcs.as_slice())?;
+        let by_program = by_programs(alloc, patterns, channel_type, &keys, htlcs.as_slice())?;
         Ok(Revoked {
+            channel_type,
             keys,
             delay_blocks,
             htlcs: List::from_vec(htlcs),
@@ -79,6 +85,13 @@ impl Revoked {
             to_remote,
             by_program,
         })
+    }
+
+    /// The type of its channel.
+    pub fn channel_type(&self) -> ChannelType
+        ensures { result ≡ self.now.channel_type }
+    {
+        self.channel_type
     }
 
     /// The keys of its outputs.

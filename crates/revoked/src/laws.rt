@@ -10,7 +10,7 @@ pub fn nothing_is_left_out()
     ensures on_outputs { EachClaimIsOnItsOutput }
 {}
 
-/// On the commitment of a revoked state these are the penalty's claims on its outputs, and on each of its HTLC transactions the penalty's claim on its output. No
+/// On the commitment of a revoked state, which has no anchors, these are the penalty's claims on its outputs, and on each of its HTLC transactions the penalty's claim on its output. No
 /// output is named. Of the commitment this holds unless two different scripts have one program, which by `sharing_collides` is a collision of SHA-256.
 pub fn reads_commitments()
     ensures commitments { ReadsCommitments }

@@ -19,7 +19,7 @@ pub struct RevokedHtlc {
 pub enum RevokedOutput {
     /// To the owner, after the delay. The output of an HTLC transaction has the same script.
     ToLocal,
-    /// To the owner's peer.
+    /// To the owner's peer: the hash of its payment key. With anchors to_remote has another script, which is not known.
     ToRemote,
     /// An HTLC that isn't trimmed.
     ToHtlc(RevokedHtlc),

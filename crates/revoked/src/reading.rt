@@ -11,8 +11,8 @@ ghost use Rattle.revoked.specs.Reading.{claim_at, unless_found, claimed_in, othe
 
 use crate::claiming::claim_on;
 use crate::commitments::Revoked;
+use anchor_forms::ChannelPatterns;
 use claim::{Claim, Place};
-use forms::Patterns;
 use lists::List;
 use std::alloc::{AllocError, Global};
 use tx::hashing::txid;
@@ -30,7 +30,7 @@ pub struct Found {
 // Appends the claim on an output that stands at an outpoint, if its program is the commitment's.
 fn push_claim(
     alloc: Global,
-    patterns: &Patterns,
+    patterns: &ChannelPatterns,
     revoked: &Revoked,
     outpoint: OutPoint,
     output: &TxOut,
@@ -60,7 +60,7 @@ fn push_claim(
 // The claims on the outputs of a transaction.
 fn claims_on_outputs(
     alloc: Global,
-    patterns: &Patterns,
+    patterns: &ChannelPatterns,
     revoked: &Revoked,
     tx: &Tx,
 ) -> Result<List<Claim>, AllocError>
@@ -115,7 +115,7 @@ fn other_outputs(alloc: Global, revoked: &Revoked, tx: &Tx) -> Result<List<u32>,
 /// output is looked up in a table, so the time grows with the outputs and with the logarithm of the number of HTLCs. The only error is that memory ran out.
 pub fn claims_in(
     alloc: Global,
-    patterns: &Patterns,
+    patterns: &ChannelPatterns,
     revoked: &Revoked,
     tx: &Tx,
 ) -> Result<Found, AllocError>

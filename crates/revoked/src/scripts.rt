@@ -12,8 +12,9 @@ ghost use Rattle.commit.specs.Keys.{bytes_of};
 ghost use Rattle.revoked.specs.Programs.{form_of_htlc, htlc_program, htlc_with};
 
 use crate::outputs::RevokedHtlc;
+use anchor_forms::{ChannelPatterns, ChannelType, HtlcKeys, offered, received};
 use commit::{CommitmentKeys, Direction};
-use forms::{HtlcKeys, Patterns, offered, received};
+use forms::Patterns;
 use lists::ByteString;
 use paths::Checked;
 use penalty::claiming::to_local_script;
@@ -27,11 +28,12 @@ const PROGRAM_LENGTH: usize = 34;
 /// The script of an HTLC's output. The only error is that memory ran out.
 pub(crate) fn htlc_script(
     alloc: Global,
-    patterns: &Patterns,
+    patterns: &ChannelPatterns,
+    channel_type: ChannelType,
     keys: &CommitmentKeys,
     htlc: &RevokedHtlc,
 ) -> Result<Checked, AllocError>
-    ensures { IfOk result (λ s. s ≡ form_of_htlc (bytes_of keys.now) htlc.now) }
+    ensures { IfOk result (λ s. s ≡ form_of_htlc channel_type (bytes_of keys.now) htlc.now) }
 {
     let htlc_keys = HtlcKeys {
         revocation: keys.revocation,
@@ -39,8 +41,15 @@ pub(crate) fn htlc_script(
         local: keys.local_htlc,
     };
     match htlc.direction {
-        Direction::Offered => offered(alloc, patterns, &htlc_keys, &htlc.hash),
-        Direction::Received => received(alloc, patterns, &htlc_keys, &htlc.hash, htlc.expiry),
+        Direction::Offered => offered(alloc, patterns, channel_type, &htlc_keys, &htlc.hash),
+        Direction::Received => received(
+            alloc,
+            patterns,
+            channel_type,
+            &htlc_keys,
+            &htlc.hash,
+            htlc.expiry,
+        ),
     }
 }
 
@@ -69,13 +78,14 @@ pub(crate) fn to_local_program(
 // The program of an HTLC's output.
 fn htlc_program(
     alloc: Global,
-    patterns: &Patterns,
+    patterns: &ChannelPatterns,
+    channel_type: ChannelType,
     keys: &CommitmentKeys,
     htlc: &RevokedHtlc,
 ) -> Result<[u8; PROGRAM_LENGTH], AllocError>
-    ensures { IfOk result (λ p. p ≡ htlc_program (bytes_of keys.now) htlc.now) }
+    ensures { IfOk result (λ p. p ≡ htlc_program channel_type (bytes_of keys.now) htlc.now) }
 {
-    let script = htlc_script(alloc, patterns, keys, htlc)?;
+    let script = htlc_script(alloc, patterns, channel_type, keys, htlc)?;
     let program = program_of(alloc, &script)?;
     let mut key = [0; PROGRAM_LENGTH];
     key.copy_from_slice(program.bytes());
@@ -85,16 +95,17 @@ fn htlc_program(
 // Notes an HTLC by its program, unless another with that program is there.
 fn insert_if_new(
     alloc: Global,
-    patterns: &Patterns,
+    patterns: &ChannelPatterns,
+    channel_type: ChannelType,
     keys: &CommitmentKeys,
     by_program: &mut BTreeMap<[u8; PROGRAM_LENGTH], RevokedHtlc>,
     htlc: &RevokedHtlc,
 ) -> Result<(), AllocError>
     ensures { OnOk result ((p : Values ℕ) → get (slice_cmp nat_cmp) by_program.new p
         ≡ option_or (get (slice_cmp nat_cmp) by_program.old p)
-        (htlc_with (bytes_of keys.now) (htlc.now ∷ []) p)) }
+        (htlc_with channel_type (bytes_of keys.now) (htlc.now ∷ []) p)) }
 {
-    let program = htlc_program(alloc, patterns, keys, htlc)?;
+    let program = htlc_program(alloc, patterns, channel_type, keys, htlc)?;
     if by_program.contains_key(&program) {
         return Ok(());
     }
@@ -105,16 +116,17 @@ fn insert_if_new(
 /// HTLCs by the programs of their outputs; of those with one program the first. It builds each script once. The only error is that memory ran out.
 pub(crate) fn by_programs(
     alloc: Global,
-    patterns: &Patterns,
+    patterns: &ChannelPatterns,
+    channel_type: ChannelType,
     keys: &CommitmentKeys,
     htlcs: &[RevokedHtlc],
 ) -> Result<BTreeMap<[u8; PROGRAM_LENGTH], RevokedHtlc>, AllocError>
     ensures { IfOk result (λ m. (p : Values ℕ) → get (slice_cmp nat_cmp) m p
-        ≡ htlc_with (bytes_of keys.now) htlcs.now p) }
+        ≡ htlc_with channel_type (bytes_of keys.now) htlcs.now p) }
 {
     let mut by_program = BTreeMap::new(alloc);
     for htlc in htlcs {
-        insert_if_new(alloc, patterns, keys, &mut by_program, htlc)?;
+        insert_if_new(alloc, patterns, channel_type, keys, &mut by_program, htlc)?;
     }
     Ok(by_program)
 }

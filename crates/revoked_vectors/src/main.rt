@@ -1,8 +1,9 @@
-//! Compares `revoked` with BOLT 3, Appendix C: `stdin` is the input, and `stdout` the expected output, which an
-//! independent script wrote.
+//! Compares `revoked` with BOLT 3, Appendix C, and with its HTLCs as they are with anchors: `stdin` is the input, and
+//! `stdout` the expected output, which an independent script wrote.
 //!
-//! A line has a revoked commitment and a transaction. Its words are the commitment's five keys (revocation, delayed,
-//! local HTLC, remote HTLC, remote), its delay in blocks, the transaction without witnesses, and its HTLCs. An HTLC is
+//! A line has a revoked commitment and a transaction. Its words are the channel's type (`static_remotekey` or
+//! `anchors`), the commitment's five keys (revocation, delayed, local HTLC, remote HTLC, remote), its delay in blocks,
+//! the transaction without witnesses, and its HTLCs. An HTLC is
 //! `offered` or `received`, the payment hash and the expiry, with a colon between each two. Of each claim the program
 //! prints the index of the output, its value, the script, the path and the fills of its slots, and last the indices of
 //! the other outputs.
@@ -13,10 +14,9 @@
 mod reading;
 
 use claim::{Claim, Slot};
-use forms::{Patterns, patterns};
 use page::Page;
 use reading::{Parts, htlcs_of, parts_of, tx_of};
-use revoked::{Found, Revoked, RevokedHtlc, claims_in};
+use revoked::{ChannelPatterns, Found, Revoked, RevokedHtlc, channel_patterns, claims_in};
 use std::alloc::{AllocError, Global};
 use std::io;
 use std::process::ExitCode;
@@ -61,17 +61,30 @@ fn show_found(page: &mut Page, found: &Found) {
 /// What a revoked commitment lets claim of a transaction.
 fn found_in(
     alloc: Global,
-    patterns: &Patterns,
+    patterns: &ChannelPatterns,
     parts: &Parts,
     htlcs: Vec<RevokedHtlc>,
     tx: &Tx,
 ) -> Result<Found, AllocError> {
-    let revoked = Revoked::new(alloc, patterns, parts.keys, parts.delay_blocks, htlcs)?;
+    let revoked = Revoked::new(
+        alloc,
+        patterns,
+        parts.channel_type,
+        parts.keys,
+        parts.delay_blocks,
+        htlcs,
+    )?;
     claims_in(alloc, patterns, &revoked, tx)
 }
 
 /// Shows what a line's commitment lets claim of a transaction.
-fn show_tx(page: &mut Page, patterns: &Patterns, line: &str, htlcs: Vec<RevokedHtlc>, tx: &Tx) {
+fn show_tx(
+    page: &mut Page,
+    patterns: &ChannelPatterns,
+    line: &str,
+    htlcs: Vec<RevokedHtlc>,
+    tx: &Tx,
+) {
     let Some(parts) = parts_of(page.alloc(), line) else {
         return page.fail();
     };
@@ -82,7 +95,7 @@ fn show_tx(page: &mut Page, patterns: &Patterns, line: &str, htlcs: Vec<RevokedH
 }
 
 /// Shows what the commitment and the transaction of a line give.
-fn show_line(page: &mut Page, patterns: &Patterns, line: &str, htlcs: Vec<RevokedHtlc>) {
+fn show_line(page: &mut Page, patterns: &ChannelPatterns, line: &str, htlcs: Vec<RevokedHtlc>) {
     match tx_of(page.alloc(), line) {
         Some(tx) => show_tx(page, patterns, line, htlcs, &tx),
         None => page.fail(),
@@ -90,7 +103,7 @@ fn show_line(page: &mut Page, patterns: &Patterns, line: &str, htlcs: Vec<Revoke
 }
 
 /// Shows all lines.
-fn show_lines(page: &mut Page, patterns: &Patterns, lines: &str) {
+fn show_lines(page: &mut Page, patterns: &ChannelPatterns, lines: &str) {
     for line in lines.lines() {
         match htlcs_of(page.alloc(), line) {
             Some(htlcs) => show_line(page, patterns, line, htlcs),
@@ -101,7 +114,7 @@ fn show_lines(page: &mut Page, patterns: &Patterns, lines: &str) {
 
 /// Shows the whole input.
 fn show_input(page: &mut Page, input: &str) {
-    match patterns(page.alloc()) {
+    match channel_patterns(page.alloc()) {
         Ok(patterns) => show_lines(page, &patterns, input),
         Err(_) => page.fail(),
     }

@@ -1,17 +1,18 @@
 //! The words of a line.
 
 use keys::Key;
-use revoked::{CommitmentKeys, Direction, Expiry, RevokedHtlc};
+use revoked::{ChannelType, CommitmentKeys, Direction, Expiry, RevokedHtlc};
 use std::alloc::Global;
 use std::str::SplitWhitespace;
 use tx::{Tx, decode_stripped};
 
 /// The number of words before the transaction.
-const WORDS_BEFORE_TX: usize = 6;
+const WORDS_BEFORE_TX: usize = 7;
 
 /// What a line says of a commitment besides its HTLCs.
 #[derive(Clone, Copy)]
 pub struct Parts {
+    pub channel_type: ChannelType,
     pub keys: CommitmentKeys,
     pub delay_blocks: u16,
 }
@@ -27,7 +28,18 @@ fn key_of(alloc: Global, word: &str) -> Option<Key> {
     Key::read(&key)
 }
 
-/// The keys that the first words spell.
+/// The type of channel that a word names.
+fn channel_type_of(word: &str) -> Option<ChannelType> {
+    if word == "static_remotekey" {
+        Some(ChannelType::StaticRemoteKey)
+    } else if word == "anchors" {
+        Some(ChannelType::Anchors)
+    } else {
+        None
+    }
+}
+
+/// The keys that the next words spell.
 fn keys_of(alloc: Global, words: &mut SplitWhitespace<'_>) -> Option<CommitmentKeys> {
     Some(CommitmentKeys {
         revocation: key_of(alloc, words.next()?)?,
@@ -41,9 +53,14 @@ fn keys_of(alloc: Global, words: &mut SplitWhitespace<'_>) -> Option<CommitmentK
 /// The commitment of a line, without its HTLCs.
 pub fn parts_of(alloc: Global, line: &str) -> Option<Parts> {
     let mut words = line.split_whitespace();
+    let channel_type = channel_type_of(words.next()?)?;
     let keys = keys_of(alloc, &mut words)?;
     let delay_blocks = words.next()?.parse().ok()?;
-    Some(Parts { keys, delay_blocks })
+    Some(Parts {
+        channel_type,
+        keys,
+        delay_blocks,
+    })
 }
 
 /// The transaction that hexadecimal digits spell.

@@ -8,4 +8,4 @@ use Rattle.revoked.proofs.scripts.by_programs.Given as goal
 
 -- what the table has, then what is left, is the whole
 abbrev pub invariant-loop-htlc : goal.invariant-loop-htlc
-invariant-loop-htlc l = (p : List ℕ) → option_or (get (slice_cmp nat_cmp) l.by_program p) (htlc_with (bytes_of l.keys) (drop l.htlc-index l.htlcs) p) ≡ htlc_with (bytes_of l.keys) l.htlcs p
+invariant-loop-htlc l = (p : List ℕ) → option_or (get (slice_cmp nat_cmp) l.by_program p) (htlc_with l.channel_type (bytes_of l.keys) (drop l.htlc-index l.htlcs) p) ≡ htlc_with l.channel_type (bytes_of l.keys) l.htlcs p

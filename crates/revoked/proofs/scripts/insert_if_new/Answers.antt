@@ -16,4 +16,4 @@ returns c =
     λ p.
     c.in_ok-insert.ensures.updates.0 p
     ∙ ap (λ k. cond (is_eq (slice_cmp nat_cmp k p)) (Some x) (old p)) c.in_ok-program.ensures
-    ∙ added old x (htlc_program (bytes_of c.args.keys.now) x) p lacks
+    ∙ added old x (htlc_program c.args.channel_type (bytes_of c.args.keys.now) x) p lacks

@@ -30,7 +30,7 @@ returns-in_err-htlc c =
     is_of_htlcs r p None
     (not_local r p c.bytes.result.now c.self.inside.to_local c.bytes.ensures inv.local c.if-eq.ensures)
     (not_remote r p c.bytes-2.result.now c.self.inside.to_remote c.bytes-2.ensures inv.remote c.if-eq-2.ensures)
-    (looked_up r.keys r.htlcs p (λ q. get (slice_cmp nat_cmp) c.self.inside.by_program q) None inv.htlcs c.in_err-htlc.ensures.of_length c.in_err-htlc.ensures.of_other) in
+    (looked_up r.channel_type r.keys r.htlcs p (λ q. get (slice_cmp nat_cmp) c.self.inside.by_program q) None inv.htlcs c.in_err-htlc.ensures.of_length c.in_err-htlc.ensures.of_other) in
     let f : c.from_residual.result ≡ None = search rules in
     f ∙ sym e
 
@@ -44,4 +44,4 @@ returns c =
     (is_of_htlcs r p (Some c.in_ok-htlc.htlc)
     (not_local r p c.bytes.result.now c.self.inside.to_local c.bytes.ensures inv.local c.if-eq.ensures)
     (not_remote r p c.bytes-2.result.now c.self.inside.to_remote c.bytes-2.ensures inv.remote c.if-eq-2.ensures)
-    (looked_up r.keys r.htlcs p (λ q. get (slice_cmp nat_cmp) c.self.inside.by_program q) (Some c.in_ok-htlc.htlc) inv.htlcs c.in_ok-htlc.ensures.of_length c.in_ok-htlc.ensures.of_other))
+    (looked_up r.channel_type r.keys r.htlcs p (λ q. get (slice_cmp nat_cmp) c.self.inside.by_program q) (Some c.in_ok-htlc.htlc) inv.htlcs c.in_ok-htlc.ensures.of_length c.in_ok-htlc.ensures.of_other))
