@@ -1,0 +1,2 @@
+pub mod Caring
+mod CaringExamples
