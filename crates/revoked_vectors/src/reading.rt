@@ -39,14 +39,19 @@ fn channel_type_of(word: &str) -> Option<ChannelType> {
     }
 }
 
+/// The key that the next word spells.
+fn next_key(alloc: Global, words: &mut SplitWhitespace<'_>) -> Option<Key> {
+    key_of(alloc, words.next()?)
+}
+
 /// The keys that the next words spell.
 fn keys_of(alloc: Global, words: &mut SplitWhitespace<'_>) -> Option<CommitmentKeys> {
     Some(CommitmentKeys {
-        revocation: key_of(alloc, words.next()?)?,
-        delayed: key_of(alloc, words.next()?)?,
-        local_htlc: key_of(alloc, words.next()?)?,
-        remote_htlc: key_of(alloc, words.next()?)?,
-        remote: key_of(alloc, words.next()?)?,
+        revocation: next_key(alloc, words)?,
+        delayed: next_key(alloc, words)?,
+        local_htlc: next_key(alloc, words)?,
+        remote_htlc: next_key(alloc, words)?,
+        remote: next_key(alloc, words)?,
     })
 }
 
