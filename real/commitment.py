@@ -10,6 +10,10 @@ from transaction import hash160, sha256
 
 LOCKTIME_THRESHOLD = 500_000_000
 SIXTEEN, FIRST = 16, 0x50
+# types of channels (BOLT 9, without `option_`), the value of an anchor, and how the scripts of HTLCs end
+STATIC_REMOTEKEY, ANCHORS = CHANNEL_TYPES = ("static_remotekey", "anchors")
+ANCHOR_SAT = 330
+HTLC_ENDS = {STATIC_REMOTEKEY: b"\x68\x68", ANCHORS: b"\x68\x51\xb2\x75\x68"}
 
 
 @dataclass
@@ -61,12 +65,13 @@ def to_local_script(keys, delay_blocks):
     return b"\x63" + push(keys.revocation) + b"\x67" + number(delay_blocks) + b"\xb2\x75" + push(keys.delayed) + b"\x68\xac"
 
 
-def htlc_script(keys, htlc):
+def htlc_script(keys, htlc, channel_type=STATIC_REMOTEKEY):
+    end = HTLC_ENDS[channel_type]
     start = b"\x76\xa9" + push(hash160(keys.revocation)) + b"\x87\x63\xac\x67" + push(keys.remote_htlc) + b"\x7c\x82\x01\x20\x87"
     payment = push(ripemd160(htlc.payment_hash))
     if htlc.is_offered:
-        return start + b"\x64\x75\x52\x7c" + push(keys.local_htlc) + b"\x52\xae\x67\xa9" + payment + b"\x88\xac\x68\x68"
-    timeout = number(htlc.expiry_height) + b"\xb1\x75\xac\x68\x68"
+        return start + b"\x64\x75\x52\x7c" + push(keys.local_htlc) + b"\x52\xae\x67\xa9" + payment + b"\x88\xac" + end
+    timeout = number(htlc.expiry_height) + b"\xb1\x75\xac" + end
     return start + b"\x63\xa9" + payment + b"\x88\x52\x7c" + push(keys.local_htlc) + b"\x52\xae\x67\x75" + timeout
 
 
@@ -74,21 +79,28 @@ def program_of(script):
     return b"\x00\x20" + sha256(script)
 
 
-def known_outputs(keys, delay_blocks, htlcs):
+def named_outputs(keys, funding_keys):
+    """What an output is that is not taken from a channel with anchors, by its program, and the value that it has to have; None where it may have any."""
+    yield program_of(push(keys.remote) + b"\xad\x51\xb2"), "to_remote", None
+    for key in funding_keys:
+        yield program_of(push(key) + b"\xac\x73\x64\x60\xb2\x68"), "anchor", ANCHOR_SAT
+
+
+def known_outputs(keys, delay_blocks, htlcs, channel_type=STATIC_REMOTEKEY):
     """The outputs whose programs are known, in the order in which a program is compared with theirs."""
     script, payment = to_local_script(keys, delay_blocks), b"\x00\x14" + hash160(keys.remote)
     yield Known("to_local", program_of(script), script, [b"\x01"], keys.revocation)
     yield Known("to_remote", payment, scripts.key_script(payment), [], keys.remote)
     for it in htlcs:
-        script = htlc_script(keys, it)
+        script = htlc_script(keys, it, channel_type)
         yield Known("offered" if it.is_offered else "received", program_of(script), script, [keys.revocation], keys.revocation, it)
 
 
-def table_of(keys, delay_blocks, htlcs):
+def table_of(keys, delay_blocks, htlcs, channel_type=STATIC_REMOTEKEY):
     """What is known of an output, by its program. The script of an offered HTLC has no expiry, so those with one hash have one program, and nothing tells which output is whose: of these the HTLC that
     expires first is kept, so that no deadline is too late."""
     found = {}
-    for it in known_outputs(keys, delay_blocks, sorted(htlcs, key=lambda it: it.expiry_height)):
+    for it in known_outputs(keys, delay_blocks, sorted(htlcs, key=lambda it: it.expiry_height), channel_type):
         found.setdefault(it.program, it)
     return found
 

@@ -18,7 +18,7 @@ BASE_SIZE, MARKER_SIZE, INPUT_SIZE = 8, 2, 41
 # Bitcoin Core's default feerate for dust, and the sizes that it takes for the input that spends an output (GetDustThreshold)
 DUST_FEERATE_PER_KVB, PLAIN_INPUT_SIZE, WITNESS_INPUT_SIZE = 3_000, 148, 67
 MAX_FEERATE, MAX_HEIGHT, MAX_DELAY = 10_000_000, commitment.LOCKTIME_THRESHOLD - 1, 65_535
-MEMBERS = ("transaction", "secret", "delay_blocks", "htlcs", "bases", "destination", "feerate_per_kw", "height", "confirmed_height")
+MEMBERS = ("channel_type", "transaction", "secret", "delay_blocks", "htlcs", "bases", "funding_keys", "destination", "feerate_per_kw", "height", "confirmed_height")
 BASES = ("revocation", "payment", "htlc", "owner_delayed", "owner_htlc")
 # more HTLCs than two sides of a channel may have (BOLT 2)
 MAX_HTLCS = 966
@@ -30,11 +30,14 @@ TAKEN, TOO_LITTLE, NO_KEY = "taken", "too little to be passed on", "no key"
 class State:
     """A revoked state as it is stored, with the transaction that was seen, and how its outputs are to be taken."""
 
+    channel_type: str
     transaction: Transaction
     secret: bytes
     delay_blocks: int
     htlcs: List[commitment.Htlc]
     bases: Dict[str, bytes]
+    # both keys of the funding output, if they are told: the keys of the anchors
+    funding_keys: List[bytes]
     destination: bytes
     feerate_per_kw: int
     height: int
@@ -58,6 +61,23 @@ def read_htlc(shape):
     return commitment.Htlc(direction == "offered", shape.bytes("hash", 32), shape.number("expiry_height", MAX_HEIGHT))
 
 
+def read_channel_type(shape):
+    found = shape.member("channel_type", str, optional=True)
+    if found is None:
+        return commitment.STATIC_REMOTEKEY
+    if found not in commitment.CHANNEL_TYPES:
+        raise shape.bad("channel_type")
+    return found
+
+
+def read_funding_keys(shape):
+    """Both keys, or none."""
+    found = shape.member("funding_keys", list, optional=True) or []
+    if len(found) not in (0, 2):
+        raise shape.bad("funding_keys")
+    return [Shape({"key": it}, f"{shape.place}.funding_keys[{at}]").bytes("key", 33) for at, it in enumerate(found)]
+
+
 def read_state(given):
     """The state that a JSON text tells."""
     shape = read_object(given, "state").only(*MEMBERS)
@@ -67,11 +87,13 @@ def read_state(given):
     if len(htlcs) > MAX_HTLCS:
         raise Refused("TooManyHtlcs")
     found = State(
+        read_channel_type(shape),
         transaction,
         shape.bytes("secret", 32),
         shape.number("delay_blocks", MAX_DELAY),
         htlcs,
         {name: bases.bytes(name, 33) for name in BASES},
+        read_funding_keys(shape),
         shape.bytes("destination"),
         shape.number("feerate_per_kw", MAX_FEERATE),
         shape.number("height", MAX_HEIGHT),
@@ -86,13 +108,15 @@ def read_state(given):
 
 def deadline_of(known, state):
     """The number of next blocks in which nobody else can take an output; None where nobody else ever can. The owner takes to_local in the block that is the delay above the transaction's (BIP 68);
-    HTLC-timeout is in a block above the expiry (BIP 65); HTLC-success may be in any."""
+    HTLC-timeout is in a block above the expiry (BIP 65); HTLC-success may be in any. With anchors either is in a block above the transaction's."""
     if known.kind == "to_remote":
         return None
-    if known.kind == "to_local":
-        confirmed_height = state.height + 1 if state.confirmed_height is None else state.confirmed_height
-        return max(0, confirmed_height + state.delay_blocks - 1 - state.height)
-    return max(0, known.htlc.expiry_height - state.height) if known.kind == "offered" else 0
+    confirmed_height = state.height + 1 if state.confirmed_height is None else state.confirmed_height
+    waits = state.delay_blocks if known.kind == "to_local" else int(state.channel_type == commitment.ANCHORS)
+    first = confirmed_height + waits
+    if known.kind == "offered":
+        first = max(first, known.htlc.expiry_height + 1)
+    return max(0, first - 1 - state.height)
 
 
 def soonest(found):
@@ -110,6 +134,19 @@ def found_in(state, table):
         else:
             takes.append(Take(index, output, known))
     return takes, others
+
+
+def names_of(state, keys, others):
+    """What other outputs of a channel with anchors are: to_remote and the anchors, which are not taken here."""
+    if state.channel_type != commitment.ANCHORS:
+        return {}
+    found, named = {}, {program: (kind, value) for program, kind, value in commitment.named_outputs(keys, state.funding_keys)}
+    for index in others:
+        output = state.transaction.outputs[index]
+        kind, value = named.get(output.program, (None, None))
+        if kind is not None and value in (None, output.value):
+            found.setdefault(kind, []).append(index)
+    return {"named": found}
 
 
 def witness_of(known, signature):
@@ -205,10 +242,15 @@ def penalties(state, privates, curve, trace, is_one=False, is_legacy=False):
     for name, base in state.bases.items():
         if not curve.is_point(base):
             raise Refused(f"BadShape state.bases.{name}")
+    for at, key in enumerate(state.funding_keys):
+        if not curve.is_point(key):
+            raise Refused(f"BadShape state.funding_keys[{at}]")
+    if is_legacy and state.channel_type == commitment.ANCHORS:
+        raise Refused("BadShape state.channel_type")
     point = curve.public(state.secret)
     keys = commitment.keys_of(curve, state.bases, point, is_legacy)
     signing = commitment.privates_of(curve, state.bases, privates, state.secret, point, is_legacy)
-    takes, others = found_in(state, commitment.table_of(keys, state.delay_blocks, state.htlcs))
+    takes, others = found_in(state, commitment.table_of(keys, state.delay_blocks, state.htlcs, state.channel_type))
     # the judge lists all scripts by one call
     trace.paths([it.known.script for it in takes])
     found = {TAKEN: [], TOO_LITTLE: [], NO_KEY: []}
@@ -217,4 +259,4 @@ def penalties(state, privates, curve, trace, is_one=False, is_legacy=False):
         found[answer["answer"]] += answer["outputs"]
         yield answer
     taken, too_little, no_key = map(sorted, found.values())
-    yield {"transaction": state.transaction.txid(), "taken": taken, "too_little": too_little, "no_key": no_key, "others": others}
+    yield {"transaction": state.transaction.txid(), "taken": taken, "too_little": too_little, "no_key": no_key, "others": others, **names_of(state, keys, others)}

@@ -7,7 +7,7 @@ import derivation
 import numbering
 import punishing
 from errors import Refused
-from transaction import Output, hash160, read_transaction
+from transaction import Output, hash160, read_transaction, sha256
 
 # BOLT 3, Appendix E
 BASE_SECRET = bytes(range(32))
@@ -46,6 +46,8 @@ SHARED = (
 )
 # what inputs weigh that take an offered HTLC and to_local, with signatures of 72 bytes: 41 bytes of four units, and a witness (scripts of 133 and 77 bytes)
 OFFERED_WEIGHT, TO_LOCAL_WEIGHT = 4 * 41 + 1 + 73 + 34 + 134, 4 * 41 + 1 + 73 + 2 + 78
+# the names that the appendix gives the keys of the anchors
+FUNDING_KEYS = ("local_funding_pubkey", "remote_funding_pubkey")
 # the same of all that a transaction to the hash of a key has beside its inputs
 REST_WEIGHT = 4 * (8 + 1 + 1 + 8 + 23) + 2
 
@@ -118,9 +120,9 @@ def deadline_of(output):
     return {"to_local": 144, "to_remote": None, "received": 0, "offered": max(0, output.get("cltv_expiry", 0) - HEIGHT)}[output["kind"]]
 
 
-def check_last(count, name, found, taken=(), too_little=(), no_key=(), others=()):
+def check_last(count, name, found, taken=(), too_little=(), no_key=(), others=(), named=None):
     """What the last line says of all outputs, and that each of the lines before it has an answer that fits."""
-    wanted = {"taken": [*taken], "too_little": [*too_little], "no_key": [*no_key], "others": [*others]}
+    wanted = {"taken": [*taken], "too_little": [*too_little], "no_key": [*no_key], "others": [*others], **({} if named is None else {"named": named})}
     told = {it: value for it, value in found[-1].items() if it != "transaction"}
     count.check(told == wanted, f"{name}: {told}, and not {wanted}")
     answers = {"taken": "taken", "too_little": "too little to be passed on", "no_key": "no key"}
@@ -323,6 +325,102 @@ def check_legacy(count, told, case, curve, trace):
     count.check(found[-1]["others"] == [] and found[at]["kinds"] == ["to_remote"], f"{case['name']}: a derived remote key")
 
 
+def with_anchors(told, case):
+    """The outputs of a case's commitment as BOLT 3 has them with `option_anchors`, by the appendix's own scripts: `1 CHECKSEQUENCEVERIFY DROP` stands before the last ENDIF of an HTLC's, and to_remote
+    is `KEY CHECKSIGVERIFY 1 CHECKSEQUENCEVERIFY`. The two anchors come first: `KEY CHECKSIG IFDUP NOTIF 16 CHECKSEQUENCEVERIFY ENDIF`, each with 330 satoshis."""
+    keys = told["terms"]["keys"]
+    found = [("anchor", 330, f"21{keys[it]}ac736460b268", None) for it in FUNDING_KEYS]
+    for it in case["outputs"]:
+        script = it.get("witness_script")
+        if it["kind"] == "to_remote":
+            script = f"21{keys['remote_payment_basepoint']}ad51b2"
+        elif it["kind"] != "to_local":
+            script = f"{script[:-2]}51b275{script[-2:]}"
+        found.append((it["kind"], it["value_sat"], script, it.get("cltv_expiry")))
+    return found
+
+
+def anchored(told, case, curve, outputs, **changes):
+    """The state of a case's commitment with these outputs, in a channel with anchors."""
+    transaction = with_outputs(case, [(value, "0020" + sha256(bytes.fromhex(script)).hex()) for _, value, script, _ in outputs])
+    funding_keys = [told["terms"]["keys"][it] for it in FUNDING_KEYS]
+    return state(told, case, curve, **{"transaction": transaction, "channel_type": "anchors", "funding_keys": funding_keys, **changes})
+
+
+def places_of(outputs, *kinds):
+    return [at for at, it in enumerate(outputs) if it[0] in kinds]
+
+
+def check_anchors(count, told, case, curve, trace):
+    """With anchors each HTLC and to_local is taken by the scripts of such a channel; to_remote and the anchors are named by what they are."""
+    outputs = with_anchors(told, case)
+    mine, rest = places_of(outputs, "to_local", "offered", "received"), places_of(outputs, "to_remote", "anchor")
+    named = {"to_remote": places_of(outputs, "to_remote"), "anchor": [0, 1]}
+    given = anchored(told, case, curve, outputs)
+    found = taken(given, curve, trace)
+    check_last(count, "anchors", found, mine, others=rest, named=named)
+    for at, it in zip(mine, found):
+        kind, value, script, _ = outputs[at]
+        made = read_transaction(bytes.fromhex(it["transaction"]))
+        between = "01" if kind == "to_local" else told["terms"]["keys"]["local_revocation_pubkey"]
+        count.check(it["outputs"] == [at] and it["kinds"] == [kind] and it["value"] == value, f"anchors: output {at}: {it}")
+        count.check([each.hex() for each in made.inputs[0].witness[1:]] == [between, script], f"anchors: output {at}: its witness")
+        count.check((made.inputs[0].sequence, made.lock_time) == (0, 0), f"anchors: output {at}: its locks")
+    together = taken(given, curve, trace, is_one=True)
+    count.check([it["outputs"] for it in together[:-1]] == [mine], f"anchors: together {together[:-1]}")
+    check_waits(count, told, case, curve, trace, outputs)
+    check_other_type(count, told, case, curve, trace, outputs)
+
+
+def check_waits(count, told, case, curve, trace, outputs):
+    """The owner's HTLC transactions wait for a block: both sides of that, before the expiry and after it."""
+    mine = places_of(outputs, "to_local", "offered", "received")
+    for height, confirmed_height, least in ((501, None, 1), (501, 501, 0), (502, None, 1), (502, 502, 0), (503, 500, 0), (499, None, 1)):
+        changes = {"height": height, **({} if confirmed_height is None else {"confirmed_height": confirmed_height})}
+        found = taken(anchored(told, case, curve, outputs, **changes), curve, trace)
+        since = height + 1 if confirmed_height is None else confirmed_height
+        wanted = []
+        for at in mine:
+            kind, _, _, expiry = outputs[at]
+            wanted.append({"to_local": since + 143 - height, "received": least, "offered": max(least, (expiry or 0) - height)}[kind])
+        count.check([it["deadline_blocks"] for it in found[:-1]] == wanted, f"anchors at {height}, in {confirmed_height}: {[it['deadline_blocks'] for it in found[:-1]]}, and not {wanted}")
+
+
+def check_other_type(count, told, case, curve, trace, outputs):
+    """A commitment that is told as of the other type: its HTLCs match nothing, and are named. So are anchors with another value, and without their keys."""
+    local, htlcs, rest = places_of(outputs, "to_local"), places_of(outputs, "offered", "received"), places_of(outputs, "to_remote", "anchor")
+    given = anchored(told, case, curve, outputs)
+    plain = {name: it for name, it in given.items() if name not in ("channel_type", "funding_keys")}
+    check_last(count, "anchors, told as none", taken(plain, curve, trace), local, others=sorted([*htlcs, *rest]))
+    check_last(count, "anchors, told as static_remotekey", taken({**plain, "channel_type": "static_remotekey"}, curve, trace), local, others=sorted([*htlcs, *rest]))
+    own = state(told, case, curve, channel_type="anchors")
+    kinds = [it["kind"] for it in case["outputs"]]
+    check_last(count, "no anchors, told as anchors", taken(own, curve, trace), [at for at, it in enumerate(kinds) if it in ("to_local", "to_remote")], others=[at for at, it in enumerate(kinds) if it in ("offered", "received")], named={})
+    without = {name: it for name, it in given.items() if name != "funding_keys"}
+    mine = sorted([*local, *htlcs])
+    check_last(count, "anchors without their keys", taken(without, curve, trace), mine, others=rest, named={"to_remote": places_of(outputs, "to_remote")})
+    richer = [("anchor", 331, *outputs[0][2:]), *outputs[1:]]
+    found = punishing.found_in(*known_with_anchors(anchored(told, case, curve, richer), curve))
+    names = named_of(anchored(told, case, curve, richer), curve, found[1])
+    count.check(names == {"named": {"anchor": [1], "to_remote": places_of(outputs, "to_remote")}}, f"an anchor of 331 satoshis: {names}")
+    second = case["htlc_transactions"][0]
+    check_last(count, "anchors: a second stage", taken({**given, "transaction": second["unsigned_tx_no_witness"]}, curve, trace), [0], named={})
+
+
+def keys_at(found, curve):
+    return commitment.keys_of(curve, found.bases, curve.public(found.secret), False)
+
+
+def known_with_anchors(given, curve):
+    found = punishing.read_state(json.dumps(given))
+    return found, commitment.table_of(keys_at(found, curve), found.delay_blocks, found.htlcs, found.channel_type)
+
+
+def named_of(given, curve, others):
+    found = punishing.read_state(json.dumps(given))
+    return punishing.names_of(found, keys_at(found, curve), others)
+
+
 def refuses(count, name, make):
     """Whether a call is refused by this name."""
     try:
@@ -349,11 +447,17 @@ def check_refusals(count, told, case, curve, trace):
         ("BadShape state.?", {**good, "height\n": HEIGHT}, None),
         ("BadShape state.?", {**good, "\ud800": HEIGHT}, None),
         ("BadShape state.confirmed_height", {**good, "confirmed_height": HEIGHT + 1}, None),
+        ("BadShape state.channel_type", {**good, "channel_type": "anchor"}, None),
+        ("BadShape state.channel_type", {**good, "channel_type": 22}, None),
+        ("BadShape state.funding_keys", {**good, "funding_keys": ["02" * 33]}, None),
+        ("BadShape state.funding_keys[1].key", {**good, "funding_keys": [good["bases"]["htlc"], "02"]}, None),
+        ("BadShape state.funding_keys[1]", {**good, "funding_keys": [good["bases"]["htlc"], "05" * 33]}, None),
         ("TooManyHtlcs", {**good, "htlcs": [htlc(told, 0)] * 967}, None),
         ("Trailing", {**good, "transaction": good["transaction"] + "00"}, None),
     ]
     for name, given, privates in rows:
         refuses(count, name, lambda given=given, privates=privates: taken(given, curve, trace, privates))
+    refuses(count, "BadShape state.channel_type", lambda: taken({**good, "channel_type": "anchors"}, curve, trace, is_legacy=True))
 
 
 def all_of(count, curve, trace):
@@ -374,4 +478,5 @@ def all_of(count, curve, trace):
     check_dust(count, told, case, curve)
     check_numbers(count, told, curve)
     check_deadlines(count, told, case, curve)
+    check_anchors(count, told, case, curve, trace)
     check_refusals(count, told, case, curve, trace)
