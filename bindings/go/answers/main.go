@@ -1,0 +1,149 @@
+// Makes the calls that standard input names, a line each, and prints what each answers, as bindings/tests/answers.c does.
+package main
+
+import (
+	"bufio"
+	"encoding/hex"
+	"fmt"
+	"os"
+	"strconv"
+	"strings"
+
+	"enforce"
+)
+
+func data(text string) []byte {
+	if text == "-" {
+		return nil
+	}
+	found, err := hex.DecodeString(text)
+	if err != nil {
+		panic(err)
+	}
+	return found
+}
+
+func key(text string) (found [33]byte)  { copy(found[:], data(text)); return }
+func hash(text string) (found [32]byte) { copy(found[:], data(text)); return }
+
+func number(text string) uint64 {
+	found, err := strconv.ParseUint(text, 10, 64)
+	if err != nil {
+		panic(err)
+	}
+	return found
+}
+
+// The parts of a list, which may be empty.
+func parts(list, separator string) []string {
+	if list == "-" {
+		return nil
+	}
+	return strings.Split(list, separator)
+}
+
+func shownKeys(keys []enforce.Key) string {
+	var found []string
+	for _, it := range keys {
+		if it.IsSlot {
+			found = append(found, fmt.Sprintf("slot %d", it.Slot))
+		} else {
+			found = append(found, hex.EncodeToString(it.Bytes))
+		}
+	}
+	return strings.Join(found, ",")
+}
+
+func stated(fact *enforce.Fact) string {
+	holds := map[bool]string{true: "yes", false: "no"}[fact.Holds]
+	slots := strings.ReplaceAll(strings.Trim(fmt.Sprint(fact.Slots), "[]"), " ", ",")
+	constant := hex.EncodeToString(fact.Constant)
+	if constant == "" {
+		constant = "-"
+	}
+	switch fact.Kind {
+	case "hash", "is":
+		return fmt.Sprintf("%s %s %s %s", fact.Kind, slots, constant, holds)
+	case "size":
+		return fmt.Sprintf("size %s %d %s", slots, fact.Number, holds)
+	case "truth":
+		return fmt.Sprintf("truth %s %s", slots, holds)
+	case "token", "assigned":
+		return fmt.Sprintf("%s %s %s %s", fact.Kind, slots, shownKeys(fact.Keys), holds)
+	case "lock", "age":
+		return fmt.Sprintf("%s %d", fact.Kind, fact.Number)
+	}
+	return fmt.Sprintf("%s %s", fact.Kind, slots)
+}
+
+func listing(script []byte) (string, error) {
+	paths, err := enforce.Paths(script)
+	if err != nil {
+		return "", err
+	}
+	text := fmt.Sprintf("paths %d\n", len(paths))
+	for k, it := range paths {
+		lock, age := "-", "-"
+		if it.Lock != nil {
+			lock = fmt.Sprint(*it.Lock)
+		}
+		if it.Age != nil {
+			age = fmt.Sprint(*it.Age)
+		}
+		text += fmt.Sprintf("path %d arity %d counted %d height %d lock %s age %s\n", k, it.Arity, it.Counted, it.Height, lock, age)
+		for i := range it.Facts {
+			text += "  " + stated(&it.Facts[i]) + "\n"
+		}
+	}
+	return text, nil
+}
+
+func claim(text string) enforce.Claim {
+	p := strings.Split(text, "/")
+	found := enforce.Claim{Script: data(p[0]), Program: data(p[1]), Txid: hash(p[2]), Index: uint32(number(p[3])), Value: number(p[4]), Path: number(p[5])}
+	for _, it := range parts(p[6], ",") {
+		slot := enforce.Slot{}
+		switch it[:2] {
+		case "s=":
+			signer := key(it[2:])
+			slot.Signature = &signer
+		case "p=":
+			image := hash(it[2:])
+			slot.Preimage = &image
+		default:
+			slot.Exact = data(it[2:])
+		}
+		found.Slots = append(found.Slots, slot)
+	}
+	return found
+}
+
+func answer(words []string) (string, error) {
+	switch words[0] {
+	case "list":
+		return listing(data(words[1]))
+	case "text":
+		return enforce.Text(data(words[1]))
+	case "program":
+		return fmt.Sprintf("%x\n", enforce.Program(data(words[1]))), nil
+	case "claim":
+		given := claim(words[1])
+		due, err := given.Accept()
+		return fmt.Sprintf("due %d %d\n", due.Height, due.Sequence), err
+	}
+	form := enforce.Form{Kind: uint32(number(words[1])), Key: key(words[2]), Other: key(words[3]), Local: key(words[4]), PaymentHash: hash(words[5]), ExpiryHeight: uint32(number(words[6])), DelayBlocks: uint16(number(words[7]))}
+	script, err := form.Script()
+	return fmt.Sprintf("%x\n", script), err
+}
+
+func main() {
+	lines := bufio.NewScanner(os.Stdin)
+	lines.Buffer(nil, 1<<20)
+	for lines.Scan() {
+		text, err := answer(strings.Fields(lines.Text()))
+		if err != nil {
+			text = fmt.Sprintf("refused %v\n", err)
+		}
+		fmt.Printf("%s.\n", text)
+	}
+}

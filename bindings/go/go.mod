@@ -1,0 +1,3 @@
+module enforce
+
+go 1.19
