@@ -1,9 +1,10 @@
-"""Asks `trace`, the proved judge, about scripts and transactions. How it is asked is tested, not proved."""
+"""Asks the proved judge about scripts and transactions: the program `trace`, and of the paths of scripts the library for C, where it is built. How they are asked is tested, not proved."""
 import json
 import os
 import subprocess
 import sys
 
+import listing
 from errors import NotRun, Refused
 
 TOP = os.path.dirname(os.path.dirname(os.path.abspath(__file__)))
@@ -12,10 +13,11 @@ NOTHING_TO_RUN = 3
 
 
 class Trace:
-    """The program `trace`. What it says on standard error, as that it is not proved, is passed on once."""
+    """The program `trace`, and the library for C, if there is one. What the program says on standard error, as that it is not proved, is passed on once."""
 
-    def __init__(self, program=os.path.join(TOP, "trace"), notes=sys.stderr):
+    def __init__(self, program=os.path.join(TOP, "trace"), notes=sys.stderr, library=None):
         self.program, self.notes, self.noted, self.listed = program, notes, set(), {}
+        self.library = library or listing.binding()
 
     def lines(self, word, text):
         """The objects that it answers, one a line."""
@@ -40,11 +42,15 @@ class Trace:
     def paths(self, scripts):
         """What is listed of each script. A script is asked about once."""
         new = [it for it in dict.fromkeys(scripts) if it not in self.listed]
-        found = self.lines("script", "".join(f"{it.hex()}\n" for it in new)) if new else []
-        if len(found) != len(new):
-            raise NotRun(f"{self.program} answers otherwise than docs/TRACE.md says")
-        self.listed.update(zip(new, found))
+        self.listed.update(zip(new, [listing.listed(self.library, it) for it in new] if self.library else self.told(new)))
         return [self.listed[it] for it in scripts]
+
+    def told(self, scripts):
+        """What the program lists of scripts."""
+        found = self.lines("script", "".join(f"{it.hex()}\n" for it in scripts)) if scripts else []
+        if len(found) != len(scripts):
+            raise NotRun(f"{self.program} answers otherwise than docs/TRACE.md says")
+        return found
 
     def witness(self, transaction, spent):
         """What becomes of each input of a transaction whose witnesses have tokens."""
