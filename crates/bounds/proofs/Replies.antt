@@ -70,12 +70,16 @@ module _ (desk : Desk) (seat : Seat) where
   two_books e p = let f = p.one in omega (arith, e, f)
 
   -- yes: IsSeatOf
-  seat_of : IsPassOf desk seat.pass → (view seat.pass).is_new ≡ false → (view seat.pass).book ≡ None → (view seat.pass).number ≡ seat.number → IsSeatOf desk seat
-  seat_of p o i n = record { pass = p; old = o; idle = i; number = n }
+  seat_of : IsPassOf desk seat.pass → (view seat.pass).is_new ≡ false → (view seat.pass).book ≡ None → (view seat.pass).is_spent ≡ false → (view seat.pass).number ≡ seat.number → IsSeatOf desk seat
+  seat_of p o i l n = record { pass = p; old = o; idle = i; live = l; number = n }
 
   -- no: IsSeatOf
   new_seat : (view seat.pass).is_new ≡ true → IsSeatOf desk seat → ⊥
   new_seat e s = true≢false (sym e ∙ s.old)
+
+  -- no: IsSeatOf
+  taken_in : (view seat.pass).is_spent ≡ true → IsSeatOf desk seat → ⊥
+  taken_in e s = true≢false (sym e ∙ s.live)
 
   -- no: IsSeatOf
   other_number : (view seat.pass).number ≡ 5 → seat.number ≡ 4 → IsSeatOf desk seat → ⊥

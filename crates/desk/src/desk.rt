@@ -1,7 +1,7 @@
 // The desk, which shares a book among threads, and its seats.
 
-ghost use Rattle.std.specs.Prelude.{◌≡◌, ◌+◌, ◌<◌, ◌≤◌, ◌^◌, ◌↔◌, List, [], true, None, Some, Err, slice_get, IfSome, IfOk, OnOk, IfErr, MatchResult};
-ghost use Rattle.std.specs.List.{last_or};
+ghost use Rattle.std.specs.Prelude.{◌≡◌, ◌+◌, ◌<◌, ◌≤◌, ◌^◌, ◌↔◌, List, [], length, true, false, None, Some, Err, slice_get, IfSome, IfOk, OnOk, IfErr, MatchResult};
+ghost use Rattle.std.specs.List.{last_or, AllByRecursion};
 ghost use Rattle.std.specs.Vec.{vec_capacity};
 ghost use Rattle.crossbeam_channel.specs.Claims.{view};
 ghost use Rattle.book.specs.declared.calls.Entry.{Entry as HistoryEntry};
@@ -13,12 +13,12 @@ ghost use Rattle.book.specs.Calling.{IsKeepRefusal};
 ghost use Rattle.book.specs.Knowing.{IsKnownIn, IsKnowRefusal};
 ghost use Rattle.book.specs.Revoked.{IsRevokedIn, early_keep_refusal};
 ghost use Rattle.desk.specs.declared.desk.DeskError.TheVariants.{SeatsExhausted};
-ghost use Rattle.desk.specs.Histories.{first_seat};
-ghost use Rattle.desk.specs.Rule.{fresh, opened, last_view, returned, IsTaken, Follows};
-ghost use Rattle.desk.specs.Seats.{IsPassOf, IsSeatOf, IsIdle, AreSeats, EndsWithLast, IsSameSeat, HasSameCalls, TakesBook, number_in, calls_in, last_in, out_with};
+ghost use Rattle.desk.specs.Histories.{GoesOn, first_seat};
+ghost use Rattle.desk.specs.Rule.{fresh, opened, last_view, returned, IsTaken, IsHeard, HasNoOthers, HasHeardAll, Follows};
+ghost use Rattle.desk.specs.Seats.{IsPassOf, IsSeatOf, IsIdle, AreSeats, EndsWithLast, IsSameSeat, HasSameCalls, TakesIn, TakesBook, number_in, calls_in, last_in, opening_in, heard_in, is_last_in, out_with};
 ghost use Rattle.desk.specs.Answers.{IsHistoryFor, IsAnswered};
 
-use crate::rule::{Next, OneBook, PutBack, PutFirst, SeatView, Take};
+use crate::rule::{Home, Next, OneBook, PutBack, PutFirst, SeatView, Take};
 use book::errors::{KeepError, KnowError};
 use book::{Book, Call, Entry, Reply};
 use crossbeam_channel::{Pass, RuledReceiver, RuledSender, bounded_with};
@@ -184,7 +184,8 @@ impl Desk {
 
     // Takes the book out. Blocks while another seat has it.
     fn take<R: Wait>(&self, rt: &R, pass: &mut Pass<Book, SeatView>) -> Book
-        requires { IsPassOf self.now pass.old }
+        requires pass { IsPassOf self.now pass.old }
+        requires live { (view pass.old).is_spent ≡ false }
         ensures pass { IsPassOf self.now pass.new }
         ensures taken { IsTaken (view pass.old) result (view pass.new) }
     {
@@ -199,6 +200,7 @@ impl Desk {
     // Puts the book back, with at most one new entry, which is this seat's.
     fn put_back<R: Wait>(&self, rt: &R, pass: &mut Pass<Book, SeatView>, mut book: Book)
         requires pass { IsPassOf self.now pass.old }
+        requires live { (view pass.old).is_spent ≡ false }
         requires follows { (history : List HistoryEntry)
             × ((view pass.old).book ≡ Some history)
             × Follows (view pass.old).number history book }
@@ -289,9 +291,30 @@ impl Desk {
         state
     }
 
+    /// Another seat comes home to this one, which from then on knows its calls. Does not wait.
+    pub fn absorb(&self, seat: &mut Seat, other: Seat)
+        requires seat { IsSeatOf self.now seat.old }
+        requires other { IsSeatOf self.now other }
+        ensures { TakesIn self.now seat.old other seat.new }
+    {
+        self.sender.absorb::<Home>(&mut seat.pass, other.pass);
+    }
+
     /// Takes the book out for good and returns it. Blocks while another seat has the book.
+    ///
+    /// The entries of each seat that came home to this one are its calls. Close with the desk's last seat: no other has a greater number, so the later entries
+    /// are of the numbers from the desk's first to its own. If all the others came home to it, each later entry is one of theirs or its own.
     pub fn close<R: Wait>(self, rt: &R, seat: &mut Seat) -> Book
         requires { IsSeatOf self seat.old }
+        ensures began { GoesOn (opening_in seat.old) result }
+        ensures heard { AllByRecursion (IsHeard (opening_in seat.old) result)
+            (heard_in seat.old) }
+        ensures alone { is_last_in seat.old ≡ true
+            → HasNoOthers (number_in seat.old) (opening_in seat.old) result }
+        ensures whole { is_last_in seat.old ≡ true
+            → first_seat (opening_in seat.old) + length (heard_in seat.old)
+            ≡ number_in seat.old
+            → HasHeardAll (number_in seat.old) (heard_in seat.old) (opening_in seat.old) result }
         ensures history { IsHistoryFor (number_in seat.old) (calls_in seat.old)
             (last_in seat.old) result }
         ensures seat { TakesBook self seat.old seat.new result }

@@ -3,16 +3,19 @@
 //! [`Desk::new`] puts a book into a queue of capacity one, which acts as the lock: the thread that takes the book out
 //! has it alone until it puts the book back. Each thread has a [`Seat`] of its own, whose number stands in the entries
 //! of its calls. `call` makes any of the book's seven calls, `keep_set` keeps a set that was built outside the lock,
-//! `known` and `revoked` ask, and `close` returns the book.
+//! `known` and `revoked` ask, and `close` returns the book. A seat whose thread has ended may come home to another one
+//! (`absorb`), which from then on knows its calls.
 //!
 //! While the lock is free, the queue holds one book, whose history is accepted and guarded. The history begins with the
 //! one that the desk was made with, followed by exactly the calls of the seats, each once and each seat's in order
 //! (`IsOneBook` of `specs/Rule.antt`). Each reply is the book's own at the end of such a history, which extends the one
 //! that the seat last put back, barring out-of-memory (`IsAnswered` of `specs/Answers.antt`). So no reply is made up,
-//! and no entry of another seat is lost. Termination of a call is not proved: it may wait for another thread.
+//! and no entry of another seat is lost. `close` says of each seat that came home that the book has just its calls, and,
+//! once all came home to the desk's last seat, that no later entry is of another. Termination of a call is not proved:
+//! it may wait for another thread.
 //!
-//! It stands on `book`, and on the library `crossbeam_channel`. It is for a node's threads: channels, watchers and
-//! workers call one book.
+//! It stands on `book`, and on the library `crossbeam_channel`. The threads of `running` and the workers of `node` call
+//! one book so:
 //!
 //! ```text
 //! let patterns = book.patterns()?; // by which penalties are built, while the desk has the book
@@ -24,12 +27,10 @@
 //! assert!(rt; sign(&rt, &desk, &mut seat, 0).is_ok());
 //! let book = desk.close(&rt, &mut seat);
 //! ```
-//!
-//! The threads of `running` and the workers of `node` make these calls.
 #![tactic(auto)]
 
 mod desk;
 mod rule;
 
 pub use desk::{Desk, DeskError, Seat};
-pub use rule::SeatView;
+pub use rule::{Heard, SeatView};

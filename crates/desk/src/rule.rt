@@ -1,8 +1,17 @@
 // The rule of the queue of capacity one that holds the book, and its kinds of step.
 
 use book::{Book, Entry};
-use crossbeam_channel::protocol::{Lesson, Outcome, Protocol, Split};
+use crossbeam_channel::protocol::{Join, Lesson, Outcome, Protocol, Split};
 use std::collections::LinkedList;
+
+/// What a seat heard of another one that it took in. Only contracts use it.
+pub struct Heard {
+    pub number: u32,
+    /// The calls of that seat that the book accepted, in order.
+    pub calls: LinkedList<Entry>,
+    /// The book's history when that seat last put the book back, or when the desk was made.
+    pub last: LinkedList<Entry>,
+}
 
 /// What a seat knows. Only contracts use it; no program makes a value of it.
 pub struct SeatView {
@@ -19,6 +28,10 @@ pub struct SeatView {
     pub last: LinkedList<Entry>,
     /// The book, while it is out with this seat.
     pub book: Option<Book>,
+    /// The seats that came home to this one, the latest first.
+    pub heard: LinkedList<Heard>,
+    /// Another seat took this one in.
+    pub is_spent: bool,
 }
 
 /// The rule over what the queue holds and what all seats know.
@@ -82,4 +95,15 @@ impl Split<SeatView> for Next {
     ghost left = { moved_on };
 
     ghost right = { left_behind };
+}
+
+// a seat takes in another one
+pub struct Home;
+
+impl Join<SeatView> for Home {
+    ghost use Rattle.desk.specs.Rule.{joined, spent};
+
+    ghost both = { joined };
+
+    ghost spent = { spent };
 }

@@ -11,7 +11,7 @@ use Rattle.running.specs.declared.players.Player.{Player}
 use Rattle.running.specs.Crews.{IsWatcher, GoesOnWatching, IsPlayer, GoesOnPlaying}
 
 pub same_calls : (desk : Desk) (s : Seat) → IsSeatOf desk s → HasSameCalls desk s s
-same_calls desk s is = record { seat_of = is; number = refl; opening = refl; place = refl; calls = refl }
+same_calls desk s is = record { seat_of = is; number = refl; opening = refl; place = refl; heard = refl; calls = refl }
 
 pub still_same : (desk : Desk) (r s t : Seat) → HasSameCalls desk r s → HasSameCalls desk s t → HasSameCalls desk r t
 still_same desk r s t one two = record {
@@ -19,6 +19,7 @@ still_same desk r s t one two = record {
   number = two.number ∙ one.number;
   opening = two.opening ∙ one.opening;
   place = two.place ∙ one.place;
+  heard = two.heard ∙ one.heard;
   calls = two.calls ∙ one.calls;
 }
 
