@@ -1,8 +1,18 @@
 -- What is asked of a history, on both sides of its bounds, and what goes wrong without it: of each a history of accepted calls whose channel keeps the rules no more.
-use Rattle.std.proofs.Common.{◌≡◌, ℕ, ◌≤◌, ◌<◌, true, List, [], ◌∷◌, length, replicate, None, refl, sym, ap, subst, ⊎_elim, arith, lit<}
-use Rattle.std.specs.List.{Contains}
+use Rattle.std.proofs.Common.{◌≡◌, ℕ, ◌≤◌, ◌<◌, true, List, [], ◌∷◌, length, replicate, None, refl, sym, ap, subst, ⊎_elim, arith, lit<, Ok, lit≤}
+use Rattle.std.specs.Prelude.{IsTrue, is_ok}
+use Rattle.std.specs.List.{AllByRecursion, Contains}
 use Rattle.std.proofs.lemmas.Bool.{true≢false}
 use Rattle.std.proofs.lemmas.Option.{none-some}
+use Rattle.std.proofs.lemmas.List.Elements.{All-nil, All-cons}
+use Rattle.sha2.specs.Sha256.{sha256, digest_bytes, hash_after, compress, rounds, schedule, first_words}
+use Rattle.script.specs.declared.opcode.Op.TheVariants.{Number}
+use Rattle.script.specs.Spelling.{IsOp}
+use Rattle.script.specs.Token.{is_key}
+use Rattle.sighash.specs.Programs.{script_hash_program}
+use Rattle.paths.specs.Rules.{rule_of, check_multi_sig}
+use Rattle.paths.specs.Listing.{listing}
+use Rattle.claim.specs.Judgement.{judgement_of}
 use Rattle.terms.specs.declared.htlcs.Htlc.{Htlc}
 use Rattle.terms.specs.declared.sides.Side.TheVariants.{A}
 use Rattle.terms.specs.declared.agreement.BaseKeys.{BaseKeys}
@@ -10,7 +20,7 @@ use Rattle.terms.specs.Bases.{IsSeedOf}
 use Rattle.updates.specs.declared.changes.Update.TheVariants.{Add}
 use Rattle.updates.specs.declared.changes.OwnUpdate.TheVariants.{Offer}
 use Rattle.updates.specs.declared.messages.PeerStep.TheVariants.{Update as Updated}
-use Rattle.claim.specs.Claims.{ClaimParts}
+use Rattle.claim.specs.Claims.{ClaimParts, IsWhole}
 use Rattle.commit.specs.declared.fees.Direction.{Direction}
 use Rattle.commit.specs.declared.fees.Direction.TheVariants.{Offered, Received}
 use Rattle.commit.specs.declared.outputs.HtlcOutput.{HtlcOutput}
@@ -25,6 +35,7 @@ use Rattle.channel.specs.Tokens.{contents_of}
 use Rattle.channel.proofs.Samples.{key, point_key, tokens_of}
 use Rattle.safety.specs.Holdings.{Holding, IsOnRecorded, on_own, on_peers, on_revoked, IsRightful, KeepsRules, EachKeepsRules}
 use Rattle.safety.specs.Places.{IsOwnersClaim, delayed, second_stage, delayed_second, IsPeersClaim, payment, direct, IsRevokedClaim, penalty, own_payment, htlc_penalty, second_penalty, OwnersPlaces, PeersPlaces, RevokedPlaces}
+use Rattle.safety.specs.Recorded.{IsOutPoint}
 use Rattle.safety.proofs.Slots.{contains_cases}
 use Rattle.safety.proofs.Lists.{contains_none}
 use Rattle.book.specs.declared.calls.Opening.{Opening}
@@ -32,12 +43,13 @@ use Rattle.book.specs.declared.calls.Step.TheVariants.{Own, Peer}
 use Rattle.book.specs.declared.calls.Call.{Call}
 use Rattle.book.specs.declared.calls.Call.TheVariants.{Open, Step as Stepping, Sign, Keep, Release as Releasing}
 use Rattle.book.specs.declared.calls.Entry.{Entry}
+use Rattle.book.specs.Books.{fundings_of, replay}
 use Rattle.book.specs.Signers.{fill_refusal}
-use Rattle.book.specs.Accepted.{all_accepted, IsHistory, AcceptedMeans}
+use Rattle.book.specs.Accepted.{AreWhole, all_accepted, IsHistory, AcceptedMeans}
 use Rattle.book.specs.Releasing.{IsKeptIn}
 use Rattle.holdings.specs.Holdings.{holding_of, holdings_of}
 use Rattle.holdings.specs.Keeping.{MayRelease, kept, recorded, ReleasesDue, ExpiresLater, PaysOutputs, IsCareful}
-use Rattle.holdings.proofs.Samples.{entry, hash, htlc, stray, batch, release, first_terms, first_opening}
+use Rattle.holdings.proofs.Samples.{path, entry, hash, htlc, stray, batch, release, first_terms, first_opening}
 
 -- ---- calls
 
@@ -95,6 +107,18 @@ no_revoked c (penalty index output at e) = let n = ap size_of e in omega (arith,
 no_revoked c (own_payment index output at e) = let n = ap size_of e in omega (arith, n)
 no_revoked c (htlc_penalty h output at e) = let n = ap size_of e in let l = long_htlc c.keys h.direction h.htlc in omega (arith, n, l)
 no_revoked c (second_penalty h output at e) = let n = ap size_of e in omega (arith, n)
+
+stray_listed : listing (Number 1 ∷ []) ≡ Ok (path ∷ [])
+unfolding listing rule_of check_multi_sig is_key
+stray_listed = refl
+
+stray_judged : IsTrue (is_ok (judgement_of stray.ways stray.index stray.slots stray.place stray.shell))
+unfolding judgement_of script_hash_program sha256 digest_bytes hash_after compress rounds schedule first_words
+stray_judged = refl
+
+-- yet it is an accepted claim
+stray_whole : IsWhole stray
+stray_whole = record { ops = All-cons IsOp (Number 1) [] (lit≤ tt, lit≤ tt) (All-nil IsOp); short = lit≤ tt; listed = stray_listed; accepted = stray_judged; bare = refl }
 
 -- by these laws of `safety` no channel's commitment has the claim on OP_1
 module _ (owners : OwnersPlaces) (peers : PeersPlaces) (revoked : RevokedPlaces) where
@@ -175,6 +199,10 @@ module _ (bases theirs : BaseKeys) (seed : List ℕ) (own : IsSeedOf seed bases)
   offered_until_zero : KeepsRules with_offer → ⊥
   offered_until_zero r = let l : 0 < 0 = r.expiries 1 (peers_next before) refl ours (subst (λ (hs : List HtlcOutput). Contains hs ours) (sym offered_htlcs) (0, lit< tt, refl)) refl in omega (arith, l)
 
+  -- all else that is asked holds of it
+  offered_otherwise : AllByRecursion (λ e. ReleasesDue offered e.call) offered × AreWhole offered × AllByRecursion (λ e. PaysOutputs e.call) offered × AllByRecursion IsOutPoint (fundings_of (replay offered))
+  offered_otherwise = ((tt, (tt, (tt, tt))), (tt, (tt, (tt, tt))), (tt, (tt, (tt, tt))), (record { txid = refl; index = lit< tt }, tt))
+
   -- no: IsCareful
   offered_carelessly : IsCareful tokens_of offered → ⊥
   offered_carelessly c = let l : 0 < 0 = c.later.1.0 in omega (arith, l)
@@ -186,6 +214,10 @@ module _ (bases theirs : BaseKeys) (seed : List ℕ) (own : IsSeedOf seed bases)
   strayed_accepted : all_accepted tokens_of strayed ≡ true
   unfolding fill_refusal
   strayed_accepted = refl
+
+  -- all else that is asked holds of it, and the claim is an accepted one
+  strayed_otherwise : AllByRecursion (λ e. ExpiresLater e.call) strayed × AreWhole strayed × AllByRecursion (λ e. PaysOutputs e.call) strayed × AllByRecursion IsOutPoint (fundings_of (replay strayed))
+  strayed_otherwise = ((tt, (tt, tt)), (tt, ((stray_whole, tt), tt)), (tt, ((record { value = omega arith; script = omega arith }, tt), tt)), (record { txid = refl; index = lit< tt }, tt))
 
   abbrev with_stray : Holding
   with_stray = record { state = opened_state (first_terms bases theirs seed own (replicate 32 5)) A seed point_key (key 1); releases = release stray 900 ∷ []; closed = None }

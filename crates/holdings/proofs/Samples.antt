@@ -33,12 +33,15 @@ side start_msat bases = record { dust_sat = 546; delay_blocks = 144; minimum_msa
 
 -- ---- releases
 
--- a claim on the script OP_1
+-- a claim on the script OP_1; the hash of its byte was computed elsewhere
+abbrev pub stray_hash : List ℕ
+stray_hash = 0x4a ∷ 0xe8 ∷ 0x15 ∷ 0x72 ∷ 0xf0 ∷ 0x6e ∷ 0x1b ∷ 0x88 ∷ 0xfd ∷ 0x5c ∷ 0xed ∷ 0x7a ∷ 0x1a ∷ 0x00 ∷ 0x09 ∷ 0x45 ∷ 0x43 ∷ 0x2e ∷ 0x83 ∷ 0xe1 ∷ 0x55 ∷ 0x1e ∷ 0x6f ∷ 0x72 ∷ 0x1e ∷ 0xe9 ∷ 0xc0 ∷ 0x0b ∷ 0x8c ∷ 0xc3 ∷ 0x32 ∷ 0x60 ∷ []
+
 abbrev pub path : Path
 path = record { arity = 0; facts = []; ops = 0; height = 1; lock = None; age = None }
 
 abbrev pub place : Place
-place = record { outpoint = record { txid = replicate 32 6; index = 0 }; value = 1000; program = [] }
+place = record { outpoint = record { txid = replicate 32 6; index = 0 }; value = 1000; program = 0x00 ∷ 0x20 ∷ stray_hash }
 
 abbrev pub stray : ClaimParts
 stray = record { ways = record { ops = Number 1 ∷ []; paths = path ∷ [] }; index = 0; slots = []; place = place; shell = Open }
