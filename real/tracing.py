@@ -42,10 +42,10 @@ class Trace:
     def paths(self, scripts):
         """What is listed of each script. A script is asked about once."""
         new = [it for it in dict.fromkeys(scripts) if it not in self.listed]
-        self.listed.update(zip(new, [listing.listed(self.library, it) for it in new] if self.library else self.told(new)))
+        self.listed.update(zip(new, [listing.listed(self.library, it) for it in new] if self.library else self.by_program(new)))
         return [self.listed[it] for it in scripts]
 
-    def told(self, scripts):
+    def by_program(self, scripts):
         """What the program lists of scripts."""
         found = self.lines("script", "".join(f"{it.hex()}\n" for it in scripts)) if scripts else []
         if len(found) != len(scripts):
