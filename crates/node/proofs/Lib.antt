@@ -1,3 +1,4 @@
 pub mod Adding
 pub mod Releases
 pub mod Turns
+pub mod Same

@@ -7,7 +7,7 @@ use Rattle.board.specs.declared.board.Board.{Board}
 use Rattle.board.specs.declared.rule.SeatView.{SeatView}
 use Rattle.board.specs.Rule.{knows}
 use Rattle.board.specs.Seats.{known, IsSeatOf}
-use Rattle.desk.specs.Seats.{number_in, calls_in}
+use Rattle.desk.specs.Seats.{number_in, calls_in, heard_in}
 use Rattle.jobs.specs.declared.rule.Hand.{Hand}
 use Rattle.jobs.specs.Rule.{hand}
 use Rattle.jobs.specs.Ends.{JobPass, hand_of}
@@ -28,6 +28,7 @@ pub record HasWorked (payments : List Key) (before now : Hands) (jobs : ℕ) : T
   pub taken : hand_of now.pass ≡ hand (hand_of before.pass).halvings (hand_of before.pass).put ((hand_of before.pass).taken ++ finished)
   pub drawn : known now.place ≡ with_tickets tickets (known before.place)
   pub number : number_in now.seat ≡ number_in before.seat
+  pub heard : heard_in now.seat ≡ heard_in before.seat
   pub calls : Adds (number_in before.seat) (flat_map (tasks_of payments) finished) (calls_in before.seat) (calls_in now.seat)
 
 -- ---- tickets
@@ -62,6 +63,7 @@ begun payments h = record {
   taken = taken_none (hand_of h.pass);
   drawn = with_none (known h.place);
   number = refl;
+  heard = refl;
   calls = adds_nothing (number_in h.seat) [] (calls_in h.seat) (calls_in h.seat) refl;
 }
 
@@ -88,6 +90,7 @@ module _ (payments : List Key) (before now : Hands) (pass : JobPass Job) (jobs :
     taken = ap (λ (p : JobPass Job). hand_of p) turn.same.pass ∙ taken_more (hand_of before.pass) (hand_of now.pass) (hand_of pass) w.finished job w.taken taking.added;
     drawn = with_more w.tickets (turn.ticket ∷ []) (known before.place) (known now.place) (known after.place) w.drawn turn.drawn;
     number = turn.same.number ∙ w.number;
+    heard = turn.same.heard ∙ w.heard;
     calls = subst (λ ts. Adds (number_in before.seat) ts (calls_in before.seat) (calls_in after.seat)) (sym (tasks_more payments w.finished job))
         (adds_then (number_in before.seat) (flat_map (tasks_of payments) w.finished) (tasks_of payments job) (calls_in before.seat) (calls_in now.seat) (calls_in after.seat) w.calls
         (adds_from (number_in now.seat) (number_in before.seat) (tasks_of payments job) (calls_in now.seat) (calls_in now.seat) (calls_in after.seat) w.number refl turn.calls));
@@ -103,6 +106,7 @@ module _ (payments : List Key) (before now : Hands) (pass : JobPass Job) (jobs :
     taken = ap (λ (p : JobPass Job). hand_of p) turn.same.pass ∙ taken_more (hand_of before.pass) (hand_of now.pass) (hand_of pass) w.finished job w.taken taking.added;
     drawn = with_more w.tickets (ticket ∷ []) (known before.place) (known now.place) (known after.place) w.drawn turn.drawn;
     number = turn.same.number ∙ w.number;
+    heard = turn.same.heard ∙ w.heard;
     calls = subst (λ l. Adds (number_in before.seat) (flat_map (tasks_of payments) w.finished) (calls_in before.seat) l) (sym turn.calls) w.calls;
   }
 
@@ -116,6 +120,7 @@ module _ (payments : List Key) (before now : Hands) (pass : JobPass Job) (jobs :
     taken = ap (λ (p : JobPass Job). hand_of p) turn.same.pass ∙ taken_more (hand_of before.pass) (hand_of now.pass) (hand_of pass) w.finished job w.taken taking.added;
     drawn = turn.drawn ∙ w.drawn;
     number = turn.same.number ∙ w.number;
+    heard = turn.same.heard ∙ w.heard;
     calls = subst (λ l. Adds (number_in before.seat) (flat_map (tasks_of payments) w.finished) (calls_in before.seat) l) (sym turn.calls) w.calls;
   }
 
@@ -131,5 +136,6 @@ ended_dry payments before now pass jobs w same empty = record {
   taken = same ∙ w.taken ∙ ap (λ l. hand (hand_of before.pass).halvings (hand_of before.pass).put ((hand_of before.pass).taken ++ l)) (sym (append-nil w.finished));
   drawn = w.drawn;
   number = w.number;
+  heard = w.heard;
   calls = w.calls;
 }

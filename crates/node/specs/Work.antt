@@ -5,7 +5,7 @@ use Rattle.keys.specs.declared.compressed.Key.{Key}
 use Rattle.board.specs.declared.rule.SeatView.{SeatView}
 use Rattle.board.specs.Rule.{knows}
 use Rattle.board.specs.Seats.{known}
-use Rattle.desk.specs.Seats.{number_in, calls_in}
+use Rattle.desk.specs.Seats.{number_in, calls_in, heard_in}
 use Rattle.jobs.specs.Rule.{hand}
 use Rattle.jobs.specs.Ends.{hand_of}
 use Rattle.jobs.specs.Steps.{WasEmpty}
@@ -23,9 +23,10 @@ with_tickets tickets v = knows v.shares (v.drawn ++ tickets) v.raised v.looked
 
 -- ---- one job
 
--- the seat at the desk keeps its number, and the queue is left alone
+-- the seat at the desk keeps its number, and what it heard, and the queue is left alone
 pub record IsSame (before after : Hands) : Type 0 where
   pub number : number_in after.seat ≡ number_in before.seat
+  pub heard : heard_in after.seat ≡ heard_in before.seat
   pub pass : after.pass ≡ before.pass
 
 -- a ticket was drawn, and calls were made for the job alone
@@ -78,6 +79,7 @@ pub record IsWork (payments : List Key) (before after : Hands) (done : Done) : T
   pub taken : hand_of after.pass ≡ hand (hand_of before.pass).halvings (hand_of before.pass).put ((hand_of before.pass).taken ++ (finished ++ dropped))
   -- the seat at the board drew these tickets, in order, and did nothing else
   pub drawn : known after.place ≡ with_tickets tickets (known before.place)
-  -- the seat at the desk keeps its number, and its new calls are for the finished jobs alone, in order
+  -- the seat at the desk keeps its number, and what it heard, and its new calls are for the finished jobs alone, in order
   pub number : number_in after.seat ≡ number_in before.seat
+  pub heard : heard_in after.seat ≡ heard_in before.seat
   pub calls : Adds (number_in before.seat) (flat_map (tasks_of payments) finished) (calls_in before.seat) (calls_in after.seat)

@@ -1,7 +1,7 @@
 //! The penalties that a worker keeps.
 
 ghost use Rattle.std.specs.Prelude.{◌≡◌, [], ◌∷◌, OnErr};
-ghost use Rattle.desk.specs.Seats.{IsSeatOf, number_in, calls_in};
+ghost use Rattle.desk.specs.Seats.{IsSeatOf, IsSameSeat, number_in, calls_in};
 ghost use Rattle.node.specs.Tasks.{keeping};
 ghost use Rattle.node.specs.Entering.{Adds};
 
@@ -25,7 +25,7 @@ fn keep_set_of<R: Wait>(
     state: &RevokedState,
 ) -> Result<(), KeepError>
     requires { IsSeatOf desk.now seat.old }
-    ensures seat { IsSeatOf desk.now seat.new × (number_in seat.new ≡ number_in seat.old) }
+    ensures seat { IsSameSeat desk.now seat.old seat.new }
     ensures calls { Adds (number_in seat.old) (keeping channel number ∷ [])
         (calls_in seat.old) (calls_in seat.new) }
     ensures err { OnErr result (calls_in seat.new ≡ calls_in seat.old) }
@@ -47,7 +47,7 @@ fn try_to_keep<R: Wait>(
     number: u64,
 ) -> Result<(), KeepError>
     requires { IsSeatOf desk.now seat.old }
-    ensures seat { IsSeatOf desk.now seat.new × (number_in seat.new ≡ number_in seat.old) }
+    ensures seat { IsSameSeat desk.now seat.old seat.new }
     ensures calls { Adds (number_in seat.old) (keeping channel number ∷ [])
         (calls_in seat.old) (calls_in seat.new) }
     ensures err { OnErr result (calls_in seat.new ≡ calls_in seat.old) }
@@ -69,7 +69,7 @@ pub(crate) fn keep<R: Wait>(
     number: u64,
 )
     requires { IsSeatOf desk.now seat.old }
-    ensures seat { IsSeatOf desk.now seat.new × (number_in seat.new ≡ number_in seat.old) }
+    ensures seat { IsSameSeat desk.now seat.old seat.new }
     ensures calls { Adds (number_in seat.old) (keeping channel number ∷ [])
         (calls_in seat.old) (calls_in seat.new) }
 {

@@ -3,7 +3,7 @@
 ghost use Rattle.std.specs.Prelude.{◌≡◌, ◌≤◌, [], ◌∷◌, map, Some, IfSome, OnErr, MatchResult};
 ghost use Rattle.tx.specs.declared.limits.TheConstants.{MAX_VALUE as max_value};
 ghost use Rattle.book.specs.Calling.{filling_by};
-ghost use Rattle.desk.specs.Seats.{IsSeatOf, number_in, calls_in};
+ghost use Rattle.desk.specs.Seats.{IsSeatOf, IsSameSeat, number_in, calls_in};
 ghost use Rattle.side.specs.Batches.{value_of};
 ghost use Rattle.node.specs.Tasks.{releasing, task_for};
 ghost use Rattle.node.specs.Entering.{Adds, by_release};
@@ -41,7 +41,7 @@ fn filled_by<R: Wait>(
     batch: Batch,
 ) -> Result<Tx, ReleaseError>
     requires { IsSeatOf desk.now seat.old }
-    ensures seat { IsSeatOf desk.now seat.new × (number_in seat.new ≡ number_in seat.old) }
+    ensures seat { IsSameSeat desk.now seat.old seat.new }
     ensures filled { MatchResult result
         (λ tx. (tx ≡ (filling_by batch).tx) × (calls_in seat.new
         ≡ by_release (number_in seat.old) channel batch (calls_in seat.old)))
@@ -68,7 +68,7 @@ fn try_to_release<R: Wait>(
 ) -> Result<Tx, ReleaseError>
     requires seat { IsSeatOf desk.now seat.old }
     requires value { (value ≡ value_of (due.now ∷ [])) × (value ≤ max_value) }
-    ensures seat { IsSeatOf desk.now seat.new × (number_in seat.new ≡ number_in seat.old) }
+    ensures seat { IsSameSeat desk.now seat.old seat.new }
     ensures calls { Adds (number_in seat.old) (releasing (Some payment.now) due.now ∷ [])
         (calls_in seat.old) (calls_in seat.new) }
     ensures err { OnErr result (calls_in seat.new ≡ calls_in seat.old) }
@@ -103,8 +103,7 @@ fn release_to<R: Wait>(
 )
     requires seat { IsSeatOf shared.now.desk.now seat.old }
     requires value { (value ≡ value_of (due.now ∷ [])) × (value ≤ max_value) }
-    ensures seat { IsSeatOf shared.now.desk.now seat.new
-        × (number_in seat.new ≡ number_in seat.old) }
+    ensures seat { IsSameSeat shared.now.desk.now seat.old seat.new }
     ensures calls { Adds (number_in seat.old) (releasing (Some payment.now) due.now ∷ [])
         (calls_in seat.old) (calls_in seat.new) }
 {
@@ -121,8 +120,7 @@ fn release_to<R: Wait>(
 // Releases a claim, if its channel has a payment key, unless the book refuses.
 fn release<R: Wait>(rt: &R, alloc: Global, shared: &Shared<'_>, seat: &mut Seat, due: &DueClaim)
     requires { IsSeatOf shared.now.desk.now seat.old }
-    ensures seat { IsSeatOf shared.now.desk.now seat.new
-        × (number_in seat.new ≡ number_in seat.old) }
+    ensures seat { IsSameSeat shared.now.desk.now seat.old seat.new }
     ensures calls { Adds (number_in seat.old) (task_for shared.now.payments.now due.now ∷ [])
         (calls_in seat.old) (calls_in seat.new) }
 {
@@ -144,8 +142,7 @@ pub(crate) fn release_each<R: Wait>(
     due: &VecDeque<DueClaim>,
 )
     requires { IsSeatOf shared.now.desk.now seat.old }
-    ensures seat { IsSeatOf shared.now.desk.now seat.new
-        × (number_in seat.new ≡ number_in seat.old) }
+    ensures seat { IsSameSeat shared.now.desk.now seat.old seat.new }
     ensures calls { Adds (number_in seat.old)
         (map (task_for shared.now.payments.now) due.now.items)
         (calls_in seat.old) (calls_in seat.new) }

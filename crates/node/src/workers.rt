@@ -1,7 +1,7 @@
 //! Workers: what each does with the jobs that it takes.
 
 ghost use Rattle.std.specs.Prelude.{◌≡◌, IfSome};
-ghost use Rattle.desk.specs.Seats.{IsSeatOf, number_in, calls_in};
+ghost use Rattle.desk.specs.Seats.{IsSeatOf, IsSameSeat, number_in, calls_in};
 ghost use Rattle.node.specs.Tasks.{tasks_of};
 ghost use Rattle.node.specs.Entering.{Adds};
 ghost use Rattle.node.specs.Ready.{IsReady};
@@ -40,8 +40,7 @@ pub(crate) enum Turn {
 // Does a job: makes at most one call for each thing that it asks for, in order.
 fn do_job<R: Wait>(rt: &R, alloc: Global, shared: &Shared<'_>, seat: &mut Seat, job: &Job)
     requires { IsSeatOf shared.now.desk.now seat.old }
-    ensures seat { IsSeatOf shared.now.desk.now seat.new
-        × (number_in seat.new ≡ number_in seat.old) }
+    ensures seat { IsSameSeat shared.now.desk.now seat.old seat.new }
     ensures calls { Adds (number_in seat.old) (tasks_of shared.now.payments.now job.now)
         (calls_in seat.old) (calls_in seat.new) }
 {
