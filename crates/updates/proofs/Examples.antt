@@ -12,10 +12,10 @@ use Rattle.updates.specs.declared.changes.Update.{Update}
 use Rattle.updates.specs.declared.changes.Update.TheVariants.{Add, Fulfil, Fail, Fee}
 use Rattle.updates.specs.declared.fates.Fate.TheVariants.{Live, Fulfilled, Failed}
 use Rattle.updates.specs.declared.errors.ChannelError.{ChannelError}
-use Rattle.updates.specs.declared.errors.ChannelError.TheVariants.{NoMemory, AmountZero, BelowMinimum, ExpiryTooLarge, WrongId, TooManyHtlcs, OverBalance, UnknownHtlc, WrongPreimage, NoUpdates, BadSignature, WrongSecret, NotYourTurn, NotOpener}
+use Rattle.updates.specs.declared.errors.ChannelError.TheVariants.{NoMemory, AmountZero, BelowMinimum, ExpiryTooLarge, WrongId, TooManyHtlcs, OverBalance, UnknownHtlc, WrongPreimage, NoUpdates, BadSignature, WrongSecret, NotYourTurn, NotOpener, PeerBehind, NeverSigned, AlreadyFulfilled}
 use Rattle.updates.specs.Updates.{fate, offers, spent_msat, gained_msat, pending_msat, live_count, last_feerate_per_kw}
 use Rattle.updates.specs.Views.{share_of, feerate_per_kw_of, expire_at_heights}
-use Rattle.updates.specs.Stages.{Stages, none_yet, with_update, to_receiver, by_receiver, to_sender, by_sender}
+use Rattle.updates.specs.Stages.{Stages, none_yet, with_update, to_receiver, by_receiver, to_sender, by_sender, uncommitted, unacknowledged, committed}
 use Rattle.updates.specs.Refusals.{refusal_number, first_refusal, update_tests, covers_nothing, to_remove}
 
 abbrev htlc : ℕ → ℕ → Htlc
@@ -77,6 +77,17 @@ stages : (two.known ≡ Add (htlc 0 5) ∷ Fail 1 ∷ []) × (two.with_receiver 
     × ((by_sender (to_sender (by_receiver (to_receiver two)))).settled ≡ two.known)
 stages = (refl, refl, refl, refl, refl)
 
+-- a cut loses what no signature of its sender covers. What one covers that no revocation acknowledged may have to be given again
+cut : (uncommitted two ≡ Fail 1 ∷ [])
+    × (uncommitted (to_receiver two) ≡ [])
+    × (unacknowledged two ≡ [])
+    × (unacknowledged (to_receiver two) ≡ Fail 1 ∷ [])
+    × (unacknowledged (by_receiver (to_receiver two)) ≡ [])
+    × ((committed two).known ≡ Add (htlc 0 5) ∷ [])
+    × ((committed (to_receiver two)).known ≡ two.known)
+    × ((committed (with_update (Fee 1) none_yet)).known ≡ [])
+cut = (refl, refl, refl, refl, refl, refl, refl, refl)
+
 -- a signature covers something where its sender made an update, or acknowledged one of the other side
 covered : (covers_nothing none_yet none_yet ≡ true)
     × (covers_nothing (with_update (Fee 1) none_yet) none_yet ≡ false)
@@ -98,8 +109,8 @@ firsts : (first_refusal [] ≡ None)
     × (first_refusal ((false, WrongId) ∷ (false, AmountZero) ∷ []) ≡ None)
 firsts = (refl, refl, refl)
 
-refusal_numbers : map refusal_number (NoMemory ∷ AmountZero ∷ BelowMinimum ∷ ExpiryTooLarge ∷ WrongId ∷ TooManyHtlcs ∷ OverBalance ∷ UnknownHtlc ∷ WrongPreimage ∷ NoUpdates ∷ BadSignature ∷ WrongSecret ∷ NotYourTurn ∷ NotOpener ∷ []) ≡
-    0 ∷ 1 ∷ 2 ∷ 3 ∷ 4 ∷ 5 ∷ 6 ∷ 7 ∷ 8 ∷ 9 ∷ 10 ∷ 11 ∷ 12 ∷ 13 ∷ []
+refusal_numbers : map refusal_number (NoMemory ∷ AmountZero ∷ BelowMinimum ∷ ExpiryTooLarge ∷ WrongId ∷ TooManyHtlcs ∷ OverBalance ∷ UnknownHtlc ∷ WrongPreimage ∷ NoUpdates ∷ BadSignature ∷ WrongSecret ∷ NotYourTurn ∷ NotOpener ∷ PeerBehind ∷ NeverSigned ∷ AlreadyFulfilled ∷ []) ≡
+    0 ∷ 1 ∷ 2 ∷ 3 ∷ 4 ∷ 5 ∷ 6 ∷ 7 ∷ 8 ∷ 9 ∷ 10 ∷ 11 ∷ 12 ∷ 13 ∷ 14 ∷ 15 ∷ 16 ∷ []
 refusal_numbers = refl
 
 -- A opened a channel of 100,000 satoshis, of which it has 80,000

@@ -141,7 +141,7 @@ few_made terms by s o (Fulfil id preimage) t f = let e = live_count-append s.kno
 few_made terms by s o (Fail id) t f = let e = live_count-append s.known (Fail id ∷ []) o.settled in omega (arith, e, f)
 few_made terms by s o (Fee feerate_per_kw) t f = let e = live_count-append s.known (Fee feerate_per_kw ∷ []) o.settled in omega (arith, e, f)
 
-heights_append : (us vs : List Update) → expire_at_heights (offers (us ++ vs)) ≡ (expire_at_heights (offers us) && expire_at_heights (offers vs))
+pub heights_append : (us vs : List Update) → expire_at_heights (offers (us ++ vs)) ≡ (expire_at_heights (offers us) && expire_at_heights (offers vs))
 heights_append us vs = ap expire_at_heights (offers-append us vs) ∙ list_all-append (λ (h : Htlc). nat_lt h.expiry_height EXPIRY_HEIGHT_END) (offers us) (offers vs)
 
 heights_made : (terms : Terms) (by : Side) (s o : Stages) (u : Update) → AllPass (update_tests terms by s o u) → IsTrue (expire_at_heights (offers s.known)) → IsTrue (expire_at_heights (offers (s.known ++ u ∷ [])))

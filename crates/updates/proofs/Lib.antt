@@ -9,4 +9,8 @@ pub mod Keeping
 pub mod Held
 pub mod Ledgers
 pub mod Sharing
+pub mod Cutting
+pub mod Committed
+pub mod Remaking
+pub mod Making
 pub mod Examples

@@ -28,6 +28,11 @@ abbrev pub within : ℕ → End → Fate
 within k Never = Live
 within k (At p f) = if nat_lt p k then f else Live
 
+-- the end among the first k updates
+abbrev pub end_within : ℕ → End → End
+end_within k Never = Never
+end_within k (At p f) = if nat_lt p k then At p f else Never
+
 -- the end after one more update, the n-th
 abbrev pub end_after : ℕ → End → Fate → End
 end_after n (At p f) g = At p f

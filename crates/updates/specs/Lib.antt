@@ -5,4 +5,5 @@ pub mod Stages
 pub mod Refusals
 pub mod Pending
 pub mod Steady
+pub mod Remade
 pub mod Shares

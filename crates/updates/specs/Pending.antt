@@ -1,5 +1,5 @@
 -- The HTLCs of one direction whose removal has not passed all five stages, and what they say of all that were offered.
-use Rattle.std.specs.Prelude.{◌≡◌, ℕ, suc, ◌+◌, ◌*◌, ◌^◌, ◌≤◌, nat_lt, Bool, true, false, ◌==◌, if◌then◌else◌, List, [], ◌∷◌, ◌++◌, length, map, Option, Some, None}
+use Rattle.std.specs.Prelude.{◌≡◌, ℕ, suc, ◌+◌, ◌*◌, ◌^◌, ◌≤◌, nat_lt, Bool, true, false, ◌==◌, if◌then◌else◌, List, [], ◌∷◌, ◌++◌, length, filter, map, Option, Some, None}
 use Rattle.terms.specs.declared.htlcs.Htlc.{Htlc}
 use Rattle.terms.specs.declared.sides.Side.{Side}
 use Rattle.terms.specs.declared.agreement.Terms.{Terms}
@@ -11,7 +11,7 @@ use Rattle.updates.specs.declared.fates.End.TheVariants.{Never}
 use Rattle.updates.specs.declared.pending.PendingHtlc.{PendingHtlc}
 use Rattle.updates.specs.declared.pending.Pending.{Pending}
 use Rattle.updates.specs.Updates.{fate, fate_by, offers, gained_msat, if_fulfilled, kept_if_live}
-use Rattle.updates.specs.Ends.{end_of, within, end_after}
+use Rattle.updates.specs.Ends.{end_of, within, end_within, end_after}
 use Rattle.updates.specs.Stages.{Stages}
 use Rattle.updates.specs.Views.{start_msat_of}
 use Rattle.updates.specs.Refusals.{Test, removable, add_tests, fulfil_tests, fail_tests, fee_tests}
@@ -66,6 +66,18 @@ noted position u e = record { htlc = e.htlc; added = e.added; end = end_after po
 
 abbrev pub noted_all : ℕ → Update → List PendingHtlc → List PendingHtlc
 noted_all position u es = map (noted position u) es
+
+-- whether it is offered among the first `added` updates of its side
+abbrev pub is_offered : ℕ → PendingHtlc → Bool
+is_offered added e = nat_lt e.added added
+
+-- as if the other side had made its first `removed` updates alone
+abbrev pub unnoted : ℕ → PendingHtlc → PendingHtlc
+unnoted removed e = record { htlc = e.htlc; added = e.added; end = end_within removed e.end }
+
+-- what is left of the pending HTLCs of the first `added` updates of their side, where the other side made `removed`
+abbrev pub left_at : ℕ → ℕ → List PendingHtlc → List PendingHtlc
+left_at added removed es = map (unnoted removed) (filter (is_offered added) es)
 
 -- what a new update adds to the pending HTLCs of its side
 abbrev pub new_pending : ℕ → Update → List PendingHtlc

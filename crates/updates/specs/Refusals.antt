@@ -14,7 +14,7 @@ use Rattle.updates.specs.declared.changes.Update.TheVariants.{Add, Fulfil, Fail,
 use Rattle.updates.specs.declared.fates.Fate.{Fate}
 use Rattle.updates.specs.declared.fates.Fate.TheVariants.{Live}
 use Rattle.updates.specs.declared.errors.ChannelError.{ChannelError}
-use Rattle.updates.specs.declared.errors.ChannelError.TheVariants.{NoMemory, AmountZero, BelowMinimum, ExpiryTooLarge, WrongId, TooManyHtlcs, OverBalance, UnknownHtlc, WrongPreimage, NoUpdates, BadSignature, WrongSecret, NotYourTurn, NotOpener}
+use Rattle.updates.specs.declared.errors.ChannelError.TheVariants.{NoMemory, AmountZero, BelowMinimum, ExpiryTooLarge, WrongId, TooManyHtlcs, OverBalance, UnknownHtlc, WrongPreimage, NoUpdates, BadSignature, WrongSecret, NotYourTurn, NotOpener, PeerBehind, NeverSigned, AlreadyFulfilled}
 use Rattle.updates.specs.declared.limits.TheConstants.{MAX_HTLCS, EXPIRY_HEIGHT_END}
 use Rattle.updates.specs.Updates.{fate, offers, offer_of, spent_msat, gained_msat, live_count}
 use Rattle.updates.specs.Views.{start_msat_of}
@@ -36,6 +36,9 @@ refusal_number BadSignature = 10
 refusal_number WrongSecret = 11
 refusal_number NotYourTurn = 12
 refusal_number NotOpener = 13
+refusal_number PeerBehind = 14
+refusal_number NeverSigned = 15
+refusal_number AlreadyFulfilled = 16
 
 -- a test that refuses where it holds
 abbrev pub Test : Type 0

@@ -1,6 +1,6 @@
 -- One side's updates and how far each part of them has come, as one side of a channel knows it (BOLT 2, the five states of
 -- an update).
-use Rattle.std.specs.Prelude.{◌≡◌, ◌≤◌, ℕ, take, length, List, [], ◌∷◌, ◌++◌}
+use Rattle.std.specs.Prelude.{◌≡◌, ◌≤◌, ℕ, take, drop, length, List, [], ◌∷◌, ◌++◌}
 use Rattle.updates.specs.declared.changes.Update.{Update}
 use Rattle.updates.specs.declared.stages.Part.{Part}
 use Rattle.updates.specs.declared.stages.Stage.{Stage}
@@ -45,6 +45,18 @@ to_sender s = record s { with_sender = s.past_receiver }
 -- the sender revokes its previous commitment
 abbrev pub by_sender : Stages → Stages
 by_sender s = record s { settled = s.with_sender }
+
+-- the updates that no signature of their sender covers (BOLT 2, "uncommitted updates")
+abbrev pub uncommitted : Stages → List Update
+uncommitted s = drop (length s.with_receiver) s.known
+
+-- those under a signature of their sender that no revocation acknowledged
+abbrev pub unacknowledged : Stages → List Update
+unacknowledged s = drop (length s.past_receiver) s.with_receiver
+
+-- what is left of them all once a connection is cut
+abbrev pub committed : Stages → Stages
+committed s = record s { known = s.with_receiver }
 
 -- the same, by one list and a count for each further stage
 abbrev pub stages_of : List Update → ℕ → ℕ → ℕ → ℕ → Stages

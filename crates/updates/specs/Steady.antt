@@ -12,7 +12,7 @@ use Rattle.updates.specs.declared.pending.Pending.{Pending}
 use Rattle.updates.specs.Views.{start_msat_of, expire_at_heights}
 use Rattle.updates.specs.Refusals.{Test, first_refusal, update_tests}
 use Rattle.updates.specs.Pending.{IsKept}
-use Rattle.updates.specs.Stages.{Stages, none_yet, with_update, to_receiver, by_receiver, to_sender, by_sender}
+use Rattle.updates.specs.Stages.{Stages, none_yet, with_update, to_receiver, by_receiver, to_sender, by_sender, committed}
 
 -- one list is the beginning of another
 abbrev pub IsBeginning : List Update → List Update → Type 0
@@ -84,6 +84,10 @@ holding_signature h =
 
 abbrev pub holding_revocation : Held → Held
 holding_revocation h = record h { own = by_receiver h.own; theirs = by_sender h.theirs }
+
+-- what is left once the connection is cut: each side forgets the updates that no signature of their sender covers
+abbrev pub holding_committed : Held → Held
+holding_committed h = record h { own = committed h.own; theirs = committed h.theirs }
 
 -- the HTLC that a side would offer next
 abbrev pub next_htlc : Stages → ℕ → List ℕ → ℕ → Htlc

@@ -51,6 +51,15 @@ pub enum ChannelError {
     /// The side did not open the channel.
     #[error("NotOpener")]
     NotOpener,
+    /// The peer expects a message that it had, so it lost what it knew.
+    #[error("PeerBehind")]
+    PeerBehind,
+    /// The peer has a signature that this side does not know of.
+    #[error("NeverSigned")]
+    NeverSigned,
+    /// This side fulfilled the HTLC before its connection was cut, so its preimage is out.
+    #[error("AlreadyFulfilled")]
+    AlreadyFulfilled,
 }
 
 impl ChannelError {
@@ -76,6 +85,9 @@ impl ChannelError {
             ChannelError::WrongSecret => 11,
             ChannelError::NotYourTurn => 12,
             ChannelError::NotOpener => 13,
+            ChannelError::PeerBehind => 14,
+            ChannelError::NeverSigned => 15,
+            ChannelError::AlreadyFulfilled => 16,
         }
     }
 }

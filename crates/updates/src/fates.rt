@@ -38,7 +38,7 @@ impl Fate {
 
 impl End {
     ghost use Rattle.std.specs.Prelude.{◌≡◌};
-    ghost use Rattle.updates.specs.Ends.{within, end_after};
+    ghost use Rattle.updates.specs.Ends.{within, end_within, end_after};
 
     /// What the first `count` updates make of the HTLC.
     pub(crate) fn within(self, count: usize) -> Fate
@@ -47,6 +47,16 @@ impl End {
         match self {
             End::Never => Fate::Live,
             End::At { position, fate } => { if position < count { fate } else { Fate::Live } }
+        }
+    }
+
+    /// The end among the first `count` updates.
+    pub(crate) fn before(self, count: usize) -> End
+        ensures { result ≡ end_within count self }
+    {
+        match self {
+            End::Never => End::Never,
+            End::At { position, .. } => { if position < count { self } else { End::Never } }
         }
     }
 

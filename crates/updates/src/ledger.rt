@@ -45,8 +45,8 @@ impl Ledger {
     ghost use Rattle.updates.specs.declared.changes.Update.TheVariants.{Add, Fulfil, Fail, Fee};
     ghost use Rattle.terms.specs.Refusals.{OkUnless};
     ghost use Rattle.updates.specs.Refusals.{first_refusal, covers_nothing, IsRefusal};
-    ghost use Rattle.updates.specs.Stages.{part_of};
-    ghost use Rattle.updates.specs.Steady.{Held, own_tests, their_tests, next_htlc, holding_none, holding_made, holding_signed, holding_update, holding_signature, holding_revocation};
+    ghost use Rattle.updates.specs.Stages.{part_of, uncommitted, unacknowledged};
+    ghost use Rattle.updates.specs.Steady.{Held, own_tests, their_tests, next_htlc, holding_none, holding_made, holding_signed, holding_update, holding_signature, holding_revocation, holding_committed};
 
     /// A ledger with no updates. It allocates nothing.
     pub fn new(alloc: Global, terms: Terms, side: Side) -> Ledger
@@ -76,8 +76,8 @@ impl Ledger {
         self.side
     }
 
-    // Whether this side may make an update.
-    fn check_own(&self, update: &Update) -> Result<(), ChannelError>
+    /// Whether this side may make an update, with the refusals of the call that makes it.
+    pub fn check_own(&self, update: &Update) -> Result<(), ChannelError>
         ensures { OkUnless result (first_refusal (own_tests self.now update.now)) IsRefusal }
     {
         let settled = self.theirs.settled().count;
@@ -236,6 +236,38 @@ impl Ledger {
         let offered = self.own.known().count;
         let settled = self.theirs.settled().count;
         self.own_htlcs.settle(offered, settled);
+    }
+
+    /// This side's updates under its newest signature that the peer's revocation has not acknowledged yet, oldest first.
+    pub fn unacknowledged(&self) -> &[Update]
+        ensures { result.now ≡ unacknowledged self.now.own }
+    {
+        self.own.unacknowledged()
+    }
+
+    /// Forgets the updates of both sides that no signature of their sender covers, as each side does once their connection is cut (BOLT 2, "Message
+    /// Retransmission"). It returns the forgotten ones of this side, oldest first. Their ids are given again. The only error is that memory ran out, which leaves
+    /// the ledger as it was.
+    pub fn forget(&mut self) -> Result<Vec<Update>, AllocError>
+        ensures forgotten { IfOk result (λ us. us.items ≡ uncommitted self.old.own) }
+        ensures ok { IfOk result (λ _. self.new ≡ holding_committed self.old) }
+        ensures err { OnErr result (self.new ≡ self.old) }
+    {
+        let forgotten = self.own.uncommitted()?;
+        self.drop_uncommitted();
+        Ok(forgotten)
+    }
+
+    /// The same without an answer: it allocates nothing.
+    pub fn drop_uncommitted(&mut self)
+        ensures { self.new ≡ holding_committed self.old }
+    {
+        let own = self.own.with_receiver().count;
+        let theirs = self.theirs.with_receiver().count;
+        self.own.forget();
+        self.theirs.forget();
+        self.own_htlcs.forget(own, theirs);
+        self.their_htlcs.forget(theirs, own);
     }
 
     // The view of these parts of this side's updates and its peer's. The only error is that memory ran out.

@@ -1,7 +1,8 @@
 //! The HTLCs of one direction whose removal has not passed all five stages.
 
 ghost use Rattle.std.specs.Prelude.{◌≡◌};
-ghost use Rattle.updates.specs.Pending.{noted_all};
+ghost use Rattle.updates.specs.Pending.{noted_all, unnoted};
+ghost use Rattle.std.specs.Prelude.{map};
 
 use crate::changes::Update;
 use crate::fates::{End, Fate};
@@ -58,7 +59,7 @@ impl PendingHtlc {
 
 impl Pending {
     ghost use Rattle.std.specs.Prelude.{◌≡◌, ◌+◌, ◌*◌, ◌^◌, ◌≤◌, [], length, filter, map, IfOk};
-    ghost use Rattle.updates.specs.Pending.{total_amount_msat, fulfilled_at, live_at, found_in, is_left, IsNoted};
+    ghost use Rattle.updates.specs.Pending.{total_amount_msat, fulfilled_at, live_at, found_in, is_left, unnoted, left_at, IsBounded, IsNoted};
 
     /// No HTLC yet.
     pub(crate) fn new(alloc: Global) -> Pending
@@ -153,6 +154,29 @@ impl Pending {
         self.fulfilled = self.fulfilled_at(added, removed);
         self.htlcs.retain(|pending| pending.is_left(removed));
     }
+
+    /// Forgets the offers after the first `added` updates of this side, none of which is removed, and the removals after the peer's first `removed`.
+    pub(crate) fn forget(&mut self, added: usize, removed: usize)
+        requires { IsBounded self.old }
+        ensures htlcs { self.new.htlcs.items ≡ left_at added removed self.old.htlcs.items }
+        ensures offered { self.new.offered + length self.old.htlcs.items ≡ self.old.offered
+            + length self.new.htlcs.items }
+        ensures fulfilled { self.new.fulfilled ≡ self.old.fulfilled }
+    {
+        let pending = self.htlcs.len();
+        self.htlcs.retain(|pending| pending.added < added);
+        self.offered -= (pending - self.htlcs.len()) as u64;
+        self.unnote(removed);
+    }
+
+    // Forgets the removals after the peer's first `removed`.
+    fn unnote(&mut self, removed: usize)
+        ensures htlcs { self.new.htlcs.items ≡ map (unnoted removed) self.old.htlcs.items }
+        ensures offered { self.new.offered ≡ self.old.offered }
+        ensures fulfilled { self.new.fulfilled ≡ self.old.fulfilled }
+    {
+        unnote_all(self.htlcs.as_mut_slice(), removed);
+    }
 }
 
 // Records an update of the peer at each HTLC.
@@ -162,5 +186,14 @@ fn note_all(htlcs: &mut [PendingHtlc], position: usize, update: &Update)
     for i in 0..htlcs.len() {
         let fate = Fate::by(htlcs[i].htlc.id, update);
         htlcs[i].end = htlcs[i].end.after(position, fate);
+    }
+}
+
+// Forgets the removals after the peer's first `removed` updates.
+fn unnote_all(htlcs: &mut [PendingHtlc], removed: usize)
+    ensures { htlcs.new ≡ map (unnoted removed) htlcs.old }
+{
+    for i in 0..htlcs.len() {
+        htlcs[i].end = htlcs[i].end.before(removed);
     }
 }

@@ -69,7 +69,8 @@ const NONE_YET: Part = Part {
 
 impl UpdateList {
     ghost use Rattle.std.specs.Prelude.{◌≡◌, IfOk, OnErr, length, List};
-    ghost use Rattle.updates.specs.Stages.{none_yet, with_update, to_receiver, by_receiver, to_sender, by_sender, part_of, Counts};
+    ghost use Rattle.updates.specs.Stages.{none_yet, with_update, to_receiver, by_receiver, to_sender, by_sender, uncommitted, unacknowledged, committed, part_of, Counts};
+    ghost use Rattle.updates.specs.Steady.{InOrder};
 
     /// No updates yet.
     pub(crate) fn new(alloc: Global) -> UpdateList
@@ -175,5 +176,34 @@ impl UpdateList {
         ensures { self.new ≡ by_sender self.old }
     {
         self.settled = self.with_sender;
+    }
+
+    /// The updates under a signature of the sender that no revocation acknowledged.
+    pub(crate) fn unacknowledged(&self) -> &[Update]
+        requires { InOrder self.now }
+        ensures { result.now ≡ unacknowledged self.now }
+    {
+        let known = self.updates.as_slice();
+        &known[self.past_receiver.count..self.with_receiver.count]
+    }
+
+    /// A copy of the updates that no signature of the sender covers. The only error is that memory ran out.
+    pub(crate) fn uncommitted(&self) -> Result<Vec<Update>, AllocError>
+        ensures { IfOk result (λ us. us.items ≡ uncommitted self.now) }
+    {
+        let known = self.updates.as_slice();
+        Vec::from_slice(
+            *self.updates.allocator(),
+            &known[self.with_receiver.count..],
+        )
+    }
+
+    /// Forgets these. It allocates nothing.
+    pub(crate) fn forget(&mut self)
+        requires { InOrder self.old }
+        ensures { self.new ≡ committed self.old }
+    {
+        self.updates.truncate(self.with_receiver.count);
+        self.feerate_per_kw = self.with_receiver.feerate_per_kw;
     }
 }
