@@ -50,6 +50,9 @@ to_take first refuses.BadSignature is = inr is
 to_take first refuses.WrongSecret is = inr is
 to_take first refuses.NotYourTurn is = inr is
 to_take first refuses.NotOpener is = inr is
+to_take first refuses.PeerBehind is = inr is
+to_take first refuses.NeverSigned is = inr is
+to_take first refuses.AlreadyFulfilled is = inr is
 
 to_step : (first : Option StepError) (e : StepError) → IsStepRefusal first e → (e ≡ Refused refuses.NoMemory) ⊎ (first ≡ Some e)
 to_step first (Refused refuses.NoMemory) is = inl refl
@@ -66,6 +69,9 @@ to_step first (Refused refuses.BadSignature) is = inr is
 to_step first (Refused refuses.WrongSecret) is = inr is
 to_step first (Refused refuses.NotYourTurn) is = inr is
 to_step first (Refused refuses.NotOpener) is = inr is
+to_step first (Refused refuses.PeerBehind) is = inr is
+to_step first (Refused refuses.NeverSigned) is = inr is
+to_step first (Refused refuses.AlreadyFulfilled) is = inr is
 to_step first NoSuchChannel is = inr is
 to_step first ChannelClosed is = inr is
 

@@ -29,3 +29,6 @@ refused_by barred first r unbarred is = by r is
     by refuses.WrongSecret h = named refuses.WrongSecret h
     by refuses.NotYourTurn h = named refuses.NotYourTurn h
     by refuses.NotOpener h = named refuses.NotOpener h
+    by refuses.PeerBehind h = named refuses.PeerBehind h
+    by refuses.NeverSigned h = named refuses.NeverSigned h
+    by refuses.AlreadyFulfilled h = named refuses.AlreadyFulfilled h

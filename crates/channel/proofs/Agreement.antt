@@ -12,15 +12,17 @@ use Rattle.channel.specs.declared.messages.Message.{Message}
 use Rattle.updates.specs.declared.messages.PeerStep.TheVariants.{Update as Updated, CommitmentSigned}
 use Rattle.channel.specs.declared.messages.Message.TheVariants.{Step, RevokeAndAck}
 use Rattle.channel.specs.Points.{secret_at, point_at}
-use Rattle.channel.specs.States.{Signing, State, first_of, state_at_opening, update_refusal, sign_refusal, sign_tests, receive_refusal, receive_tests, peers_next, after_update, after_sign, after, answers, signature_message}
+use Rattle.channel.specs.States.{Signing, State, first_of, state_at_opening, fulfilled_after, sign_refusal, sign_tests, receive_refusal, receive_tests, peers_next, after_sign, after, answers, signature_message}
 use Rattle.channel.specs.Peers.{World, opened_both, Acts, updates, signs, receives, Steps, by_a, by_b, IsReached, at_opening, then}
 use Rattle.updates.proofs.Sums.{begins, begins_on}
 use Rattle.updates.proofs.Accepting.{AllPass, all_pass}
-use Rattle.channel.proofs.Sides.{IsKept, kept_opened, kept_updated, kept_signed, kept_after}
+use Rattle.updates.proofs.OneSide.{steady_made}
+use Rattle.channel.proofs.Sides.{IsKept, tests_of, kept_opened, kept_signed, kept_after}
 use Rattle.updates.proofs.Funds.{settled_past}
-use Rattle.channel.proofs.Queues.{drained, Flows, drained-append, flows-append, signatures_in, revocations_in, signatures_in-append, revocations_in-append, drained_made, flows_made, drained_signed, flows_signed, drained_same, drained_unsigned, drained_unrevoked, known_grows, settled_grows}
+use Rattle.channel.proofs.Queues.{made, revoked_after, drained, Flows, drained-append, flows-append, signatures_in, revocations_in, signatures_in-append, revocations_in-append, drained_made, flows_made, drained_signed, flows_signed, drained_same, drained_unsigned, drained_unrevoked, known_grows, settled_grows}
 use Rattle.channel.proofs.Meeting.{bit, Meets, meets_made, meets_made_back, one_commitment, meets_signed, meets_signed_back, meets_receives_made, meets_receives_signed, meets_receives_revocation, takes_made, takes_signed, takes_revocation}
-use Rattle.updates.specs.Steady.{IsBeginning}
+use Rattle.updates.specs.Refusals.{first_refusal}
+use Rattle.updates.specs.Steady.{IsBeginning, own_tests}
 
 -- what `a` sent and sends to `b`
 pub record Toward (tokens_of : Signing) (a b : State) (to_a to_b : List Message) : Type 0 where
@@ -43,8 +45,8 @@ no_bit b e = ap bit e
 
 -- a makes an update
 
-agree_makes : (tokens_of : Signing) (a b : State) (to_a to_b : List Message) (u : Update) → Agree tokens_of a b to_a to_b → update_refusal a u ≡ None → Agree tokens_of (after_update u a) b to_a (to_b ++ Step (Updated u) ∷ [])
-agree_makes tokens_of a b to_a to_b u g e =
+pub agree_makes : (tokens_of : Signing) (a b : State) (to_a to_b : List Message) (u : Update) (ids : List ℕ) → Agree tokens_of a b to_a to_b → first_refusal (own_tests a.held u) ≡ None → Agree tokens_of (made u ids a) b to_a (to_b ++ Step (Updated u) ∷ [])
+agree_makes tokens_of a b to_a to_b u ids g e =
     let t = drained to_b b in
     let same = drained_same to_b b in
     let back = g.ba.meets in
@@ -56,17 +58,17 @@ agree_makes tokens_of a b to_a to_b u g e =
     let o1 = g.ab.one in
     let o2 = g.ba.one in
     record {
-      a_kept = kept_updated a u e g.a_kept;
+      a_kept = steady_made a.held u e g.a_kept;
       b_kept = g.b_kept;
       ab = record {
         flows = flows-append tokens_of to_b (Step (Updated u) ∷ []) b g.ab.flows (takes, tt);
-        meets = rw drained-append (meets_made a t u g.ab.meets);
+        meets = rw drained-append (meets_made a t u ids g.ab.meets);
         ahead = g.ab.ahead;
         one = omega (arith, s1, o1);
       };
       ba = record {
-        flows = flows_made tokens_of to_a u a g.ba.flows;
-        meets = rw drained_made (meets_made_back b (drained to_a a) u g.ba.meets);
+        flows = flows_made tokens_of to_a u ids a g.ba.flows;
+        meets = rw (drained_made to_a u ids a) (meets_made_back b (drained to_a a) u ids g.ba.meets);
         ahead = g.ba.ahead;
         one = omega (arith, r1, o2);
       };
@@ -74,7 +76,7 @@ agree_makes tokens_of a b to_a to_b u g e =
 
 -- a signs
 
-agree_signs : (tokens_of : Signing) (a b : State) (to_a to_b : List Message) → Agree tokens_of a b to_a to_b → sign_refusal a ≡ None → Agree tokens_of (after_sign a) b to_a (to_b ++ signature_message tokens_of a ∷ [])
+pub agree_signs : (tokens_of : Signing) (a b : State) (to_a to_b : List Message) → Agree tokens_of a b to_a to_b → sign_refusal a ≡ None → Agree tokens_of (after_sign a) b to_a (to_b ++ signature_message tokens_of a ∷ [])
 agree_signs tokens_of a b to_a to_b g e =
     let t = drained to_b b in
     let c = after_sign a in
@@ -104,8 +106,9 @@ agree_signs tokens_of a b to_a to_b g e =
         one = omega (arith, s1, o1, z);
       };
       ba = record {
-        flows = flows_signed tokens_of to_a a.held.own.known a.held.theirs.past_receiver c.signed a none g.ba.flows;
-        meets = rw (drained_signed to_a a.held.own.known a.held.theirs.past_receiver c.signed a none) (meets_signed_back b (drained to_a a) a.held.own.known a.held.theirs.past_receiver c.signed g.ba.meets);
+        flows = flows_signed tokens_of to_a a.held.own.known a.held.theirs.past_receiver c.signed false a none g.ba.flows;
+        meets = rw (drained_signed to_a a.held.own.known a.held.theirs.past_receiver c.signed false a none)
+            (meets_signed_back b (drained to_a a) a.held.own.known a.held.theirs.past_receiver c.signed (revoked_after false to_a) g.ba.meets);
         ahead = g.ba.ahead;
         one = omega (arith, r1, o2);
       };
@@ -116,7 +119,7 @@ agree_signs tokens_of a b to_a to_b g e =
 
 -- a receives
 
-agree_receives : (tokens_of : Signing) (a b : State) (m : Message) (rest to_b : List Message) → Agree tokens_of a b (m ∷ rest) to_b → Agree tokens_of (after a m) b rest (to_b ++ answers a m)
+pub agree_receives : (tokens_of : Signing) (a b : State) (m : Message) (rest to_b : List Message) → Agree tokens_of a b (m ∷ rest) to_b → Agree tokens_of (after a m) b rest (to_b ++ answers a m)
 agree_receives tokens_of a b (Step (Updated u)) rest to_b g =
     let o1 = g.ab.one in
     let o2 = g.ba.one in
@@ -195,7 +198,7 @@ agree_receives tokens_of a b (RevokeAndAck revocation) rest to_b g =
 -- any step of a
 
 pub agree_acts : (tokens_of : Signing) (a b : State) (to_a to_b : List Message) (me : State) (sent rest : List Message) → Acts tokens_of a to_a me sent rest → Agree tokens_of a b to_a to_b → Agree tokens_of me b rest (to_b ++ sent)
-agree_acts tokens_of a b to_a to_b me sent rest (updates u e) g = agree_makes tokens_of a b to_a to_b u g e
+agree_acts tokens_of a b to_a to_b me sent rest (updates u e) g = agree_makes tokens_of a b to_a to_b u (fulfilled_after u a.fulfilled) g (tests_of a u e)
 agree_acts tokens_of a b to_a to_b me sent rest (signs e) g = agree_signs tokens_of a b to_a to_b g e
 agree_acts tokens_of a b to_a to_b me sent rest (receives m rest' q e) g = let h : Agree tokens_of a b (m ∷ rest') to_b = rw q at g in agree_receives tokens_of a b m rest' to_b h
 

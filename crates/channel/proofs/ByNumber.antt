@@ -9,7 +9,7 @@ use Rattle.updates.specs.declared.messages.PeerStep.TheVariants.{Update as Updat
 use Rattle.channel.specs.declared.messages.Message.TheVariants.{Step, RevokeAndAck}
 use Rattle.channel.specs.Points.{point_at}
 use Rattle.channel.specs.States.{Signing, State, sign_tests, receive_tests, receive_refusal, peers_next, own_next, after_sign, after}
-use Rattle.channel.specs.Peers.{starts, updated_once, signed_once, received_once}
+use Rattle.channel.specs.Peers.{starts, updated_once, signed_once, received_once, forgot_once}
 use Rattle.channel.specs.Keeping.{one_if}
 use Rattle.channel.specs.Numbered.{AreNumbered}
 use Rattle.channel.specs.Agreeing.{IsSoundState}
@@ -55,3 +55,4 @@ sides_number tokens_of s (starts terms side seed point next_point) = record { mi
 sides_number tokens_of s (updated_once {s = r} u e l) = let n = sides_number tokens_of r l in record { mine = n.mine; signed = n.signed }
 sides_number tokens_of s (signed_once {s = r} e l) = by_signed r (calm_when r (all_pass (sign_tests r) e)) (sound_in r (lived_kept tokens_of r l)) (sides_number tokens_of r l)
 sides_number tokens_of s (received_once {s = r} m e l) = by_message tokens_of r m e (sound_in r (lived_kept tokens_of r l)) (sides_number tokens_of r l)
+sides_number tokens_of s (forgot_once {s = r} l) = let n = sides_number tokens_of r l in record { mine = n.mine; signed = n.signed }

@@ -1,4 +1,5 @@
 mod Secrets
+mod Repeats
 mod Sides
 mod TokenLists
 mod Foreign
@@ -8,16 +9,26 @@ mod SameKeys
 mod Built
 mod SignRights
 mod Numbered
+mod Awaited
+mod Saying
 mod Queues
 mod Meeting
 mod Agreement
 mod Theorem
+mod Hellos
+mod Resends
+mod Rewound
+mod Joined
+mod Giving
 mod Records
 mod ByNumber
+mod FirstOrder
+mod Standing
 mod Playing
 mod Pairing
 mod Trusting
 mod PlayExamples
 pub mod Samples
 mod RefusalExamples
+mod ResendExamples
 mod ScenarioExamples

@@ -9,18 +9,18 @@ use Rattle.keys.specs.Derivation.{point_of}
 use Rattle.terms.specs.declared.agreement.Terms.{Terms}
 use Rattle.terms.specs.Sides.{other}
 use Rattle.updates.specs.Views.{view_by}
-use Rattle.updates.specs.Refusals.{covers_nothing}
+use Rattle.updates.specs.Refusals.{first_refusal, covers_nothing}
 use Rattle.channel.specs.declared.commitments.CommitmentState.{CommitmentState}
 use Rattle.channel.specs.declared.limits.TheConstants.{LAST_NUMBER}
 use Rattle.updates.specs.declared.messages.Tokens.{Tokens}
 use Rattle.updates.specs.declared.messages.PeerStep.TheVariants.{Update as Updated, CommitmentSigned}
 use Rattle.channel.specs.declared.messages.Message.TheVariants.{Step, RevokeAndAck}
 use Rattle.channel.specs.Points.{secret_at, point_at, is_foreign}
-use Rattle.channel.specs.States.{Signing, State, update_refusal, sign_refusal, sign_tests, receive_refusal, receive_tests, all_eq, same_tokens, next_commitment, peers_next, own_next, after_update, after_sign, after, signature_message}
+use Rattle.channel.specs.States.{Signing, State, sign_refusal, sign_tests, receive_refusal, receive_tests, all_eq, same_tokens, next_commitment, peers_next, own_next, after_sign, after, signature_message}
 use Rattle.channel.proofs.Secrets.{secrets_below, takes_own}
 use Rattle.updates.proofs.Accepting.{AllPass, all_pass, none_refuses, update_accepted}
-use Rattle.channel.proofs.Queues.{with_signature}
-use Rattle.updates.specs.Steady.{IsBeginning}
+use Rattle.channel.proofs.Queues.{made, with_signature}
+use Rattle.updates.specs.Steady.{IsBeginning, own_tests}
 
 abbrev pub bit : Bool → ℕ
 bit true = 1
@@ -43,8 +43,8 @@ pub record Meets (a t : State) : Type 0 where
   pub secrets : t.secrets ≡ secrets_below a.seed a.number
 
 -- the sender makes an update, and its message comes
-pub meets_made : (a t : State) (u : Update) → Meets a t → Meets (after_update u a) (after t (Step (Updated u)))
-meets_made a t u m = record {
+pub meets_made : (a t : State) (u : Update) (ids : List ℕ) → Meets a t → Meets (made u ids a) (after t (Step (Updated u)))
+meets_made a t u ids m = record {
   terms = m.terms;
   side = m.side;
   known = ap (λ l. l ++ u ∷ []) m.known;
@@ -61,8 +61,8 @@ meets_made a t u m = record {
 }
 
 -- the peer, too, made one meanwhile
-pub meets_made_back : (a t : State) (u : Update) → Meets a t → Meets a (after_update u t)
-meets_made_back a t u m = record {
+pub meets_made_back : (a t : State) (u : Update) (ids : List ℕ) → Meets a t → Meets a (made u ids t)
+meets_made_back a t u ids m = record {
   terms = m.terms;
   side = m.side;
   known = m.known;
@@ -107,8 +107,8 @@ meets_signed a t tokens m e c = record {
   mine = ap (λ l. l ++ own_next t ∷ []) m.mine ∙ ap (λ d. a.signed ++ d ∷ []) c;
 }
 
-pub meets_signed_back : (a t : State) (known past : List Update) (cs : List CommitmentState) → Meets a t → Meets a (with_signature known past cs t)
-meets_signed_back a t known past cs m = record {
+pub meets_signed_back : (a t : State) (known past : List Update) (cs : List CommitmentState) (revoked : Bool) → Meets a t → Meets a (with_signature known past cs revoked t)
+meets_signed_back a t known past cs revoked m = record {
   terms = m.terms;
   side = m.side;
   known = m.known;
@@ -180,7 +180,7 @@ meets_receives_revocation a t secret next_point m e = record {
 
 -- what the sender sends isn't refused
 
-pub takes_made : (tokens_of : Signing) (a t : State) (u : Update) → Meets a t → IsBeginning a.held.theirs.known t.held.own.known → IsBeginning a.held.theirs.settled t.held.own.settled → update_refusal a u ≡ None → receive_refusal tokens_of t (Step (Updated u)) ≡ None
+pub takes_made : (tokens_of : Signing) (a t : State) (u : Update) → Meets a t → IsBeginning a.held.theirs.known t.held.own.known → IsBeginning a.held.theirs.settled t.held.own.settled → first_refusal (own_tests a.held u) ≡ None → receive_refusal tokens_of t (Step (Updated u)) ≡ None
 takes_made tokens_of a t u m known settled e =
     rw (m.terms, m.side)
     (update_accepted a.held.terms a.held.side a.held.own a.held.theirs t.held.theirs t.held.own u

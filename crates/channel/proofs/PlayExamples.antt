@@ -12,18 +12,19 @@ use Rattle.channel.specs.declared.commitments.CommitmentState.{CommitmentState}
 use Rattle.channel.specs.declared.plays.Action.{Action}
 use Rattle.channel.specs.declared.plays.Action.TheVariants.{Own, Sign, Deliver}
 use Rattle.channel.specs.declared.plays.PairStep.{PairStep}
+use Rattle.channel.specs.declared.plays.PairStep.TheVariants.{Turn}
 use Rattle.channel.specs.declared.plays.Outcome.{Outcome}
 use Rattle.channel.specs.declared.plays.Outcome.TheVariants.{Done, Refused, NoMessage}
 use Rattle.channel.specs.States.{Signing}
-use Rattle.channel.specs.Peers.{opened_both}
-use Rattle.channel.specs.Playing.{outcomes_of, world_after}
-use Rattle.channel.proofs.Trusting.{Played', by_trust, outcomes-trusting, world-trusting}
+use Rattle.channel.specs.Connections.{opened}
+use Rattle.channel.specs.Playing.{outcomes_of, connection_after}
+use Rattle.channel.proofs.Trusting.{Played', by_trust, outcomes-trusting, connection-trusting}
 
 abbrev by_a : Action → PairStep
-by_a action = record { side = A; action = action }
+by_a action = Turn A action
 
 abbrev by_b : Action → PairStep
-by_b action = record { side = B; action = action }
+by_b action = Turn B action
 
 -- an update of a side
 abbrev a_makes : OwnUpdate → PairStep
@@ -224,20 +225,20 @@ pub record Told : Type 0 where
   pub newest_of_b : List ℕ
 
 abbrev told : Played' → Told
-told p = record { outcomes = p.outcomes; newest_of_a = newest p.world.a.mine; newest_of_b = newest p.world.b.mine }
+told p = record { outcomes = p.outcomes; newest_of_a = newest p.connection.a.mine; newest_of_b = newest p.connection.b.mine }
 
 -- it computes without the tests of deliveries
-gives : (tokens_of : Signing) (terms : Terms) (seed_a seed_b : List ℕ) (steps : List PairStep) (t : Told) → told (by_trust tokens_of (opened_both terms seed_a seed_b) steps) ≡ t
-    → told (record { world = world_after tokens_of (opened_both terms seed_a seed_b) steps; outcomes = outcomes_of tokens_of (opened_both terms seed_a seed_b) steps }) ≡ t
+gives : (tokens_of : Signing) (terms : Terms) (seed_a seed_b : List ℕ) (steps : List PairStep) (t : Told) → told (by_trust tokens_of (opened terms seed_a seed_b) steps) ≡ t
+    → told (record { connection = connection_after tokens_of (opened terms seed_a seed_b) steps; outcomes = outcomes_of tokens_of (opened terms seed_a seed_b) steps }) ≡ t
 gives tokens_of terms seed_a seed_b steps t e =
-    let w = opened_both terms seed_a seed_b in
-    ap (λ v. told (record { world = v; outcomes = outcomes_of tokens_of w steps })) (world-trusting tokens_of terms seed_a seed_b steps)
-    ∙ ap (λ os. told (record { world = (by_trust tokens_of w steps).world; outcomes = os })) (outcomes-trusting tokens_of terms seed_a seed_b steps) ∙ e
+    let w = opened terms seed_a seed_b in
+    ap (λ v. told (record { connection = v; outcomes = outcomes_of tokens_of w steps })) (connection-trusting tokens_of terms seed_a seed_b steps)
+    ∙ ap (λ os. told (record { connection = (by_trust tokens_of w steps).connection; outcomes = os })) (outcomes-trusting tokens_of terms seed_a seed_b steps) ∙ e
 
 module _ (tokens_of : Signing) (funding : OutPoint) (bases : BaseKeys) (seed_a seed_b : List ℕ) where
   -- what the steps give from a new channel of these terms
   abbrev gives_of : Terms → List PairStep → Told
-  gives_of terms steps = let w = opened_both terms seed_a seed_b in told (record { world = world_after tokens_of w steps; outcomes = outcomes_of tokens_of w steps })
+  gives_of terms steps = let w = opened terms seed_a seed_b in told (record { connection = connection_after tokens_of w steps; outcomes = outcomes_of tokens_of w steps })
 
   abbrev told_0 : Told
   told_0 = record {

@@ -1,12 +1,13 @@
 -- The state after all messages of its queue have come.
-use Rattle.std.proofs.Common.{◌≡◌, ℕ, ◌+◌, true, List, [], ◌∷◌, ◌++◌, sym, ◌∙◌, refl, arith, None, append-nil, append_assoc}
+use Rattle.std.proofs.Common.{◌≡◌, ℕ, ◌+◌, Bool, true, List, [], ◌∷◌, ◌++◌, sym, ◌∙◌, refl, arith, None, append-nil, append_assoc}
 use Rattle.updates.specs.declared.changes.Update.{Update}
 use Rattle.updates.specs.Stages.{Stages, with_update}
 use Rattle.channel.specs.declared.commitments.CommitmentState.{CommitmentState}
 use Rattle.channel.specs.declared.messages.Message.{Message}
 use Rattle.updates.specs.declared.messages.PeerStep.TheVariants.{Update as Updated, CommitmentSigned}
 use Rattle.channel.specs.declared.messages.Message.TheVariants.{Step, RevokeAndAck}
-use Rattle.channel.specs.States.{Signing, State, receive_refusal, after_update, after, own_next}
+use Rattle.updates.specs.Steady.{holding_made}
+use Rattle.channel.specs.States.{Signing, State, receive_refusal, after, own_next}
 use Rattle.terms.specs.Sides.{other}
 use Rattle.updates.proofs.Sums.{begins, begins_on}
 use Rattle.updates.proofs.Accepting.{update_accepted}
@@ -59,20 +60,40 @@ pub revocations_in-append : (queue more : List Message) → revocations_in (queu
 revocations_in-append [] more = omega arith
 revocations_in-append (m ∷ queue) more = let h = revocations_in-append queue more in omega (arith, h)
 
--- an update of one's own, made before or after they come
+-- an update of one's own, made before or after they come; the ids of what one ever fulfilled may be any
 
-pub drained_made : (queue : List Message) (u : Update) (s : State) → drained queue (after_update u s) ≡ after_update u (drained queue s)
-drained_made [] u s = refl
-drained_made (Step (Updated v) ∷ queue) u s = drained_made queue u (after s (Step (Updated v)))
-drained_made (Step (CommitmentSigned tokens) ∷ queue) u s = drained_made queue u (after s (Step (CommitmentSigned tokens)))
-drained_made (RevokeAndAck revocation ∷ queue) u s = drained_made queue u (after s (RevokeAndAck revocation))
+abbrev pub made : Update → List ℕ → State → State
+made u ids s = record s { held = holding_made u s.held; fulfilled = ids }
 
-pub flows_made : (tokens_of : Signing) (queue : List Message) (u : Update) (s : State) → Flows tokens_of queue s → Flows tokens_of queue (after_update u s)
-flows_made tokens_of [] u s f = tt
-flows_made tokens_of (Step (Updated v) ∷ queue) u s f =
-    (update_accepted s.held.terms (other s.held.side) s.held.theirs s.held.own s.held.theirs (with_update u s.held.own) v (record { known = refl; settled = refl; others_known = (u ∷ [], refl); others_settled = begins s.held.own.settled }) f.0, flows_made tokens_of queue u (after s (Step (Updated v))) f.1)
-flows_made tokens_of (Step (CommitmentSigned tokens) ∷ queue) u s f = (f.0, flows_made tokens_of queue u (after s (Step (CommitmentSigned tokens))) f.1)
-flows_made tokens_of (RevokeAndAck revocation ∷ queue) u s f = (f.0, flows_made tokens_of queue u (after s (RevokeAndAck revocation)) f.1)
+pub drained_made : (queue : List Message) (u : Update) (ids : List ℕ) (s : State) → drained queue (made u ids s) ≡ made u ids (drained queue s)
+drained_made [] u ids s = refl
+drained_made (Step (Updated v) ∷ queue) u ids s = drained_made queue u ids (after s (Step (Updated v)))
+drained_made (Step (CommitmentSigned tokens) ∷ queue) u ids s = drained_made queue u ids (after s (Step (CommitmentSigned tokens)))
+drained_made (RevokeAndAck revocation ∷ queue) u ids s = drained_made queue u ids (after s (RevokeAndAck revocation))
+
+pub flows_made : (tokens_of : Signing) (queue : List Message) (u : Update) (ids : List ℕ) (s : State) → Flows tokens_of queue s → Flows tokens_of queue (made u ids s)
+flows_made tokens_of [] u ids s f = tt
+flows_made tokens_of (Step (Updated v) ∷ queue) u ids s f =
+    (update_accepted s.held.terms (other s.held.side) s.held.theirs s.held.own s.held.theirs (with_update u s.held.own) v (record { known = refl; settled = refl; others_known = (u ∷ [], refl); others_settled = begins s.held.own.settled }) f.0, flows_made tokens_of queue u ids (after s (Step (Updated v))) f.1)
+flows_made tokens_of (Step (CommitmentSigned tokens) ∷ queue) u ids s f = (f.0, flows_made tokens_of queue u ids (after s (Step (CommitmentSigned tokens))) f.1)
+flows_made tokens_of (RevokeAndAck revocation ∷ queue) u ids s f = (f.0, flows_made tokens_of queue u ids (after s (RevokeAndAck revocation)) f.1)
+
+-- these ids are not looked at
+
+abbrev pub having_fulfilled : List ℕ → State → State
+having_fulfilled ids s = record s { fulfilled = ids }
+
+pub drained_fulfilled : (queue : List Message) (ids : List ℕ) (s : State) → drained queue (having_fulfilled ids s) ≡ having_fulfilled ids (drained queue s)
+drained_fulfilled [] ids s = refl
+drained_fulfilled (Step (Updated v) ∷ queue) ids s = drained_fulfilled queue ids (after s (Step (Updated v)))
+drained_fulfilled (Step (CommitmentSigned tokens) ∷ queue) ids s = drained_fulfilled queue ids (after s (Step (CommitmentSigned tokens)))
+drained_fulfilled (RevokeAndAck revocation ∷ queue) ids s = drained_fulfilled queue ids (after s (RevokeAndAck revocation))
+
+pub flows_fulfilled : (tokens_of : Signing) (queue : List Message) (ids : List ℕ) (s : State) → Flows tokens_of queue s → Flows tokens_of queue (having_fulfilled ids s)
+flows_fulfilled tokens_of [] ids s f = tt
+flows_fulfilled tokens_of (Step (Updated v) ∷ queue) ids s f = (f.0, flows_fulfilled tokens_of queue ids (after s (Step (Updated v))) f.1)
+flows_fulfilled tokens_of (Step (CommitmentSigned tokens) ∷ queue) ids s f = (f.0, flows_fulfilled tokens_of queue ids (after s (Step (CommitmentSigned tokens))) f.1)
+flows_fulfilled tokens_of (RevokeAndAck revocation ∷ queue) ids s f = (f.0, flows_fulfilled tokens_of queue ids (after s (RevokeAndAck revocation)) f.1)
 
 -- a signature given out, where no revocation is on its way
 abbrev pub with_receiver : List Update → Stages → Stages
@@ -81,24 +102,34 @@ with_receiver part s = record { known = s.known; with_receiver = part; past_rece
 abbrev pub with_sender : List Update → Stages → Stages
 with_sender part s = record { known = s.known; with_receiver = s.with_receiver; past_receiver = s.past_receiver; with_sender = part; settled = s.settled }
 
-abbrev pub with_signature : List Update → List Update → List CommitmentState → State → State
-with_signature known past signed s = record s {
+abbrev pub with_signature : List Update → List Update → List CommitmentState → Bool → State → State
+with_signature known past signed revoked s = record s {
   held = record { terms = s.held.terms; side = s.held.side; own = with_receiver known s.held.own; theirs = with_sender past s.held.theirs };
   awaiting = true;
   signed = signed;
+  revoked_last = revoked;
 }
 
-pub drained_signed : (queue : List Message) (known past : List Update) (cs : List CommitmentState) (s : State) → revocations_in queue ≡ 0 → drained queue (with_signature known past cs s) ≡ with_signature known past cs (drained queue s)
-drained_signed [] known past cs s e = refl
-drained_signed (Step (Updated v) ∷ queue) known past cs s e = drained_signed queue known past cs (after s (Step (Updated v))) (omega (arith, e))
-drained_signed (Step (CommitmentSigned tokens) ∷ queue) known past cs s e = drained_signed queue known past cs (after s (Step (CommitmentSigned tokens))) (omega (arith, e))
-drained_signed (RevokeAndAck revocation ∷ queue) known past cs s e = absurd (omega (arith, e))
+-- a received signature is answered by a revocation, which then goes out last
+abbrev pub revoked_after : Bool → List Message → Bool
+revoked_after revoked [] = revoked
+revoked_after revoked (Step (Updated v) ∷ queue) = revoked_after revoked queue
+revoked_after revoked (Step (CommitmentSigned tokens) ∷ queue) = revoked_after true queue
+revoked_after revoked (RevokeAndAck revocation ∷ queue) = revoked_after revoked queue
 
-pub flows_signed : (tokens_of : Signing) (queue : List Message) (known past : List Update) (cs : List CommitmentState) (s : State) → revocations_in queue ≡ 0 → Flows tokens_of queue s → Flows tokens_of queue (with_signature known past cs s)
-flows_signed tokens_of [] known past cs s e f = tt
-flows_signed tokens_of (Step (Updated v) ∷ queue) known past cs s e f = (f.0, flows_signed tokens_of queue known past cs (after s (Step (Updated v))) (omega (arith, e)) f.1)
-flows_signed tokens_of (Step (CommitmentSigned tokens) ∷ queue) known past cs s e f = (f.0, flows_signed tokens_of queue known past cs (after s (Step (CommitmentSigned tokens))) (omega (arith, e)) f.1)
-flows_signed tokens_of (RevokeAndAck revocation ∷ queue) known past cs s e f = absurd (omega (arith, e))
+pub drained_signed : (queue : List Message) (known past : List Update) (cs : List CommitmentState) (revoked : Bool) (s : State) → revocations_in queue ≡ 0
+    → drained queue (with_signature known past cs revoked s) ≡ with_signature known past cs (revoked_after revoked queue) (drained queue s)
+drained_signed [] known past cs revoked s e = refl
+drained_signed (Step (Updated v) ∷ queue) known past cs revoked s e = drained_signed queue known past cs revoked (after s (Step (Updated v))) (omega (arith, e))
+drained_signed (Step (CommitmentSigned tokens) ∷ queue) known past cs revoked s e = drained_signed queue known past cs true (after s (Step (CommitmentSigned tokens))) (omega (arith, e))
+drained_signed (RevokeAndAck revocation ∷ queue) known past cs revoked s e = absurd (omega (arith, e))
+
+pub flows_signed : (tokens_of : Signing) (queue : List Message) (known past : List Update) (cs : List CommitmentState) (revoked : Bool) (s : State) → revocations_in queue ≡ 0
+    → Flows tokens_of queue s → Flows tokens_of queue (with_signature known past cs revoked s)
+flows_signed tokens_of [] known past cs revoked s e f = tt
+flows_signed tokens_of (Step (Updated v) ∷ queue) known past cs revoked s e f = (f.0, flows_signed tokens_of queue known past cs revoked (after s (Step (Updated v))) (omega (arith, e)) f.1)
+flows_signed tokens_of (Step (CommitmentSigned tokens) ∷ queue) known past cs revoked s e f = (f.0, flows_signed tokens_of queue known past cs true (after s (Step (CommitmentSigned tokens))) (omega (arith, e)) f.1)
+flows_signed tokens_of (RevokeAndAck revocation ∷ queue) known past cs revoked s e f = absurd (omega (arith, e))
 
 -- what the messages leave as it was
 
@@ -132,11 +163,13 @@ drained_unsigned (RevokeAndAck revocation ∷ queue) s e = let h = drained_unsig
 pub record SameUnrevoked (s t : State) : Type 0 where
   pub awaiting : t.awaiting ≡ s.awaiting
   pub next_point : t.next_point ≡ s.next_point
+  pub past : t.held.own.past_receiver ≡ s.held.own.past_receiver
+  pub secrets : t.secrets ≡ s.secrets
 
 pub drained_unrevoked : (queue : List Message) (s : State) → revocations_in queue ≡ 0 → SameUnrevoked s (drained queue s)
-drained_unrevoked [] s e = record { awaiting = refl; next_point = refl }
-drained_unrevoked (Step (Updated v) ∷ queue) s e = let h = drained_unrevoked queue (after s (Step (Updated v))) (omega (arith, e)) in record { awaiting = h.awaiting; next_point = h.next_point }
-drained_unrevoked (Step (CommitmentSigned tokens) ∷ queue) s e = let h = drained_unrevoked queue (after s (Step (CommitmentSigned tokens))) (omega (arith, e)) in record { awaiting = h.awaiting; next_point = h.next_point }
+drained_unrevoked [] s e = record { awaiting = refl; next_point = refl; past = refl; secrets = refl }
+drained_unrevoked (Step (Updated v) ∷ queue) s e = let h = drained_unrevoked queue (after s (Step (Updated v))) (omega (arith, e)) in record { awaiting = h.awaiting; next_point = h.next_point; past = h.past; secrets = h.secrets }
+drained_unrevoked (Step (CommitmentSigned tokens) ∷ queue) s e = let h = drained_unrevoked queue (after s (Step (CommitmentSigned tokens))) (omega (arith, e)) in record { awaiting = h.awaiting; next_point = h.next_point; past = h.past; secrets = h.secrets }
 drained_unrevoked (RevokeAndAck revocation ∷ queue) s e = absurd (omega (arith, e))
 
 -- what only grows

@@ -16,7 +16,8 @@ use Rattle.updates.specs.declared.messages.PeerStep.TheVariants.{Update as Updat
 use Rattle.channel.specs.declared.messages.Message.TheVariants.{Step, RevokeAndAck}
 use Rattle.channel.specs.Points.{point_at}
 use Rattle.channel.specs.States.{Signing, State, state_at_opening, sign_tests, receive_tests, receive_refusal, peers_next, own_next, after_update, after_sign, after}
-use Rattle.channel.specs.Peers.{starts, updated_once, signed_once, received_once}
+use Rattle.channel.specs.Reestablishing.{forgotten}
+use Rattle.channel.specs.Peers.{starts, updated_once, signed_once, received_once, forgot_once}
 use Rattle.channel.specs.Recording.{own_newest, peers_newest, peers_signed, IsRecorded, SidesRecord}
 
 pub view_turned : (terms : Terms) (side : Side) (p q : List Update) → view_by terms (other side) p q ≡ view_by terms side q p
@@ -67,6 +68,13 @@ recorded_made s u r = record { older = r.older; mine = r.mine; older_count = r.o
     unchanged true = refl
     unchanged false = refl
 
+recorded_forgotten : (s : State) → IsRecorded s → IsRecorded (forgotten s)
+recorded_forgotten s r = record { older = r.older; mine = r.mine; older_count = r.older_count; past = r.past; signed = r.signed ∙ ap (λ l. r.past ++ peers_newest s ∷ l) (unchanged s.awaiting); past_count = r.past_count }
+  where
+    unchanged : (b : Bool) → peers_signed s b ≡ peers_signed (forgotten s) b
+    unchanged true = refl
+    unchanged false = refl
+
 recorded_update : (s : State) (u : Update) → IsRecorded s → IsRecorded (after s (Step (Updated u)))
 recorded_update s u r = record { older = r.older; mine = r.mine; older_count = r.older_count; past = r.past; signed = r.signed ∙ ap (λ l. r.past ++ peers_newest s ∷ l) (unchanged s.awaiting); past_count = r.past_count }
   where
@@ -111,3 +119,4 @@ sides_record tokens_of s (starts terms side seed point next_point) = recorded_op
 sides_record tokens_of s (updated_once {s = r} u e l) = recorded_made r u (sides_record tokens_of r l)
 sides_record tokens_of s (signed_once {s = r} e l) = recorded_signed r (calm_when r (all_pass (sign_tests r) e)) (sides_record tokens_of r l)
 sides_record tokens_of s (received_once {s = r} m e l) = recorded_after tokens_of r m e (sides_record tokens_of r l)
+sides_record tokens_of s (forgot_once {s = r} l) = recorded_forgotten r (sides_record tokens_of r l)

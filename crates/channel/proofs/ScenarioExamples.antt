@@ -13,18 +13,19 @@ use Rattle.channel.specs.declared.commitments.CommitmentState.{CommitmentState}
 use Rattle.channel.specs.declared.plays.Action.{Action}
 use Rattle.channel.specs.declared.plays.Action.TheVariants.{Own, Sign, Deliver}
 use Rattle.channel.specs.declared.plays.PairStep.{PairStep}
-use Rattle.channel.specs.declared.plays.Outcome.TheVariants.{Done, Refused, NoMessage}
+use Rattle.channel.specs.declared.plays.PairStep.TheVariants.{Turn, Cut}
+use Rattle.channel.specs.declared.plays.Outcome.TheVariants.{Done, Refused, NoMessage, NotConnected}
 use Rattle.channel.specs.States.{Signing}
-use Rattle.channel.specs.Peers.{World, opened_both}
-use Rattle.channel.specs.Playing.{outcomes_of, world_after}
+use Rattle.channel.specs.Connections.{Connection, opened}
+use Rattle.channel.specs.Playing.{outcomes_of, connection_after}
 use Rattle.channel.proofs.Samples.{sample_terms}
-use Rattle.channel.proofs.Trusting.{outcomes-trusting, world-trusting}
+use Rattle.channel.proofs.Trusting.{outcomes-trusting, connection-trusting}
 
 abbrev by_a : Action → PairStep
-by_a action = record { side = A; action = action }
+by_a action = Turn A action
 
 abbrev by_b : Action → PairStep
-by_b action = record { side = B; action = action }
+by_b action = Turn B action
 
 -- an update of a side
 abbrev a_makes : OwnUpdate → PairStep
@@ -59,6 +60,17 @@ changed =
     b_makes (SetFee 5000) ∷ a_makes (SetFee 5000) ∷ a_makes (Offer 3861000 hash 500) ∷ by_b Deliver ∷ by_b Deliver ∷ by_a Sign ∷ by_b Deliver ∷ by_a Deliver
     ∷ by_b Sign ∷ by_a Deliver ∷ by_b Deliver ∷ []
 
+-- A's offer comes, its signature is lost, and A gives both again; before B's hello came it calls nothing
+abbrev resumed : List PairStep
+resumed =
+    a_makes (Offer 10000000 hash 5) ∷ by_a Sign ∷ by_b Deliver ∷ Cut ∷ by_a Sign ∷ by_a Deliver ∷ by_a Sign ∷ by_b Deliver ∷ by_b Deliver ∷ by_b Deliver
+    ∷ by_b Sign ∷ by_a Deliver ∷ by_a Deliver ∷ by_b Deliver ∷ by_b Deliver ∷ []
+
+-- A's offer, which no signature covers, is forgotten on both sides, and its id is given again
+abbrev offered_anew : List PairStep
+offered_anew =
+    a_makes (Offer 10000000 hash 5) ∷ by_b Deliver ∷ Cut ∷ by_b Deliver ∷ by_a Deliver ∷ a_makes (Offer 20000000 hash 6) ∷ by_b Deliver ∷ by_a Sign ∷ by_b Deliver ∷ []
+
 abbrev htlc : ℕ → ℕ → Htlc
 htlc amount_msat expiry_height = record { id = 0; amount_msat = amount_msat; hash = hash; expiry_height = expiry_height }
 
@@ -73,33 +85,49 @@ module _ (tokens_of : Signing) (funding : OutPoint) (bases : BaseKeys) (seed_a s
   abbrev terms : Terms
   terms = sample_terms funding bases
 
-  abbrev opened : World
-  opened = opened_both terms seed_a seed_b
+  abbrev new : Connection
+  new = opened terms seed_a seed_b
 
-  outcomes_settled : outcomes_of tokens_of opened settled ≡ Done ∷ Done ∷ Done ∷ Done ∷ Done ∷ Done ∷ Done ∷ Done ∷ []
+  outcomes_settled : outcomes_of tokens_of new settled ≡ Done ∷ Done ∷ Done ∷ Done ∷ Done ∷ Done ∷ Done ∷ Done ∷ []
   outcomes_settled = outcomes-trusting tokens_of terms seed_a seed_b settled ∙ refl
 
-  outcomes_failed : outcomes_of tokens_of opened failed ≡ Done ∷ Done ∷ Done ∷ Done ∷ Done ∷ Done ∷ Done ∷ Done ∷ Done ∷ Done ∷ Done ∷ []
+  outcomes_failed : outcomes_of tokens_of new failed ≡ Done ∷ Done ∷ Done ∷ Done ∷ Done ∷ Done ∷ Done ∷ Done ∷ Done ∷ Done ∷ Done ∷ []
   outcomes_failed = outcomes-trusting tokens_of terms seed_a seed_b failed ∙ refl
 
-  outcomes_hasty : outcomes_of tokens_of opened hasty ≡ Done ∷ Done ∷ Done ∷ Refused NotYourTurn ∷ Done ∷ Done ∷ Done ∷ Done ∷ Refused UnknownHtlc ∷ Done ∷ Done ∷ Refused UnknownHtlc ∷ NoMessage ∷ []
+  outcomes_hasty : outcomes_of tokens_of new hasty ≡ Done ∷ Done ∷ Done ∷ Refused NotYourTurn ∷ Done ∷ Done ∷ Done ∷ Done ∷ Refused UnknownHtlc ∷ Done ∷ Done ∷ Refused UnknownHtlc ∷ NoMessage ∷ []
   outcomes_hasty = outcomes-trusting tokens_of terms seed_a seed_b hasty ∙ refl
 
-  outcomes_changed : outcomes_of tokens_of opened changed ≡ Refused NotOpener ∷ Done ∷ Done ∷ Done ∷ Done ∷ Done ∷ Done ∷ Done ∷ Done ∷ Done ∷ Done ∷ []
+  outcomes_changed : outcomes_of tokens_of new changed ≡ Refused NotOpener ∷ Done ∷ Done ∷ Done ∷ Done ∷ Done ∷ Done ∷ Done ∷ Done ∷ Done ∷ Done ∷ []
   outcomes_changed = outcomes-trusting tokens_of terms seed_a seed_b changed ∙ refl
 
   -- the HTLC that B failed stands in A's commitments till B's next signature comes
-  views_failed : (views (world_after tokens_of opened failed).a.mine ≡ pays 80000000 20000000 [] 1000 ∷ pays 70000000 20000000 (htlc 10000000 5 ∷ []) 1000 ∷ [])
-      × (views (world_after tokens_of opened failed).b.signed ≡ pays 80000000 20000000 [] 1000 ∷ pays 70000000 20000000 (htlc 10000000 5 ∷ []) 1000 ∷ pays 80000000 20000000 [] 1000 ∷ [])
+  views_failed : (views (connection_after tokens_of new failed).a.mine ≡ pays 80000000 20000000 [] 1000 ∷ pays 70000000 20000000 (htlc 10000000 5 ∷ []) 1000 ∷ [])
+      × (views (connection_after tokens_of new failed).b.signed ≡ pays 80000000 20000000 [] 1000 ∷ pays 70000000 20000000 (htlc 10000000 5 ∷ []) 1000 ∷ pays 80000000 20000000 [] 1000 ∷ [])
   views_failed = (
-    ap (λ (w : World). views w.a.mine) (world-trusting tokens_of terms seed_a seed_b failed) ∙ refl,
-    ap (λ (w : World). views w.b.signed) (world-trusting tokens_of terms seed_a seed_b failed) ∙ refl,
+    ap (λ (w : Connection). views w.a.mine) (connection-trusting tokens_of terms seed_a seed_b failed) ∙ refl,
+    ap (λ (w : Connection). views w.b.signed) (connection-trusting tokens_of terms seed_a seed_b failed) ∙ refl,
   )
 
   -- both sides' commitments 1 have the new feerate
-  views_changed : (views (world_after tokens_of opened changed).a.mine ≡ pays 80000000 20000000 [] 1000 ∷ pays 76139000 20000000 (htlc 3861000 500 ∷ []) 5000 ∷ [])
-      × (views (world_after tokens_of opened changed).b.mine ≡ pays 80000000 20000000 [] 1000 ∷ pays 76139000 20000000 (htlc 3861000 500 ∷ []) 5000 ∷ [])
+  views_changed : (views (connection_after tokens_of new changed).a.mine ≡ pays 80000000 20000000 [] 1000 ∷ pays 76139000 20000000 (htlc 3861000 500 ∷ []) 5000 ∷ [])
+      × (views (connection_after tokens_of new changed).b.mine ≡ pays 80000000 20000000 [] 1000 ∷ pays 76139000 20000000 (htlc 3861000 500 ∷ []) 5000 ∷ [])
   views_changed = (
-    ap (λ (w : World). views w.a.mine) (world-trusting tokens_of terms seed_a seed_b changed) ∙ refl,
-    ap (λ (w : World). views w.b.mine) (world-trusting tokens_of terms seed_a seed_b changed) ∙ refl,
+    ap (λ (w : Connection). views w.a.mine) (connection-trusting tokens_of terms seed_a seed_b changed) ∙ refl,
+    ap (λ (w : Connection). views w.b.mine) (connection-trusting tokens_of terms seed_a seed_b changed) ∙ refl,
+  )
+
+  outcomes_resumed : outcomes_of tokens_of new resumed ≡ Done ∷ Done ∷ Done ∷ Done ∷ NotConnected ∷ Done ∷ Refused NotYourTurn ∷ Done ∷ Done ∷ Done ∷ Done ∷ Done ∷ Done ∷ Done ∷ NoMessage ∷ []
+  outcomes_resumed = outcomes-trusting tokens_of terms seed_a seed_b resumed ∙ refl
+
+  outcomes_anew : outcomes_of tokens_of new offered_anew ≡ Done ∷ Done ∷ Done ∷ Done ∷ Done ∷ Done ∷ Done ∷ Done ∷ Done ∷ []
+  outcomes_anew = outcomes-trusting tokens_of terms seed_a seed_b offered_anew ∙ refl
+
+  -- the HTLC stands once in each side's commitment 1; and of the two offers with one id, the one after the cut
+  views_resumed : (views (connection_after tokens_of new resumed).a.mine ≡ pays 80000000 20000000 [] 1000 ∷ pays 70000000 20000000 (htlc 10000000 5 ∷ []) 1000 ∷ [])
+      × (views (connection_after tokens_of new resumed).b.mine ≡ pays 80000000 20000000 [] 1000 ∷ pays 70000000 20000000 (htlc 10000000 5 ∷ []) 1000 ∷ [])
+      × (views (connection_after tokens_of new offered_anew).b.mine ≡ pays 80000000 20000000 [] 1000 ∷ pays 60000000 20000000 (htlc 20000000 6 ∷ []) 1000 ∷ [])
+  views_resumed = (
+    ap (λ (w : Connection). views w.a.mine) (connection-trusting tokens_of terms seed_a seed_b resumed) ∙ refl,
+    ap (λ (w : Connection). views w.b.mine) (connection-trusting tokens_of terms seed_a seed_b resumed) ∙ refl,
+    ap (λ (w : Connection). views w.b.mine) (connection-trusting tokens_of terms seed_a seed_b offered_anew) ∙ refl,
   )

@@ -41,7 +41,7 @@ abbrev pub secrets_below : List ℕ → ℕ → List (List ℕ)
 secrets_below seed zero = []
 secrets_below seed (suc n) = secrets_below seed n ++ secret_at seed n ∷ []
 
-below-length : (seed : List ℕ) (n : ℕ) → length (secrets_below seed n) ≡ n
+pub below-length : (seed : List ℕ) (n : ℕ) → length (secrets_below seed n) ≡ n
 below-length seed zero = refl
 below-length seed (suc n) = let h = below-length seed n in let l = length-append (secrets_below seed n) (secret_at seed n ∷ []) in omega (arith, h, l)
 

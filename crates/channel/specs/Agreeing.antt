@@ -4,11 +4,8 @@ use Rattle.terms.specs.declared.agreement.Terms.{Terms}
 use Rattle.updates.specs.Shares.{IsSoundIn}
 use Rattle.channel.specs.declared.commitments.CommitmentState.{CommitmentState}
 use Rattle.channel.specs.declared.messages.Message.{Message}
-use Rattle.channel.specs.declared.plays.PairStep.{PairStep}
-use Rattle.channel.specs.declared.plays.Outcome.{Outcome}
 use Rattle.channel.specs.States.{Signing, State, receive_refusal}
-use Rattle.channel.specs.Peers.{World, opened_both, IsReached, IsLived}
-use Rattle.channel.specs.Playing.{IsPlay, AreDelivered}
+use Rattle.channel.specs.Peers.{World, IsReached, IsLived}
 
 -- in each view of a state no balance is below 0, and balances and HTLCs sum to 1000 times the capacity
 pub record IsSoundState (s : State) : Type 0 where
@@ -37,23 +34,12 @@ pub record AgreesIn (tokens_of : Signing) (w : World) : Type 0 where
 abbrev pub PeersAgree : Type 0
 PeersAgree = (tokens_of : Signing) (terms : Terms) (seed_a seed_b : List ℕ) (w : World) → IsReached tokens_of terms seed_a seed_b w → AgreesIn tokens_of w
 
--- the same for two peers played by any list of steps, where refused steps change nothing
-abbrev pub PlaysAgree : Type 0
-PlaysAgree =
-    (tokens_of : Signing) (terms : Terms) (seed_a seed_b : List ℕ) (steps : List PairStep) (outcomes : List Outcome) (w : World)
-    → IsPlay tokens_of (opened_both terms seed_a seed_b) steps outcomes w → AreDelivered steps outcomes × AgreesIn tokens_of w
-
 -- a world that steps of two honest peers reach from a new channel
 pub record IsPaired (tokens_of : Signing) (w : World) : Type 0 where
   pub terms : Terms
   pub seed_a : List ℕ
   pub seed_b : List ℕ
   pub reached : IsReached tokens_of terms seed_a seed_b w
-
--- at every moment of a play of these steps, that is after each first part of them, the two agree
-abbrev pub AgreesThroughout : Signing → World → List PairStep → Type 0
-AgreesThroughout tokens_of w steps =
-    (first rest : List PairStep) (outcomes : List Outcome) (v : World) → first ++ rest ≡ steps → IsPlay tokens_of w first outcomes v → IsPaired tokens_of v × AgreesIn tokens_of v
 
 -- a side's state is sound, whatever the peer sends
 abbrev pub SidesAreSound : Type 0

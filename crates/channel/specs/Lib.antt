@@ -1,10 +1,14 @@
 pub mod Points
 pub mod States
+pub mod Reestablishing
 pub mod Tokens
 pub mod Rights
 pub mod Numbered
 pub mod Keeping
 pub mod Peers
-pub mod Playing
 pub mod Recording
 pub mod Agreeing
+pub mod Connections
+pub mod Resending
+pub mod Playing
+pub mod Standing

@@ -10,6 +10,7 @@ use Rattle.updates.specs.declared.messages.PeerStep.TheVariants.{Update as Updat
 use Rattle.channel.specs.declared.messages.Message.TheVariants.{Step}
 use Rattle.channel.specs.Points.{point_at}
 use Rattle.channel.specs.States.{Signing, State, state_at_opening, update_refusal, sign_refusal, receive_refusal, after_update, after_sign, after, answers, signature_message}
+use Rattle.channel.specs.Reestablishing.{forgotten}
 
 pub record World : Type 0 where
   pub a : State
@@ -50,9 +51,10 @@ pub data IsReached (tokens_of : Signing) (terms : Terms) (seed_a seed_b : List �
   at_opening : IsReached tokens_of terms seed_a seed_b (opened_both terms seed_a seed_b)
   then : {w v : World} → IsReached tokens_of terms seed_a seed_b w → Steps tokens_of w v → IsReached tokens_of terms seed_a seed_b v
 
--- the states of one side that its own calls and any messages lead to, whoever sent the messages
+-- the states of one side that its own calls, any messages and cuts of its connection lead to, whoever sent the messages
 pub data IsLived (tokens_of : Signing) : State → Type 0 where
   starts : (terms : Terms) (side : Side) (seed : List ℕ) (point next_point : Key) → IsLived tokens_of (state_at_opening terms side seed point next_point)
   updated_once : {s : State} (u : Update) → update_refusal s u ≡ None → IsLived tokens_of s → IsLived tokens_of (after_update u s)
   signed_once : {s : State} → sign_refusal s ≡ None → IsLived tokens_of s → IsLived tokens_of (after_sign s)
   received_once : {s : State} (m : Message) → receive_refusal tokens_of s m ≡ None → IsLived tokens_of s → IsLived tokens_of (after s m)
+  forgot_once : {s : State} → IsLived tokens_of s → IsLived tokens_of (forgotten s)

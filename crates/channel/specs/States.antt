@@ -1,5 +1,6 @@
 -- The state of one side of a channel, its refusals in their order, and the state after its calls and received messages (BOLT 2, "Normal Operation").
-use Rattle.std.specs.Prelude.{ℕ, ◌+◌, Bool, true, false, not, ◌&&◌, ◌||◌, nat_le, List, [], ◌∷◌, ◌++◌, Option}
+use Rattle.std.specs.Prelude.{ℕ, ◌+◌, Bool, true, false, not, ◌&&◌, ◌||◌, nat_le, ◌==◌, List, [], ◌∷◌, ◌++◌, Option}
+use Rattle.std.specs.List.{list_any}
 use Rattle.std.specs.Str.{bytes_eq}
 use lib.Pointwise.{pointwise}
 use Rattle.keys.specs.declared.compressed.Key.{Key}
@@ -12,7 +13,7 @@ use Rattle.updates.specs.declared.changes.Update.TheVariants.{Add, Fulfil as Ful
 use Rattle.updates.specs.declared.changes.OwnUpdate.{OwnUpdate}
 use Rattle.updates.specs.declared.changes.OwnUpdate.TheVariants.{Offer, Fulfil, Fail, SetFee}
 use Rattle.updates.specs.declared.errors.ChannelError.{ChannelError}
-use Rattle.updates.specs.declared.errors.ChannelError.TheVariants.{NoUpdates, BadSignature, WrongSecret, NotYourTurn}
+use Rattle.updates.specs.declared.errors.ChannelError.TheVariants.{NoUpdates, BadSignature, WrongSecret, NotYourTurn, AlreadyFulfilled}
 use Rattle.updates.specs.Views.{view_by}
 use Rattle.updates.specs.Stages.{Stages}
 use Rattle.updates.specs.Refusals.{Test, first_refusal, covers_nothing}
@@ -41,6 +42,8 @@ pub record State : Type 0 where
   pub secrets : List (List ℕ)  -- the peer's, by number
   pub mine : List CommitmentState  -- this side's commitments that the peer signed, by number
   pub signed : List CommitmentState  -- the peer's commitments that were signed, by number
+  pub revoked_last : Bool  -- of the newest signature and the newest revocation that this side gave, the revocation went out last
+  pub fulfilled : List ℕ  -- the ids of the peer's HTLCs that this side ever fulfilled, also where the fulfilment was forgotten
 
 -- commitment 0, which pays the balances at the start
 abbrev pub first_of : Terms → Side → Key → CommitmentState
@@ -60,6 +63,8 @@ state_at_opening terms side seed point next_point = record {
   secrets = [];
   mine = first_of terms side (point_at seed 0) ∷ [];
   signed = first_of terms (other side) point ∷ [];
+  revoked_last = false;
+  fulfilled = [];
 }
 
 -- the commitment that a signature of `by` is for: it has all of the signer's updates, and those of the other side that the signer's revocation acknowledged
@@ -97,9 +102,17 @@ receive_tests tokens_of s (RevokeAndAck revocation) =
     (not s.awaiting, NotYourTurn) ∷ (not (bytes_eq (point_of revocation.secret) s.point.bytes), WrongSecret)
     ∷ (is_foreign s.secrets revocation.secret, WrongSecret) ∷ []
 
+-- an HTLC that this side ever fulfilled is not failed, since its preimage is out
+abbrev pub repeat_tests : List ℕ → Update → List Test
+repeat_tests fulfilled (Failing id) = (list_any (λ i. i == id) fulfilled, AlreadyFulfilled) ∷ []
+repeat_tests fulfilled u = []
+
+abbrev pub repeat_refusal : State → Update → Option ChannelError
+repeat_refusal s u = first_refusal (repeat_tests s.fulfilled u)
+
 -- the refusals of an update of one's own, of a signature to be given out, and of a received message
 abbrev pub update_refusal : State → Update → Option ChannelError
-update_refusal s u = first_refusal (own_tests s.held u)
+update_refusal s u = first_refusal (own_tests s.held u ++ repeat_tests s.fulfilled u)
 
 abbrev pub sign_refusal : State → Option ChannelError
 sign_refusal s = first_refusal (sign_tests s)
@@ -116,14 +129,20 @@ update_of s (SetFee feerate_per_kw) = Fee feerate_per_kw
 
 -- the state after an update of one's own, after a signature given out, and after a received message; a received signature is answered at once by a
 -- revocation
+abbrev pub fulfilled_after : Update → List ℕ → List ℕ
+fulfilled_after (Fulfilling id preimage) fulfilled = fulfilled ++ id ∷ []
+fulfilled_after u fulfilled = fulfilled
+
 abbrev pub after_update : Update → State → State
-after_update u s = record s { held = holding_made u s.held }
+after_update u s =
+    record s { held = holding_made u s.held; fulfilled = fulfilled_after u s.fulfilled }
 
 abbrev pub after_sign : State → State
 after_sign s = record s {
   held = holding_signed s.held;
   awaiting = true;
   signed = s.signed ++ peers_next s ∷ [];
+  revoked_last = false;
 }
 
 abbrev pub after : State → Message → State
@@ -132,6 +151,7 @@ after s (Step (CommitmentSigned tokens)) = record s {
   held = holding_signature s.held;
   number = s.number + 1;
   mine = s.mine ++ own_next s ∷ [];
+  revoked_last = true;
 }
 after s (RevokeAndAck revocation) = record s {
   held = holding_revocation s.held;

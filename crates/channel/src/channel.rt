@@ -1,5 +1,7 @@
 //! One side of a channel.
 
+mod resending;
+
 use crate::commitments::CommitmentState;
 use crate::limits::LAST_NUMBER;
 use crate::messages::Message;
@@ -16,10 +18,11 @@ use updates::{ChannelError, Ledger, OwnUpdate, PeerStep, Revocation, Tokens, Upd
 /// One side of a channel: its updates, the numbers of both sides' commitments, the peer's points and secrets, and every commitment that was signed. A
 /// contract sees it as its `State`.
 ///
-/// It keeps every update, about 64 bytes each. A signature, given or received, takes about 120 bytes, and 56 for each HTLC in its commitment. Of a received one
+/// It keeps every update, about 64 bytes each, and 8 bytes more for each fulfilment of its own. A signature, given or received, takes about 120 bytes, and 56 for each HTLC in its commitment. Of a received one
 /// the tokens take about 100 bytes more, and 66 for each HTLC that isn't trimmed. In the signer, a received signature takes about 300 bytes, at most about 520,
 /// and a received revocation twice as much. The time of a call depends on the HTLCs that stand and
-/// on the logarithm of the number of revocations, and on nothing else.
+/// on the logarithm of the number of revocations. That of [`fail`](Channel::fail) depends on the number of its own fulfilments too, and that of
+/// [`forget`](Channel::forget) and [`resend`](Channel::resend) on the updates that they give.
 #[derive(Drop)]
 pub struct Channel {
     ledger: Ledger,
@@ -34,6 +37,9 @@ pub struct Channel {
     // the peer's tokens on each of them
     tokens: Vec<Tokens>,
     signed: Vec<CommitmentState>,
+    revoked_last: bool,
+    // the ids of the peer's HTLCs that this side ever fulfilled
+    fulfilled: Vec<u64>,
 }
 
 impl Model for Channel {
@@ -53,6 +59,8 @@ impl Model for Channel {
       secrets = c.secrets;
       mine = c.mine.items;
       signed = c.signed.items;
+      revoked_last = c.revoked_last;
+      fulfilled = c.fulfilled.items;
     } };
 
     ghost invariant = { λ c. IsChannel (record {
@@ -66,6 +74,8 @@ impl Model for Channel {
       secrets = c.secrets;
       mine = c.mine.items;
       signed = c.signed.items;
+      revoked_last = c.revoked_last;
+      fulfilled = c.fulfilled.items;
     }) c.signer c.tokens.items };
 }
 
@@ -77,7 +87,7 @@ struct NextCommitment {
 }
 
 impl Channel {
-    ghost use Rattle.std.specs.Prelude.{◌≡◌, ◌↔◌, ℕ, List, ◌+◌, ◌^◌, ◌<◌, ◌≤◌, ◌||◌, nat_le, [], ◌∷◌, ◌++◌, false, true, length, slice_get, option_map, IfOk, IfErr, IfSome, IfNone, OnErr};
+    ghost use Rattle.std.specs.Prelude.{◌≡◌, ◌↔◌, ℕ, List, ◌+◌, ◌^◌, ◌<◌, ◌≤◌, ◌||◌, nat_le, [], ◌∷◌, ◌++◌, false, true, length, slice_get, option_map, IfOk, IfErr, IfSome, IfNone, OnErr, MatchResult};
     ghost use Rattle.std.specs.List.{cons_option};
     ghost use Rattle.updates.specs.declared.changes.Update.TheVariants.{Add, Fulfil, Fail, Fee};
     ghost use Rattle.updates.specs.declared.errors.ChannelError.TheVariants.{NoMemory};
@@ -95,7 +105,7 @@ impl Channel {
     ghost use Rattle.keys.specs.Rights.{MaySign};
     ghost use Rattle.updates.specs.Shares.{IsSoundIn};
     ghost use Rattle.channel.specs.Tokens.{IsBuilt, opening_tests, peer_tokens as tokens_of};
-    ghost use Rattle.channel.specs.States.{state_at_opening, peers_next, own_next, update_of, update_refusal, sign_refusal, receive_refusal, receive_tests, after_update, after_sign, after, answers, signature_message};
+    ghost use Rattle.channel.specs.States.{state_at_opening, peers_next, own_next, update_of, repeat_refusal, update_refusal, sign_refusal, receive_refusal, receive_tests, after_update, after_sign, after, answers, signature_message};
 
     /// A side of a new channel, with the peer's per-commitment points for 0 and 1, and the peer's token on this side's commitment 0. Any other token is refused
     /// as BadSignature. The signer has learnt nothing yet, and its funding and HTLC base keys stand in the terms.
@@ -128,6 +138,8 @@ impl Channel {
             mine: first.own.mine,
             tokens: first.own.tokens,
             signed: first.signed,
+            revoked_last: false,
+            fulfilled: Vec::new(alloc),
         })
     }
 
@@ -273,19 +285,45 @@ impl Channel {
         ensures tested { OkUnless result (update_refusal self.old (Fulfil id preimage)) IsRefusal }
         ensures err { OnErr result (self.new ≡ self.old) }
     {
+        match self.fulfilled.reserve(1) {
+            Ok(()) => {}
+            Err(_) => return Err(ChannelError::NoMemory),
+        }
         match self.ledger.fulfil(id, preimage) {
-            Ok(()) => Ok(Message::Step(PeerStep::Update(Update::Fulfil { id, preimage }))),
+            Ok(()) => {
+                self.fulfilled.push(id).unwrap();
+                Ok(Message::Step(PeerStep::Update(Update::Fulfil { id, preimage })))
+            }
             Err(refusal) => Err(refusal),
         }
     }
 
-    /// Fails an HTLC of the peer (BOLT 2, `update_fail_htlc`), and returns the message: UnknownHtlc as for `fulfil`. A refusal leaves the channel as it was.
+    // Whether this side ever fulfilled the HTLC that it is about to fail. What else refuses the failure comes first.
+    fn check_repeat(&self, id: u64) -> Result<(), ChannelError>
+        ensures { MatchResult result (λ _. repeat_refusal self.now (Fail id) ≡ None)
+            (IsRefusal (update_refusal self.now (Fail id))) }
+    {
+        if !self.fulfilled.as_slice().contains(&id) {
+            return Ok(());
+        }
+        match self.ledger.check_own(&Update::Fail { id }) {
+            Ok(()) => Err(ChannelError::AlreadyFulfilled),
+            Err(refusal) => Err(refusal),
+        }
+    }
+
+    /// Fails an HTLC of the peer (BOLT 2, `update_fail_htlc`), and returns the message: UnknownHtlc as for `fulfil`, else AlreadyFulfilled if this side
+    /// fulfilled it before its connection was cut. A refusal leaves the channel as it was. It looks through the ids of the HTLCs that this side ever fulfilled.
     pub fn fail(&mut self, id: u64) -> Result<Message, ChannelError>
         ensures message { IfOk result (λ m. m ≡ Step (Updated (Fail id))) }
         ensures ok { IfOk result (λ _. self.new ≡ after_update (Fail id) self.old) }
         ensures tested { OkUnless result (update_refusal self.old (Fail id)) IsRefusal }
         ensures err { OnErr result (self.new ≡ self.old) }
     {
+        match self.check_repeat(id) {
+            Ok(()) => {}
+            Err(refusal) => return Err(refusal),
+        }
         match self.ledger.fail(id) {
             Ok(()) => Ok(Message::Step(PeerStep::Update(Update::Fail { id }))),
             Err(refusal) => Err(refusal),
@@ -426,6 +464,7 @@ impl Channel {
         }
         self.ledger.sign();
         self.awaiting = true;
+        self.revoked_last = false;
         Ok(Message::Step(PeerStep::CommitmentSigned(tokens)))
     }
 
@@ -507,6 +546,7 @@ impl Channel {
         self.tokens.push(next.tokens).unwrap();
         self.ledger.receive_signature();
         self.number += 1;
+        self.revoked_last = true;
         Ok(Revocation { secret, next_point })
     }
 

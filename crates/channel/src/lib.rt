@@ -29,6 +29,7 @@ mod messages;
 mod opening;
 mod pair;
 mod plays;
+mod reestablish;
 mod tokens;
 
 pub use channel::Channel;
@@ -38,3 +39,4 @@ pub use messages::Message;
 pub use opening::{OpeningPoints, opening_points, opening_token};
 pub use pair::Pair;
 pub use plays::{Action, Outcome, PairStep};
+pub use reestablish::{Again, Parcel, Reestablish};

@@ -10,15 +10,17 @@ pub enum Action {
     Own(OwnUpdate),
     /// Signs its peer's next commitment.
     Sign,
-    /// Receives the oldest message that is on its way to it, and sends the answer.
+    /// Receives the oldest parcel that is on its way to it, and sends the answer: to a hello, what its peer lacks.
     Deliver,
 }
 
-/// A step of one of two peers.
+/// A step of two peers.
 #[derive(Clone, Copy, Debug, PartialEq, Eq, Drop)]
-pub struct PairStep {
-    pub side: Side,
-    pub action: Action,
+pub enum PairStep {
+    /// One of them acts.
+    Turn { side: Side, action: Action },
+    /// Their connection is cut and made again: all that is on its way is lost, each side forgets, and says its hello.
+    Cut,
 }
 
 /// The outcome of a step.
@@ -27,6 +29,10 @@ pub enum Outcome {
     Done,
     /// Nothing changed.
     Refused(ChannelError),
-    /// No message was on its way to the side. Nothing changed.
+    /// No parcel was on its way to the side. Nothing changed.
     NoMessage,
+    /// The side's connection was cut, and its peer's hello has not come. Nothing changed.
+    NotConnected,
+    /// The hello says that the side lost what it knew. Nothing changed.
+    Behind,
 }

@@ -8,6 +8,8 @@ mod broadcasts;
 #[cfg(test)]
 mod commitments;
 #[cfg(test)]
+mod cuts;
+#[cfg(test)]
 mod fixtures;
 #[cfg(test)]
 mod opening;

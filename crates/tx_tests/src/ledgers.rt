@@ -117,6 +117,26 @@ fn long_histories_are_accepted(rt: HostRuntime) {
     assert!(rt; seen(&rt, b.view_of(Side::B)) == (79_517_000, 20_000_000, 483, 199));
 }
 
+// A signed one offer, and made two more updates. They are forgotten on both sides, and the id is given again.
+fn forget_two(rt: &impl Abort, a: &mut Ledger, b: &mut Ledger) {
+    add(rt, a, b, 1000);
+    a.sign();
+    b.receive_signature();
+    add(rt, a, b, 2000);
+    set_fee(rt, a, b, 1500);
+    assert!(rt; a.forget().expect(rt, "updates").len() == 2);
+    assert!(rt; b.forget().expect(rt, "updates").is_empty());
+    let again = a.offer(3000, HASH, 500).expect(rt, "an offer");
+    assert!(rt; again.id == 1 && b.receive_update(&Update::Add(again)).is_ok());
+    assert!(rt; seen(rt, a.view_to_sign()) == (79_996_000, 20_000_000, 2, 1000));
+}
+
+#[test]
+fn uncommitted_updates_are_forgotten(rt: HostRuntime) {
+    let (mut a, mut b) = open(&rt, rt.alloc());
+    forget_two(&rt, &mut a, &mut b);
+}
+
 /// The example in the documentation of `updates`.
 fn offer_and_see(
     ledger: &mut Ledger,

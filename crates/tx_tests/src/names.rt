@@ -6,7 +6,7 @@ use sighash::DigestError;
 use tx::{DecodeError, EncodeError, FieldError, LimitError};
 use updates::ChannelError;
 
-const CHANNEL_ERRORS: [(ChannelError, &str); 14] = [
+const CHANNEL_ERRORS: [(ChannelError, &str); 17] = [
     (ChannelError::NoMemory, "NoMemory"),
     (ChannelError::AmountZero, "AmountZero"),
     (ChannelError::BelowMinimum, "BelowMinimum"),
@@ -21,6 +21,9 @@ const CHANNEL_ERRORS: [(ChannelError, &str); 14] = [
     (ChannelError::WrongSecret, "WrongSecret"),
     (ChannelError::NotYourTurn, "NotYourTurn"),
     (ChannelError::NotOpener, "NotOpener"),
+    (ChannelError::PeerBehind, "PeerBehind"),
+    (ChannelError::NeverSigned, "NeverSigned"),
+    (ChannelError::AlreadyFulfilled, "AlreadyFulfilled"),
 ];
 
 const DECODE_ERRORS: [(DecodeError, &str); 9] = [

@@ -1,5 +1,5 @@
 //! Plays two peers of a channel, as the lines of its input say. `open` opens a new channel of 100,000 satoshis, and `open SATOSHIS` one of this capacity, of which each side
-//! has half. `A offer MILLISATOSHIS EXPIRY`, `A fulfil ID`, `A fail ID`, `A fee RATE`, `A sign` and `A deliver`, or the same of B, are steps. `random STEPS` plays this
+//! has half. `A offer MILLISATOSHIS EXPIRY`, `A fulfil ID`, `A fail ID`, `A fee RATE`, `A sign` and `A deliver`, or the same of B, are steps, and `cut` is one. `random STEPS` plays this
 //! number of steps at random, and `repeat TIMES STEP, STEP` plays steps in turn, this number of times.
 //!
 //! It prints the outcome of each step, and before a signature the outputs of the commitment that is signed. After random steps it prints how many of each kind were done, and
@@ -9,7 +9,7 @@ mod often;
 mod random;
 mod steps;
 
-use channel::{CommitmentState, Pair, PairStep};
+use channel::{Action, CommitmentState, Pair, PairStep};
 use channel_sides::open_sides;
 use commit::{CommitmentOutput, build};
 use often::play_often;
@@ -99,8 +99,12 @@ fn play_step(page: &mut Page, pair: &mut Pair, step: PairStep, line: &str) {
 fn play_line(page: &mut Page, peers: &mut Peers, line: &str) {
     match step_of(line, &PREIMAGE) {
         Some(step) => {
-            if line.ends_with("sign") {
-                show_next(page, peers, step.side);
+            if let PairStep::Turn {
+                side,
+                action: Action::Sign,
+            } = step
+            {
+                show_next(page, peers, side);
             }
             play_step(page, &mut peers.pair, step, line);
         }

@@ -117,7 +117,7 @@ impl Game {
             (Side::B, &self.of_a)
         };
         let rest = number >> 9;
-        PairStep {
+        PairStep::Turn {
             side,
             action: action_of(number >> 1, rest, theirs.choose(rest)),
         }
@@ -144,8 +144,11 @@ impl Game {
 
     /// Notes a step that was done.
     fn note_done(&mut self, step: PairStep) {
-        match step.action {
-            Action::Own(update) => self.note_update(step.side, update),
+        let PairStep::Turn { side, action } = step else {
+            return;
+        };
+        match action {
+            Action::Own(update) => self.note_update(side, update),
             Action::Sign => count(&mut self.counts.signatures),
             Action::Deliver => count(&mut self.counts.deliveries),
         }
@@ -156,11 +159,15 @@ impl Game {
         match outcome {
             Outcome::Done => self.note_done(step),
             Outcome::Refused(_) => {
-                if let Action::Deliver = step.action {
+                if let PairStep::Turn {
+                    action: Action::Deliver,
+                    ..
+                } = step
+                {
                     count(&mut self.counts.refused_deliveries);
                 }
             }
-            Outcome::NoMessage => {}
+            Outcome::NoMessage | Outcome::NotConnected | Outcome::Behind => {}
         }
     }
 }

@@ -52,15 +52,18 @@ fn action_of(words: &str, preimage: &[u8; 32]) -> Option<Action> {
 
 /// The step that words name.
 pub fn step_of(words: &str, preimage: &[u8; 32]) -> Option<PairStep> {
+    if words == "cut" {
+        return Some(PairStep::Cut);
+    }
     let (name, rest) = words.split_once(' ')?;
     let action = action_of(rest, preimage)?;
     if name == "A" {
-        Some(PairStep {
+        Some(PairStep::Turn {
             side: Side::A,
             action,
         })
     } else if name == "B" {
-        Some(PairStep {
+        Some(PairStep::Turn {
             side: Side::B,
             action,
         })

@@ -1,14 +1,14 @@
 use Rattle.std.proofs.Common.{◌++◌, ◌∷◌, [], subst, arith, rules}
-use Rattle.channel.specs.Agreeing.{IsPaired}
+use Rattle.channel.specs.Standing.{IsStanding}
 use Rattle.channel.specs.Tokens.{peer_tokens}
 use Rattle.channel.proofs.Pairing.{agrees_throughout, are_delivered, left_next, left_last, pushed}
 use Rattle.channel.proofs.pair.Pair.play.Goals as goal
 
 pub returns-in-Err-clause-agreed : goal.returns-in-Err-clause-agreed
-returns-in-Err-clause-agreed c = agrees_throughout peer_tokens c.args.self.now c.args.steps.now (subst (IsPaired peer_tokens) c.self.view_is c.self.invariant)
+returns-in-Err-clause-agreed c = agrees_throughout peer_tokens c.args.self.now c.args.steps.now (subst (IsStanding peer_tokens) c.self.view_is c.self.invariant)
 
 pub returns-clause-agreed : goal.returns-clause-agreed
-returns-clause-agreed c = agrees_throughout peer_tokens c.args.self.now c.args.steps.now (subst (IsPaired peer_tokens) c.self.view_is c.self.invariant)
+returns-clause-agreed c = agrees_throughout peer_tokens c.args.self.now c.args.steps.now (subst (IsStanding peer_tokens) c.self.view_is c.self.invariant)
 
 pub loop-next-preserved : goal.loop-next-preserved
 loop-next-preserved c =
@@ -27,5 +27,5 @@ returns-clause-played c = left_last peer_tokens c.args.self.now c.args.steps.now
 pub returns-clause-delivered : goal.returns-clause-delivered
 returns-clause-delivered c =
     let l = c.loop-next in
-    are_delivered peer_tokens c.args.self.now c.args.steps.now l.outcomes.items l.self (subst (IsPaired peer_tokens) c.self.view_is c.self.invariant)
+    are_delivered peer_tokens c.args.self.now c.args.steps.now l.outcomes.items l.self (subst (IsStanding peer_tokens) c.self.view_is c.self.invariant)
     (left_last peer_tokens c.args.self.now c.args.steps.now l.outcomes.items l.self l.next-index (omega arith) l.invariant.left)
