@@ -16,6 +16,8 @@ WORK = {
     "round of 483 HTLCs": ("sign 483", 1, 31),
     "round of few, 10 to 210": ("trade", 10, 210),
     "round of few, 1,000 to 1,200": ("trade", 1000, 1200),
+    "a signature with 966 HTLCs again": ("again 483", 1, 31),
+    "10,000 updates made and forgotten": ("forget 10000", 1, 11),
 }
 
 
@@ -44,6 +46,8 @@ def main():
     for name, took in cost.items():
         print(f"{name}: {took * 1e3:.3f} ms")
     bounded("a round of 483 HTLCs to SHA-256 of 1 MiB", cost["round of 483 HTLCs"] / cost["hash 1 MiB"], 6)
+    bounded("a signature with 966 HTLCs again to SHA-256 of 1 MiB", cost["a signature with 966 HTLCs again"] / cost["hash 1 MiB"], 6)
+    bounded("10,000 updates made and forgotten to SHA-256 of 1 MiB", cost["10,000 updates made and forgotten"] / cost["hash 1 MiB"], 1)
     bounded("rounds 1,000 to 1,200 of a channel to rounds 10 to 210", cost["round of few, 1,000 to 1,200"] / cost["round of few, 10 to 210"], 1.2)
 
 
