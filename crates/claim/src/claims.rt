@@ -89,17 +89,10 @@ impl Claim {
     {
         let script = self.script.copy()?;
         let path = self.path.copy()?;
-        let slots = copied_slots(self.slots.allocator(), self.slots.values())?;
+        let slots = copied_slots(&self.slots)?;
         let place = self.place.copy()?;
         let shell = self.shell.copy()?;
-        let copy = Claim::new(
-            script,
-            self.index,
-            path,
-            List::from_vec(slots),
-            place,
-            shell,
-        );
+        let copy = Claim::new(script, self.index, path, slots, place, shell);
         Ok(copy)
     }
 

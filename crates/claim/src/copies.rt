@@ -3,7 +3,18 @@
 ghost use Rattle.std.specs.Prelude.{◌≡◌, IfOk};
 
 use crate::parts::{Place, Shell, Slot, WitnessItem};
-use std::alloc::{AllocError, Global};
+use lists::List;
+use std::alloc::AllocError;
+
+impl Clone for WitnessItem {
+    ghost is_clone = { λ w copy. copy ≡ w };
+
+    fn clone(&self) -> Result<Self, AllocError> {
+        Ok(WitnessItem {
+            item: self.item.copy()?,
+        })
+    }
+}
 
 impl WitnessItem {
     /// A copy of an item. The only error is that memory ran
@@ -11,9 +22,7 @@ impl WitnessItem {
     pub fn copy(&self) -> Result<Self, AllocError>
         ensures { IfOk result (λ w. w ≡ self.now) }
     {
-        Ok(WitnessItem {
-            item: self.item.copy()?,
-        })
+        self.clone()
     }
 }
 
@@ -23,11 +32,7 @@ impl Slot {
     pub fn copy(&self) -> Result<Self, AllocError>
         ensures { IfOk result (λ s. s ≡ self.now) }
     {
-        match self {
-            Slot::Sig(key) => Ok(Slot::Sig(*key)),
-            Slot::Preimage(hash) => Ok(Slot::Preimage(*hash)),
-            Slot::Exact(item) => Ok(Slot::Exact(item.copy()?)),
-        }
+        self.clone()
     }
 }
 
@@ -37,11 +42,7 @@ impl Place {
     pub fn copy(&self) -> Result<Self, AllocError>
         ensures { IfOk result (λ p. p ≡ self.now) }
     {
-        Ok(Place {
-            outpoint: self.outpoint,
-            value: self.value,
-            program: self.program.copy()?,
-        })
+        self.clone()
     }
 }
 
@@ -51,20 +52,13 @@ impl Shell {
     pub fn copy(&self) -> Result<Self, AllocError>
         ensures { IfOk result (λ s. s ≡ self.now) }
     {
-        match self {
-            Shell::Open => Ok(Shell::Open),
-            Shell::Fixed(tx) => Ok(Shell::Fixed(tx.copy()?)),
-        }
+        self.clone()
     }
 }
 
-// Copies of slots.
-pub(crate) fn copied_slots(alloc: Global, slots: &[Slot]) -> Result<Vec<Slot>, AllocError>
-    ensures { IfOk result (λ s. s.items ≡ slots.now) }
+// A copy of slots.
+pub(crate) fn copied_slots(slots: &List<Slot>) -> Result<List<Slot>, AllocError>
+    ensures { IfOk result (λ s. s ≡ slots.now) }
 {
-    let mut copies = Vec::new(alloc);
-    for slot in slots {
-        copies.push(slot.copy()?)?;
-    }
-    Ok(copies)
+    slots.clone()
 }

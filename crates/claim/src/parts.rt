@@ -16,7 +16,7 @@ pub struct WitnessItem {
 }
 
 /// How a claim fills a slot of its path.
-#[derive(Debug, Drop)]
+#[derive(Clone, Debug, Drop)]
 pub enum Slot {
     /// The token of this key over the spend's digest.
     Sig(Key),
@@ -27,7 +27,7 @@ pub enum Slot {
 }
 
 /// The claimed output: its outpoint, value and program.
-#[derive(Debug, Drop)]
+#[derive(Clone, Debug, Drop)]
 pub struct Place {
     pub outpoint: OutPoint,
     /// In satoshis.
@@ -36,7 +36,7 @@ pub struct Place {
 }
 
 /// The transaction round a claim.
-#[derive(Debug, Drop)]
+#[derive(Clone, Debug, Drop)]
 pub enum Shell {
     /// Any transaction of version 2, with a lock time that the claim allows.
     Open,

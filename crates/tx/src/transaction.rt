@@ -46,6 +46,16 @@ impl Model for Tx {
     ghost invariant = { λ a. KeepsLimits (record { version = a.version; inputs = a.inputs; outputs = a.outputs; lock_time = a.lock_time }) };
 }
 
+impl Clone for Tx {
+    ghost use Rattle.std.specs.Prelude.{◌≡◌};
+
+    ghost is_clone = { λ t copy. copy ≡ t };
+
+    fn clone(&self) -> Result<Self, AllocError> {
+        self.copy()
+    }
+}
+
 impl Tx {
     /// A transaction of these fields, without allocating. The error is NoInputs where there is no input.
     pub fn new(

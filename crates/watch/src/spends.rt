@@ -11,7 +11,7 @@ use std::alloc::AllocError;
 use tx::{OutPoint, Tx, TxIn};
 
 /// A transaction that spends a channel's funding output.
-#[derive(Debug, Drop)]
+#[derive(Clone, Debug, Drop)]
 pub struct Spend {
     /// The height of its block.
     pub height: u64,
@@ -25,11 +25,7 @@ impl Spend {
     pub fn copy(&self) -> Result<Spend, AllocError>
         ensures { IfOk result (λ s. s ≡ self.now) }
     {
-        let tx = self.tx.copy()?;
-        Ok(Spend {
-            height: self.height,
-            tx,
-        })
+        self.clone()
     }
 }
 

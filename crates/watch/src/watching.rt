@@ -68,17 +68,6 @@ fn read(
     Ok(Sight { claims, learnt })
 }
 
-// Copies of spends. The only error is that memory ran out.
-fn copied_spends(alloc: Global, spends: &[Spend]) -> Result<Vec<Spend>, AllocError>
-    ensures { IfOk result (λ copies. copies.items ≡ spends.now) }
-{
-    let mut copies = Vec::new(alloc);
-    for spend in spends {
-        copies.push(spend.copy()?)?;
-    }
-    Ok(copies)
-}
-
 impl Watch {
     ghost use Rattle.std.specs.Prelude.{◌≡◌, reverse, IfOk, OnOk, OnErr};
     ghost use Rattle.watch.specs.Watching.{nothing_seen, has_spends, is_spent, seen_after, seen_up_to};
@@ -99,7 +88,7 @@ impl Watch {
         ensures { IfOk result (λ w. w ≡ self.now) }
     {
         let alloc = *self.spends.allocator();
-        let spends = copied_spends(alloc, &self.spends)?;
+        let spends = self.spends.clone()?;
         let given = Vec::from_slice(alloc, &self.given)?;
         Ok(Watch { spends, given })
     }

@@ -1,4 +1,4 @@
-use Rattle.std.proofs.Common.{sym, subst, ◌∙◌}
+use Rattle.std.proofs.Common.{sym, subst}
 use Rattle.claim.specs.Claims.{IsBare}
 use Rattle.claim.proofs.Kept.{judged_again, way_again}
 use Rattle.claim.proofs.claims.Claim.copy.Goals as goal
@@ -9,7 +9,7 @@ new-copy-requires-clause-way c = let i = c.self.inside in way_again i.script _ i
 pub new-copy-requires-clause-judged : goal.new-copy-requires-clause-judged
 new-copy-requires-clause-judged c =
     let i = c.self.inside in
-    judged_again i.script _ i.index i.slots _ i.place _ i.shell _ c.in_ok-script.ensures (c.from_vec.ensures ∙ c.in_ok-slots.ensures ∙ c.values.ensures) c.in_ok-place.ensures c.in_ok-shell.ensures c.self.invariant.1
+    judged_again i.script _ i.index i.slots _ i.place _ i.shell _ c.in_ok-script.ensures c.in_ok-slots.ensures c.in_ok-place.ensures c.in_ok-shell.ensures c.self.invariant.1
 
 pub new-copy-requires-clause-bare : goal.new-copy-requires-clause-bare
 new-copy-requires-clause-bare c = subst IsBare (sym c.in_ok-shell.ensures) c.self.invariant.2
