@@ -1,14 +1,12 @@
 // Checks the patterns of the scripts with anchors.
 
 ghost use Rattle.std.specs.Prelude.{◌≡◌, true, IfOk};
-ghost use Rattle.forms.specs.Pieces.{is_listed, htlc_beginning_pieces};
 ghost use Rattle.anchor_forms.specs.Pieces.{block_pieces, offered_with_anchors_pieces, received_with_anchors_pieces};
 
 use crate::pattern_set::ChannelPatterns;
-use forms::patterns;
-use lists::ByteString;
+use forms::{htlc_beginning, listed_pattern, patterns};
 use paths::Piece::{HashHole, KeyHole, NumHole, Op as Code};
-use paths::{CheckError, CheckedPattern, PatternError, Piece, check_pattern};
+use paths::{CheckedPattern, Piece};
 use script::Op;
 use std::alloc::{AllocError, Global};
 
@@ -26,7 +24,7 @@ pub fn channel_patterns(alloc: Global) -> Result<ChannelPatterns, AllocError> {
 fn checked_offered(alloc: Global) -> Result<CheckedPattern, AllocError>
     ensures { IfOk result (λ p. p.pieces ≡ offered_with_anchors_pieces) }
 {
-    listed(alloc, offered(alloc)?)
+    listed_pattern(alloc, offered(alloc)?)
 }
 
 // The pattern of `received`. The only error is that memory ran out.
@@ -34,44 +32,7 @@ fn checked_offered(alloc: Global) -> Result<CheckedPattern, AllocError>
 fn checked_received(alloc: Global) -> Result<CheckedPattern, AllocError>
     ensures { IfOk result (λ p. p.pieces ≡ received_with_anchors_pieces) }
 {
-    listed(alloc, received(alloc)?)
-}
-
-// The pattern of pieces whose ways are listed. The only error is that memory ran out.
-#[tactic(auto, using(forms::proofs::Forms::never_refused))]
-fn listed(alloc: Global, pieces: Vec<Piece>) -> Result<CheckedPattern, AllocError>
-    requires { is_listed pieces.items ≡ true }
-    ensures { IfOk result (λ p. p.pieces ≡ pieces.items) }
-{
-    match check_pattern(alloc, pieces) {
-        Ok(pattern) => Ok(pattern),
-        Err(refusal) => match refusal {
-            PatternError::Check(CheckError::NoMemory) => Err(AllocError),
-            _ => unreachable!(),
-        },
-    }
-}
-
-// The beginning of an HTLC's script: the revocation key's branch, and in the other branch the remote key and the test for a preimage. The only error
-// is that memory ran out.
-fn htlc_beginning(alloc: Global) -> Result<Vec<Piece>, AllocError>
-    ensures { IfOk result (λ v. v.items ≡ htlc_beginning_pieces) }
-{
-    let preimage_size = ByteString::from_slice(alloc, &[32])?;
-    Ok(vec![in alloc;
-        Code(Op::Dup),
-        Code(Op::Hash160),
-        HashHole,
-        Code(Op::Equal),
-        Code(Op::If),
-        Code(Op::CheckSig),
-        Code(Op::Else),
-        KeyHole,
-        Code(Op::Swap),
-        Code(Op::Size),
-        Code(Op::Push(preimage_size)),
-        Code(Op::Equal),
-    ]?)
+    listed_pattern(alloc, received(alloc)?)
 }
 
 // The end of an HTLC's script: one block has to pass on all but the revocation key's branch. The only error is that memory ran out.

@@ -6,10 +6,9 @@ ghost use Rattle.digest.specs.Ripemd160.{ripemd160 as ripemd160_of};
 ghost use Rattle.anchor_forms.specs.Forms.{offered_with_anchors_form, received_with_anchors_form, offered_htlc_in, received_htlc_in};
 
 use crate::channel_types::ChannelType;
-use crate::instances::instance_of;
 use crate::pattern_set::ChannelPatterns;
 use digest::{hash160, ripemd160};
-use forms::{Expiry, HtlcKeys};
+use forms::{Expiry, HtlcKeys, instance_of};
 use paths::{Checked, Fill};
 use std::alloc::{AllocError, Global};
 

@@ -22,7 +22,6 @@
 mod channel_types;
 mod checking;
 mod htlc_scripts;
-mod instances;
 mod pattern_set;
 mod penalties;
 

@@ -65,7 +65,7 @@ fn htlc_patterns(alloc: Global) -> Result<HtlcPatterns, AllocError> {
 fn checked_two_of_two(alloc: Global) -> Result<CheckedPattern, AllocError>
     ensures { IfOk result (λ p. p.pieces ≡ two_of_two_pieces) }
 {
-    listed(alloc, two_of_two(alloc)?)
+    listed_pattern(alloc, two_of_two(alloc)?)
 }
 
 // The pattern of `to_local`. The only error is that memory ran out.
@@ -73,7 +73,7 @@ fn checked_two_of_two(alloc: Global) -> Result<CheckedPattern, AllocError>
 fn checked_to_local(alloc: Global) -> Result<CheckedPattern, AllocError>
     ensures { IfOk result (λ p. p.pieces ≡ to_local_pieces) }
 {
-    listed(alloc, to_local(alloc)?)
+    listed_pattern(alloc, to_local(alloc)?)
 }
 
 // The pattern of `key_hash`. The only error is that memory ran out.
@@ -81,7 +81,7 @@ fn checked_to_local(alloc: Global) -> Result<CheckedPattern, AllocError>
 fn checked_key_hash(alloc: Global) -> Result<CheckedPattern, AllocError>
     ensures { IfOk result (λ p. p.pieces ≡ key_hash_pieces) }
 {
-    listed(alloc, key_hash(alloc)?)
+    listed_pattern(alloc, key_hash(alloc)?)
 }
 
 // The pattern of `offered`. The only error is that memory ran out.
@@ -89,7 +89,7 @@ fn checked_key_hash(alloc: Global) -> Result<CheckedPattern, AllocError>
 fn checked_offered(alloc: Global) -> Result<CheckedPattern, AllocError>
     ensures { IfOk result (λ p. p.pieces ≡ offered_pieces) }
 {
-    listed(alloc, offered(alloc)?)
+    listed_pattern(alloc, offered(alloc)?)
 }
 
 // The pattern of `received`. The only error is that memory ran out.
@@ -97,12 +97,12 @@ fn checked_offered(alloc: Global) -> Result<CheckedPattern, AllocError>
 fn checked_received(alloc: Global) -> Result<CheckedPattern, AllocError>
     ensures { IfOk result (λ p. p.pieces ≡ received_pieces) }
 {
-    listed(alloc, received(alloc)?)
+    listed_pattern(alloc, received(alloc)?)
 }
 
-// The pattern of pieces whose ways are listed. The only error is that memory ran out.
+/// The pattern of pieces whose ways are listed. The only error is that memory ran out.
 #[tactic(auto, using(crate::proofs::Forms::never_refused))]
-fn listed(alloc: Global, pieces: Vec<Piece>) -> Result<CheckedPattern, AllocError>
+pub fn listed_pattern(alloc: Global, pieces: Vec<Piece>) -> Result<CheckedPattern, AllocError>
     requires { is_listed pieces.items ≡ true }
     ensures { IfOk result (λ p. p.pieces ≡ pieces.items) }
 {
@@ -158,9 +158,9 @@ fn key_hash(alloc: Global) -> Result<Vec<Piece>, AllocError>
     ]?)
 }
 
-// The beginning of an HTLC's script: the revocation key's branch, and in the other branch the remote key and the test for a preimage. The only error
-// is that memory ran out.
-fn htlc_beginning(alloc: Global) -> Result<Vec<Piece>, AllocError>
+/// The beginning of an HTLC's script: the revocation key's branch, and in the other branch the remote key and the test for a preimage (BOLT 3,
+/// "Offered HTLC Outputs" and "Received HTLC Outputs"). The only error is that memory ran out.
+pub fn htlc_beginning(alloc: Global) -> Result<Vec<Piece>, AllocError>
     ensures { IfOk result (λ v. v.items ≡ htlc_beginning_pieces) }
 {
     let preimage_size = ByteString::from_slice(alloc, &[32])?;

@@ -9,7 +9,7 @@ use std::alloc::{AllocError, Global};
 
 /// The script with these fills, which the holes take. The only error is that memory ran out.
 #[tactic(auto, using(crate::proofs::Forms::never_wrong))]
-pub(crate) fn instance_of(
+pub fn instance_of(
     alloc: Global,
     pattern: &CheckedPattern,
     fills: &[Fill],

@@ -30,8 +30,9 @@ mod pattern_set;
 mod scripts;
 mod shared;
 
-pub use checking::patterns;
+pub use checking::{htlc_beginning, listed_pattern, patterns};
 pub use htlc_scripts::{offered, received};
+pub use instances::instance_of;
 pub use kinds::{ClaimKind, accepted_slots};
 pub use parameters::{Expiry, HtlcKeys};
 pub use pattern_set::Patterns;
