@@ -68,7 +68,8 @@ module _ (funding : OutPoint) (bases : BaseKeys) (seed : List ℕ) where
   abbrev signed_first : State
   signed_first = after (after_sign (after_update (Add (htlc 0 5000)) receiving)) (Step (CommitmentSigned (tokens 1 [])))
 
-  -- what is said: one more than one's own number, the number of revocations, and the last secret
+  -- what is said: one more than one's own number, the number of revocations, and the last secret. BOLT 2: the first is 1 on a new channel, since commitment 0 is
+  -- made in its opening; the second stays 0 until commitment 0 is revoked, and the secret is zeros as long
   hellos : (hello a ≡ says 1 0 zeros)
       × (hello waiting ≡ says 1 0 zeros)
       × (hello acknowledged ≡ says 1 1 secret)
@@ -76,7 +77,8 @@ module _ (funding : OutPoint) (bases : BaseKeys) (seed : List ℕ) where
       × (hello (record acknowledged { number = 7; secrets = (1 ∷ []) ∷ (2 ∷ []) ∷ (3 ∷ []) ∷ []; peer_number = 3 }) ≡ says 8 3 (3 ∷ []))
   hellos = (refl, refl, refl, refl, refl)
 
-  -- forgetting: the third offer of A, and both that came to B, until its peer's signature came
+  -- forgetting: the third offer of A, and both that came to B, until its peer's signature came. BOLT 2: updates of the other side for which no
+  -- `commitment_signed` came are reversed; what is said does not change by it, and the id is given again
   forgets : (length (forgotten waiting).held.own.known ≡ 2)
       × (length (forgotten offering).held.own.known ≡ 0)
       × (length (forgotten receiving).held.theirs.known ≡ 0)
@@ -85,14 +87,16 @@ module _ (funding : OutPoint) (bases : BaseKeys) (seed : List ℕ) where
       × (update_refusal (forgotten waiting) (Add (htlc 2 6000)) ≡ None)
   forgets = (refl, refl, refl, refl, refl, refl)
 
-  -- A's signature was lost with its updates, or without them; B has it, and its revocation was lost; or nothing was lost
+  -- A's signature was lost with its updates, or without them; B has it, and its revocation was lost; or nothing was lost. BOLT 2: the number of the last
+  -- `commitment_signed` is used again where the peer expects it
   of_a : (resends tokens_of (forgotten waiting) (hello b) ≡ Step (Updated (Add (htlc 0 2000))) ∷ Step (Updated (Add (htlc 1 3000))) ∷ Step (CommitmentSigned (tokens 1 (2000 ∷ 3000 ∷ []))) ∷ [])
       × (resends tokens_of (forgotten waiting) (hello taken) ≡ [])
       × (resends tokens_of (forgotten acknowledged) (hello taken) ≡ [])
       × (resends tokens_of a (hello b) ≡ [])
   of_a = (refl, refl, refl, refl)
 
-  -- B's revocation was lost, alone or with its signature, in the order in which the two went out; or A has the revocation and not the signature
+  -- B's revocation was lost, alone or with its signature, in the order in which the two went out; or A has the revocation and not the signature. BOLT 2: the
+  -- last `revoke_and_ack` goes out again where the peer expects it, in the same relative order as the signature at first
   of_b : (resends tokens_of taken (hello waiting) ≡ RevokeAndAck (record { secret = secret_at seed 0; next_point = point_at seed 2 }) ∷ [])
       × (resends tokens_of revoked_first (hello waiting) ≡ RevokeAndAck (record { secret = secret_at seed 0; next_point = point_at seed 2 }) ∷ Step (Updated (Add (htlc 0 5000))) ∷ Step (CommitmentSigned (tokens 1 (2000 ∷ 3000 ∷ []))) ∷ [])
       × (resends tokens_of signed_first (hello waiting) ≡ Step (Updated (Add (htlc 0 5000))) ∷ Step (CommitmentSigned (tokens 1 [])) ∷ RevokeAndAck (record { secret = secret_at seed 0; next_point = point_at seed 2 }) ∷ [])
@@ -101,7 +105,8 @@ module _ (funding : OutPoint) (bases : BaseKeys) (seed : List ℕ) where
       × (resends tokens_of taken (says 1 1 (secret_at seed 0)) ≡ [])
   of_b = (refl, refl, refl, refl, refl, refl)
 
-  -- the signature that a peer expects next: two while one is awaited, else one alone
+  -- the signature that a peer expects next: two while one is awaited, else one alone. BOLT 2: one that is neither the last nor one greater fails the channel, and
+  -- so does any but 1 where none was sent
   expected : (first_refusal (number_tests a (says 0 0 [])) ≡ Some PeerBehind)
       × (first_refusal (number_tests a (says 1 0 [])) ≡ None)
       × (first_refusal (number_tests a (says 2 0 [])) ≡ Some NeverSigned)
@@ -114,7 +119,8 @@ module _ (funding : OutPoint) (bases : BaseKeys) (seed : List ℕ) where
       × (first_refusal (number_tests acknowledged (says 3 0 [])) ≡ Some NeverSigned)
   expected = (refl, refl, refl, refl, refl, refl, refl, refl, refl, refl)
 
-  -- the revocation that it expects next: the newest one or the next
+  -- the revocation that it expects next: the newest one or the next. BOLT 2: another one fails the channel, and a greater one with its secret says that this side
+  -- may not broadcast
   abbrev fifth : State
   fifth = record a { number = 5 }
 
@@ -139,6 +145,10 @@ module _ (funding : OutPoint) (bases : BaseKeys) (seed : List ℕ) where
       × (hello_refusal a (says 2 0 zeros) ≡ Some NeverSigned)
       × (hello_refusal a (says 2 281474976710656 zeros) ≡ Some WrongSecret)
   secrets = (refl, refl, refl, refl, refl, refl)
+
+  -- why a call is written before it sends: A gave its signature and starts again from before it, or B its revocation. Neither goes on
+  unwritten : (hello_refusal a (hello taken) ≡ Some NeverSigned) × (is_behind b (hello acknowledged) ≡ true)
+  unwritten = (refl, refl)
 
   -- what was fulfilled once is not failed, though the fulfilment was forgotten
   repeated : (first_refusal (repeat_tests (4 ∷ 7 ∷ []) (Fail 7)) ≡ Some AlreadyFulfilled)

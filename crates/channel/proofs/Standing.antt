@@ -6,6 +6,7 @@ use Rattle.std.proofs.lemmas.List.{map-append}
 use Rattle.terms.specs.declared.sides.Side.{Side}
 use Rattle.terms.specs.declared.sides.Side.TheVariants.{A, B}
 use Rattle.terms.specs.declared.agreement.Terms.{Terms}
+use Rattle.updates.specs.Refusals.{first_refusal}
 use Rattle.channel.specs.declared.messages.Message.{Message}
 use Rattle.updates.specs.declared.messages.PeerStep.TheVariants.{Update as Updated}
 use Rattle.channel.specs.declared.messages.Message.TheVariants.{Step}
@@ -15,7 +16,7 @@ use Rattle.channel.specs.declared.reestablish.Parcel.TheVariants.{Hello, Sent}
 use Rattle.channel.specs.declared.limits.TheConstants.{LAST_NUMBER}
 use Rattle.channel.specs.Points.{point_at}
 use Rattle.channel.specs.States.{Signing, State, receive_refusal, after_update, after_sign, after, answers, signature_message}
-use Rattle.channel.specs.Reestablishing.{forgotten, hello, secret_before, is_behind, hello_refusal, resends}
+use Rattle.channel.specs.Reestablishing.{forgotten, hello, secret_before, is_behind, number_tests, hello_refusal, resends}
 use Rattle.channel.specs.Peers.{starts}
 use Rattle.channel.specs.Connections.{Connection, opened, is_cut, cut_off, Moves, makes, gives, takes, resumes, IsReachable, opens, a_moves, b_moves, is_cut_off, a_restarts, b_restarts, IsTaken, AgreesOver, PeersStillAgree, IsToldBehind, BehindIsTold}
 use Rattle.channel.specs.Playing.{state_of, queue_of, moved}
@@ -219,12 +220,16 @@ told tokens_of a b old p q g seed =
     let first = knows old (hello b) b.peer_number refl (omega (arith, revoked, last)) shown in
     record {
       revoked = λ l. (let behind : is_behind old (hello b) ≡ true = lt-ltb old.number b.peer_number (omega (arith, l, count)) in (behind_passes old (hello b) first behind, behind));
-      newest = λ l. le-ltb old.number b.peer_number (omega (arith, l, count));
+      newest = λ l. (let ahead : is_behind old (hello b) ≡ false = le-ltb old.number b.peer_number (omega (arith, l, count)) in (numbers_decide old (hello b) first ahead, ahead));
     }
   where
     behind_passes : (s : State) (r : Reestablish) → (ltb (LAST_NUMBER + 1) r.next_revocation ≡ false) × (not (bytes_eq r.last_secret (secret_before s.seed r.next_revocation)) ≡ false)
         → is_behind s r ≡ true → hello_refusal s r ≡ None
     behind_passes s r first behind = rw (first.0, first.1, behind) refl
+
+    numbers_decide : (s : State) (r : Reestablish) → (ltb (LAST_NUMBER + 1) r.next_revocation ≡ false) × (not (bytes_eq r.last_secret (secret_before s.seed r.next_revocation)) ≡ false)
+        → is_behind s r ≡ false → hello_refusal s r ≡ first_refusal (number_tests s r)
+    numbers_decide s r first ahead = rw (first.0, first.1, ahead) refl
 
 pub behind_is_told : BehindIsTold
 behind_is_told tokens_of terms seed_a seed_b w old r =

@@ -3,6 +3,7 @@ use Rattle.std.specs.Prelude.{◌≡◌, ℕ, ◌<◌, ◌≤◌, Bool, true, fa
 use Rattle.terms.specs.declared.agreement.Terms.{Terms}
 use Rattle.updates.specs.declared.changes.Update.{Update}
 use Rattle.updates.specs.declared.errors.ChannelError.{ChannelError}
+use Rattle.updates.specs.Refusals.{first_refusal}
 use Rattle.channel.specs.declared.messages.Message.{Message}
 use Rattle.updates.specs.declared.messages.PeerStep.TheVariants.{Update as Updated}
 use Rattle.channel.specs.declared.messages.Message.TheVariants.{Step}
@@ -10,7 +11,7 @@ use Rattle.channel.specs.declared.reestablish.Reestablish.{Reestablish}
 use Rattle.channel.specs.declared.reestablish.Parcel.{Parcel}
 use Rattle.channel.specs.declared.reestablish.Parcel.TheVariants.{Hello, Sent}
 use Rattle.channel.specs.States.{Signing, State, update_refusal, sign_refusal, receive_refusal, after_update, after_sign, after, answers, signature_message}
-use Rattle.channel.specs.Reestablishing.{forgotten, hello, is_behind, hello_refusal, resends}
+use Rattle.channel.specs.Reestablishing.{forgotten, hello, is_behind, number_tests, hello_refusal, resends}
 use Rattle.channel.specs.Peers.{opened_both, IsLived}
 use Rattle.channel.specs.Resending.{IsSince}
 use Rattle.channel.specs.Agreeing.{FirstOf, IsSoundState}
@@ -94,10 +95,11 @@ pub record AgreesOver (tokens_of : Signing) (w : Connection) : Type 0 where
 abbrev pub PeersStillAgree : Type 0
 PeersStillAgree = (tokens_of : Signing) (terms : Terms) (seed_a seed_b : List ℕ) (w : Connection) → IsReachable tokens_of terms seed_a seed_b w → AgreesOver tokens_of w
 
--- a side put back to an older state of its own is told by an honest peer to be behind exactly where the peer has the secret of its newest commitment
+-- a side put back to an older state of its own is told by an honest peer to be behind exactly where the peer has the secret of its newest commitment; where the
+-- peer has not, the numbers alone decide what becomes of its hello, so that the secret is never wrong
 pub record IsToldBehind (old peer : State) : Type 0 where
   pub revoked : old.number < length peer.secrets → (hello_refusal old (hello peer) ≡ None) × (is_behind old (hello peer) ≡ true)
-  pub newest : length peer.secrets ≤ old.number → is_behind old (hello peer) ≡ false
+  pub newest : length peer.secrets ≤ old.number → (hello_refusal old (hello peer) ≡ first_refusal (number_tests old (hello peer))) × (is_behind old (hello peer) ≡ false)
 
 abbrev pub BehindIsTold : Type 0
 BehindIsTold = (tokens_of : Signing) (terms : Terms) (seed_a seed_b : List ℕ) (w : Connection) (old : State) → IsReachable tokens_of terms seed_a seed_b w

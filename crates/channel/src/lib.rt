@@ -2,9 +2,13 @@
 //!
 //! A [`Channel`] is one side. For each call and each message, the definitions say when it is refused, the side's state after it, what is
 //! sent and what answers it. Each call of a channel does exactly that, barring out-of-memory, and a refusal leaves the channel as it
-//! was. Over these definitions, [`laws::peers_agree`] proves that two honest peers agree over every interleaving of their steps.
+//! was. Over these definitions, [`laws::peers_agree`] proves that two honest peers agree over every interleaving of their steps, and
+//! [`laws::peers_still_agree`] that they do whatever is cut, and wherever one of them starts again since which it gave nothing out.
 //! [`laws::sides_are_sound`] proves what one side can rely on, whatever its peer sends. A [`Pair`] plays two channels with a queue each
-//! way, so that what it plays is such an interleaving.
+//! way, so that what it plays is such an interleaving, with cuts.
+//!
+//! Once a connection is cut, each side calls [`Channel::forget`], says [`Channel::hello`] first on the next one, and sends what
+//! [`Channel::resend`] gives to its peer's hello (BOLT 2, "Message Retransmission"). [`laws::nothing_new_goes_out`] says that this went out before.
 //!
 //! To follow a message, begin here. `updates` and `secrets` say what it may do, and `commit` what its tokens sign. `book` takes it by a
 //! call of the channel, `side` turns it into that call, and `world` delivers it to the peer.
