@@ -18,7 +18,8 @@ use Rattle.channel.specs.declared.commitments.CommitmentState.{CommitmentState}
 use Rattle.channel.specs.declared.messages.Message.{Message}
 use Rattle.channel.specs.declared.messages.Message.TheVariants.{Step as StepMessage, RevokeAndAck}
 use Rattle.channel.specs.States.{Signing, State, state_at_opening, sign_tests, receive_tests, receive_refusal, peers_next, after_update, after_sign, after}
-use Rattle.channel.specs.Peers.{IsLived, starts, updated_once, signed_once, received_once}
+use Rattle.channel.specs.Reestablishing.{forgotten}
+use Rattle.channel.specs.Peers.{IsLived, starts, updated_once, signed_once, received_once, forgot_once}
 use Rattle.channel.specs.Keeping.{one_if}
 use Rattle.channel.specs.Recording.{peers_newest, peers_signed, IsRecorded, SidesRecord}
 use Rattle.holdings.proofs.Lists.{pushed_at, still_there, in_the_middle}
@@ -39,6 +40,9 @@ pub record IsLimited (s : State) : Type 0 where
 
 limited_opened : (terms : Terms) (side : Side) (seed : List ℕ) (point next_point : Key) → IsLimited (state_at_opening terms side seed point next_point)
 limited_opened terms side seed point next_point = record { reveals = λ n secret e. absurd (none-some secret e); count = refl; own = omega arith; peers = omega arith }
+
+limited_forgotten : (s : State) → IsLimited s → IsLimited (forgotten s)
+limited_forgotten s l = record { reveals = λ n secret e. let r = l.reveals n secret e in record { commitment = r.commitment; signed = r.signed; point = r.point }; count = l.count; own = l.own; peers = l.peers }
 
 limited_made : (s : State) (u : Update) → IsLimited s → IsLimited (after_update u s)
 limited_made s u l = record { reveals = λ n secret e. let r = l.reveals n secret e in record { commitment = r.commitment; signed = r.signed; point = r.point }; count = l.count; own = l.own; peers = l.peers }
@@ -101,3 +105,4 @@ limited records tokens_of s (starts terms side seed point next_point) = limited_
 limited records tokens_of s (updated_once {s = r} u e l) = limited_made r u (limited records tokens_of r l)
 limited records tokens_of s (signed_once {s = r} e l) = limited_signed r (all_pass (sign_tests r) e) (limited records tokens_of r l)
 limited records tokens_of s (received_once {s = r} m e l) = limited_after tokens_of r m e (records tokens_of r l) (limited records tokens_of r l)
+limited records tokens_of s (forgot_once {s = r} l) = limited_forgotten r (limited records tokens_of r l)

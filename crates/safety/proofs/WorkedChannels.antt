@@ -1,5 +1,5 @@
 -- Two channels of one node, and what is on worked chains of them, to the last byte: commitments of both sides, HTLC transactions, what the node takes, and what a thief takes.
-use Rattle.std.proofs.Common.{◌≡◌, ℕ, ◌+◌, ◌*◌, Bool, List, [], ◌∷◌, ◌++◌, map, replicate, length, Option, Some, None, refl, lit≤, lit<}
+use Rattle.std.proofs.Common.{◌≡◌, ℕ, ◌+◌, ◌*◌, Bool, false, List, [], ◌∷◌, ◌++◌, map, replicate, length, Option, Some, None, refl, lit≤, lit<}
 use Rattle.std.specs.Prelude.{IsTrue, codes}
 use Rattle.sha2.specs.Sha256.{sha256}
 use Rattle.sha2.proofs.Facts256.{length-sha256}
@@ -266,6 +266,8 @@ state terms peer_number awaiting secrets mine signed = record {
   secrets = secrets;
   mine = mine;
   signed = signed;
+  revoked_last = false;
+  fulfilled = [];
 }
 
 abbrev pub holding : State → List Release → Option ℕ → Holding
