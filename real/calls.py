@@ -106,7 +106,7 @@ JUDGE = [
     ("", partially(whole={key_of(VERSION): b"\x02"}), refused("BadField VERSION"), 1),
     ("", (MAGIC + b"\x00").hex(), refused("NoTransaction"), 1),
     ("", MAGIC + (b"\x01\x00" + text(bare().stripped())) * 2 + b"\x00" * 3, refused("DuplicateField"), 1),
-    ("", partially(before=ONE.bytes()), refused("NoInputs"), 1),
+    ("", partially(before=ONE.bytes()), refused("SignedTransaction"), 1),
     ("", partially({key_of(WITNESS_UTXO, b"\x01"): b""}), refused(f"BadField {WITNESS_UTXO}"), 1),
     ("", partially({key_of(WITNESS_UTXO): b"\x05"}), refused("Truncated"), 1),
     ("", partially({key_of(NON_WITNESS_UTXO): ONE.bytes()}), refused("OtherTransaction 0"), 1),

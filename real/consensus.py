@@ -200,8 +200,8 @@ class Run:
                 scripts.CHECKSEQUENCEVERIFY: self.check_sequence,
             }[opcode]()
 
-    def whole(self, operations_of):
-        self.fail_unless(all(len(it) <= MAX_ITEM for it in self.stack))
+    def steps(self, operations_of):
+        """Runs these opcodes, the first ones of a script."""
         for _, opcode, pushed in operations_of:
             self.counted += opcode > scripts.LAST_NUMBER
             self.fail_unless(self.counted <= MAX_OPS)
@@ -214,6 +214,10 @@ class Run:
                 self.step(opcode, pushed)
             self.fail_unless(len(self.stack) <= MAX_STACK)
             self.opcode += 1
+
+    def whole(self, operations_of):
+        self.fail_unless(all(len(it) <= MAX_ITEM for it in self.stack))
+        self.steps(operations_of)
         self.fail_unless(not self.branches and len(self.stack) == 1 and is_true(self.stack[0]))
 
 
@@ -236,3 +240,10 @@ def end_of(spend, script, items):
     except (Fails, Refused):
         return End(False, run.opcode, set())
     return End(True, run.opcode, run.relay)
+
+
+def stack_before(spend, script, items, opcode):
+    """The stack before an opcode, the top first, of a script that does not fail before it."""
+    run = Run(spend, items)
+    run.steps(operations(script)[:opcode])
+    return run.stack[::-1]

@@ -72,11 +72,6 @@ class Case:
             found[it.item] = it.token
         return found
 
-    def real(self, stack):
-        """A stack with tokens, with what stood in their places."""
-        places = {it.token.hex(): it.real.hex() for it in reversed(self.signed)}
-        return [places.get(it, it) for it in stack]
-
 
 @dataclass
 class Way:
@@ -315,20 +310,31 @@ def conflict(case, said, transaction):
     return Settled("MeasuredSignature", "the script measures or compares a signature on a way that is not listed, and its token is another item")
 
 
+def stack_of_stop(case, said, spend, transaction):
+    """The stack where the judge stops, the top first, of a run with the real signatures. With tokens it has to be the judge's."""
+    blank = consensus.TokenSpend(transaction, case.index, case.digest, None)
+    runs = (blank, case.tokens()[: len(case.items)]), (spend, case.items)
+    by_tokens, real = ([it.hex() for it in consensus.stack_before(each, case.script, items, said["opcode"])] for each, items in runs)
+    if by_tokens != said["stack"]:
+        raise Settled("Disagreement", "the judge's stack is another one than that of a run by the rules of consensus")
+    return real
+
+
 def answer(case, said, transaction, curve):
     """What is answered of an input that was judged."""
     if "digest" in said and said["digest"] != case.digest.hex():
         raise Settled("DigestDiffers", f"the judge's digest is {said['digest']}, and the one made here {case.digest.hex()}")
     if "refused" in said:
         return {"answer": "stops", "reason": said["refused"], "says": said["says"]}
-    end = consensus.end_of(consensus.Spend(transaction, case.index, case.digest, curve), case.script, case.items)
+    spend = consensus.Spend(transaction, case.index, case.digest, curve)
+    end = consensus.end_of(spend, case.script, case.items)
     if not agree(said, end):
         raise conflict(case, said, transaction)
     found, relay = {"signatures": told_signatures(case), "digest": said["digest"]}, sorted(end.relay | relayed(case))
     if "path" in said:
         return {"answer": "clean", "path": said["path"], "counted": said["counted"], "height": said["height"], **found, "relay": relay}
     stop = {"reason": said["stopped"], "opcode": said["opcode"], "op": said["op"], "byte": said["byte"], "says": says_of(said, case)}
-    stop = {"answer": "stricter here" if end.valid else "stops", **stop, "stack": case.real(said["stack"]), **found}
+    stop = {"answer": "stricter here" if end.valid else "stops", **stop, "stack": stack_of_stop(case, said, spend, transaction), **found}
     return {**stop, "relay": relay} if end.valid else stop
 
 

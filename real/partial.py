@@ -83,6 +83,14 @@ def check_alone(fields):
             raise Refused(f"BadField {kind}")
 
 
+def has_witnesses(data):
+    """Whether these bytes are a transaction with witnesses, which a partially signed one has in fields of its own."""
+    try:
+        return any(it.witness for it in read_transaction(data).inputs)
+    except Refused:
+        return False
+
+
 def read(data):
     """The partially signed transaction of these bytes."""
     if data[: len(MAGIC)] != MAGIC:
@@ -93,6 +101,8 @@ def read(data):
         raise Refused(f"PsbtVersion {version_of(fields)}")
     if key_of(UNSIGNED_TX) not in fields:
         raise Refused("NoTransaction")
+    if has_witnesses(fields[key_of(UNSIGNED_TX)]):
+        raise Refused("SignedTransaction")
     transaction = read_transaction(fields[key_of(UNSIGNED_TX)], marked=False)
     if any(it.script for it in transaction.inputs):
         raise Refused("SignedTransaction")

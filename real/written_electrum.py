@@ -1,13 +1,9 @@
-"""Transactions by Electrum, each signed by keys that follow from a name: what the written answers are about. Needs Debian's python3-electrum."""
+"""Transactions by Electrum, each signed by keys that follow from a name: what the written answers are about. Needs Debian's python3-electrum. Tested, not proved."""
 
+import base64
 import hashlib
-import os
-import sys
 
-if os.path.isdir('/usr/lib/python3/dist-packages/electrum') and '/usr/lib/python3/dist-packages' not in sys.path:
-    sys.path.append('/usr/lib/python3/dist-packages')
-
-from electrum import bitcoin, crypto, ecc, lnutil, transaction  # noqa: E402
+from electrum import bitcoin, crypto, ecc, lnutil, transaction
 
 ORDER = ecc.CURVE_ORDER
 opcodes, ECPubkey = bitcoin.opcodes, ecc.ECPubkey
@@ -15,12 +11,12 @@ opcodes, ECPubkey = bitcoin.opcodes, ecc.ECPubkey
 
 def digest_of(label):
     """32 bytes for a name."""
-    return hashlib.sha256(b'written beforehand: ' + label.encode()).digest()
+    return hashlib.sha256(b"written beforehand: " + label.encode()).digest()
 
 
 def secret_of(label):
     """A private key for a name."""
-    return (int.from_bytes(digest_of(label), 'big') % (ORDER - 1) + 1).to_bytes(32, 'big')
+    return (int.from_bytes(digest_of(label), "big") % (ORDER - 1) + 1).to_bytes(32, "big")
 
 
 def public(secret):
@@ -30,12 +26,12 @@ def public(secret):
 
 def program_of(script):
     """P2WSH of a script."""
-    return b'\x00\x20' + hashlib.sha256(script).digest()
+    return b"\x00\x20" + hashlib.sha256(script).digest()
 
 
 def key_program(key):
     """P2WPKH of a key."""
-    return b'\x00\x14' + crypto.hash_160(key)
+    return b"\x00\x14" + crypto.hash_160(key)
 
 
 class Claim:
@@ -78,11 +74,11 @@ class Spend:
             txid, index = claim.outpoint
             txin = transaction.PartialTxInput(prevout=transaction.TxOutpoint(txid=bytes.fromhex(txid), out_idx=index), nsequence=claim.sequence)
             txin._trusted_value_sats = claim.value
-            txin.script_sig = b''
+            txin.script_sig = b""
             if claim.is_key_hash():
-                txin.script_type, txin.pubkeys, txin.num_sig = 'p2wpkh', [claim.keys[0]], 1
+                txin.script_type, txin.pubkeys, txin.num_sig = "p2wpkh", [claim.keys[0]], 1
             else:
-                txin.script_type, txin.witness_script, txin.num_sig = 'p2wsh', claim.script, len(claim.secrets)
+                txin.script_type, txin.witness_script, txin.num_sig = "p2wsh", claim.script, len(claim.secrets)
             inputs.append(txin)
         outputs = [transaction.PartialTxOutput(scriptpubkey=program, value=value) for program, value in self.outputs]
         return transaction.PartialTransaction.from_io(inputs, outputs, locktime=self.lock_time, version=self.version, BIP69_sort=False)
@@ -115,14 +111,14 @@ class Spend:
 
     def text(self):
         """What real/judge reads: the transaction, and of each input the value and program that it spends."""
-        return [self.signed().serialize_to_network()] + [f'{claim.value} {claim.program().hex()}' for claim in self.claims]
+        return [self.signed().serialize_to_network()] + [f"{claim.value} {claim.program().hex()}" for claim in self.claims]
 
     def packed(self):
         """The same as a partially signed transaction in base64."""
         tx = self.signed()
         for txin, claim in zip(tx.inputs(), self.claims):
             txin.witness_utxo = transaction.TxOutput(scriptpubkey=claim.program(), value=claim.value)
-        return tx._serialize_as_base64() if not tx.is_complete() else _base64(tx.serialize_as_bytes(force_psbt=True))
+        return base64.b64encode(tx.serialize_as_bytes(force_psbt=True)).decode("ascii")
 
     def changed(self, **members):
         """Another one, with these members, signed anew."""
@@ -142,11 +138,6 @@ class Spend:
         return sum(claim.value for claim in self.claims) - sum(value for _, value in self.outputs)
 
 
-def _base64(data):
-    import base64
-    return base64.b64encode(data).decode('ascii')
-
-
 def assembled(*items):
     """A script by Electrum."""
     return bytes.fromhex(bitcoin.construct_script(items))
@@ -161,40 +152,40 @@ class Channel:
     """A channel with one commitment: to_local, to_remote, an offered and a received HTLC. All names are those of the commitment's owner."""
 
     def __init__(self, number, delay, expiry):
-        self.number, self.delay, self.expiry, self.name = number, delay, expiry, f'channel {number}'
-        point_secret = secret_of(self.name + ' commitment')
+        self.number, self.delay, self.expiry, self.name = number, delay, expiry, f"channel {number}"
+        point_secret = secret_of(self.name + " commitment")
         point = public(point_secret)
-        revocation, delayed = secret_of(self.name + ' revocation'), secret_of(self.name + ' delayed')
+        revocation, delayed = secret_of(self.name + " revocation"), secret_of(self.name + " delayed")
         self.revocation = lnutil.derive_blinded_privkey(revocation, point_secret)
-        self.delayed = lnutil.derive_privkey(int.from_bytes(delayed, 'big'), point).to_bytes(32, 'big')
-        self.local, self.remote, self.payment = (secret_of(f'{self.name} {of}') for of in ('local', 'remote', 'payment'))
-        self.funding = sorted((secret_of(f'{self.name} funding {side}') for side in 'ab'), key=public)
-        self.funding_txid, self.funding_index = digest_of(self.name + ' outpoint').hex(), (0, 1, 7, 255, 65536)[number % 5]
+        self.delayed = lnutil.derive_privkey(int.from_bytes(delayed, "big"), point).to_bytes(32, "big")
+        self.local, self.remote, self.payment = (secret_of(f"{self.name} {of}") for of in ("local", "remote", "payment"))
+        self.funding = sorted((secret_of(f"{self.name} funding {side}") for side in "ab"), key=public)
+        self.funding_txid, self.funding_index = digest_of(self.name + " outpoint").hex(), (0, 1, 7, 255, 65536)[number % 5]
         self.capacity = 1_000_000 + 7_777 * number
-        self.preimages = {side: digest_of(f'{self.name} preimage {side}') for side in ('offered', 'received')}
+        self.preimages = {side: digest_of(f"{self.name} preimage {side}") for side in ("offered", "received")}
         self._scripts()
 
     def _scripts(self):
         keys = [public(secret) for secret in (self.revocation, self.remote, self.local)]
         self.to_local = lnutil.make_commitment_output_to_local_witness_script(public(self.revocation), self.delay, public(self.delayed))
         hashes = {side: hashlib.sha256(preimage).digest() for side, preimage in self.preimages.items()}
-        self.offered = lnutil.make_offered_htlc(*keys, hashes['offered'])
-        self.received = lnutil.make_received_htlc(*keys, hashes['received'], self.expiry)
+        self.offered = lnutil.make_offered_htlc(*keys, hashes["offered"])
+        self.received = lnutil.make_received_htlc(*keys, hashes["received"], self.expiry)
 
     def commitment(self):
         """The commitment's spend of the funding output."""
-        one, other = public(secret_of(self.name + ' base')), public(self.payment)
+        one, other = public(secret_of(self.name + " base")), public(self.payment)
         obscured = lnutil.get_obscured_ctn(40 + self.number, one, other)
         outputs = [(program_of(self.offered), 11_000 + self.number), (program_of(self.received), 12_500 + self.number),
                    (key_program(public(self.payment)), 300_000 + 3 * self.number)]
         outputs.append((program_of(self.to_local), self.capacity - 1_200 - sum(value for _, value in outputs)))
-        claim = Claim('funding', (self.funding_txid, self.funding_index), self.capacity, multisig(2, [public(s) for s in self.funding]),
-                      [b'', None, None], self.funding, (0x80 << 24) + (obscured >> 24))
+        claim = Claim("funding", (self.funding_txid, self.funding_index), self.capacity, multisig(2, [public(s) for s in self.funding]),
+                      [b"", None, None], self.funding, (0x80 << 24) + (obscured >> 24))
         return Spend([claim], outputs, 2, (0x20 << 24) + (obscured & 0xffffff)).sign()
 
     def close(self):
         """A mutual close."""
-        claim = self.commitment().claims[0].changed(way='close', sequence=0xffffffff)
+        claim = self.commitment().claims[0].changed(way="close", sequence=0xffffffff)
         outputs = [(key_program(public(self.payment)), 400_000), (key_program(public(self.delayed)), self.capacity - 400_000 - 333)]
         return Spend([claim], outputs, 2, 0).sign()
 
@@ -207,15 +198,15 @@ class Channel:
         """The claim of an output of the commitment by a way."""
         revocation = public(self.revocation)
         by = {
-            'offered by revocation': (0, self.offered, [None, revocation], [self.revocation]),
-            'offered by preimage': (0, self.offered, [None, self.preimages['offered']], [self.remote]),
-            'offered by timeout': (0, self.offered, [b'', None, None, b''], [self.remote, self.local]),
-            'received by revocation': (1, self.received, [None, revocation], [self.revocation]),
-            'received by success': (1, self.received, [b'', None, None, self.preimages['received']], [self.remote, self.local]),
-            'received by timeout': (1, self.received, [None, b''], [self.remote]),
-            'to_remote': (2, None, [None, public(self.payment)], [self.payment]),
-            'to_local by delay': (3, self.to_local, [None, b''], [self.delayed]),
-            'to_local by revocation': (3, self.to_local, [None, b'\x01'], [self.revocation]),
+            "offered by revocation": (0, self.offered, [None, revocation], [self.revocation]),
+            "offered by preimage": (0, self.offered, [None, self.preimages["offered"]], [self.remote]),
+            "offered by timeout": (0, self.offered, [b"", None, None, b""], [self.remote, self.local]),
+            "received by revocation": (1, self.received, [None, revocation], [self.revocation]),
+            "received by success": (1, self.received, [b"", None, None, self.preimages["received"]], [self.remote, self.local]),
+            "received by timeout": (1, self.received, [None, b""], [self.remote]),
+            "to_remote": (2, None, [None, public(self.payment)], [self.payment]),
+            "to_local by delay": (3, self.to_local, [None, b""], [self.delayed]),
+            "to_local by revocation": (3, self.to_local, [None, b"\x01"], [self.revocation]),
         }
         index, script, shape, secrets = by[way]
         outpoint, value = self.output(index)
@@ -225,12 +216,12 @@ class Channel:
         """HTLC-timeout or HTLC-success (BOLT 3)."""
         claim = self.claim(way, 0)
         _, output = lnutil.make_htlc_tx_output(claim.value * 1000, 253 + 40 * self.number, public(self.revocation), public(self.delayed),
-                                               way.endswith('success'), self.delay)
-        lock_time = self.expiry if way.endswith('timeout') else 0
+                                               way.endswith("success"), self.delay)
+        lock_time = self.expiry if way.endswith("timeout") else 0
         return Spend([claim], [(output.scriptpubkey, output.value)], 2, lock_time).sign()
 
     def second_stage(self, way, sequence):
         """The claim of an HTLC transaction's output."""
-        parent = self.htlc_transaction('offered by timeout' if self.number % 2 else 'received by success')
-        first = self.claim('to_local' + way[len('second stage'):], sequence)
+        parent = self.htlc_transaction("offered by timeout" if self.number % 2 else "received by success")
+        first = self.claim("to_local" + way[len("second stage"):], sequence)
         return first.changed(way=way, outpoint=(parent.signed().txid(), 0), value=parent.outputs[0][1])

@@ -1,12 +1,12 @@
 """One fault planted in a transaction, and what is to be said of each of its inputs: eight kinds of fault, each in several variants.
 
-A fault is a name, an edit (or a transaction that was signed anew), and the answers: None is that of the transaction without the fault."""
+A fault is a name, an edit (or a transaction that was signed anew), and the answers: None is that of the transaction without the fault. Tested, not proved."""
 
 import written_ways as ways
 from written_electrum import ORDER, assembled, crypto, digest_of, opcodes, public, secret_of
 from written_ways import clean, false_end, stops
 
-KINDS = ('signature', 'order', 'extra item', 'amount', 'sequence', 'lock time', 'forged token', 'measured signature')
+KINDS = ("signature", "order", "extra item", "amount", "sequence", "lock time", "forged token", "measured signature")
 
 
 def of_main(spend, answer):
@@ -19,9 +19,9 @@ def of_main(spend, answer):
 def void(claim, version, lock_time, sequence, keys=None):
     """An input whose signatures are over another digest (or, with keys, are good): a lock of its script may stop it before."""
     keys = ways.void_keys(claim.way) if keys is None else keys
-    if ways.FAMILY[claim.way] == 'to_local by delay' and not ways.age_passes(version, sequence, claim.delay):
+    if ways.FAMILY[claim.way] == "to_local by delay" and not ways.age_passes(version, sequence, claim.delay):
         return ways.early(keys)
-    if claim.way == 'received by timeout' and not ways.height_passes(lock_time, sequence, claim.expiry):
+    if claim.way == "received by timeout" and not ways.height_passes(lock_time, sequence, claim.expiry):
         return ways.locked(keys)
     return false_end(claim.way, keys)
 
@@ -43,9 +43,9 @@ def signature_places(spend):
 
 def der(r, s):
     """Strict DER of two numbers (BIP 66)."""
-    parts = b''
+    parts = b""
     for number in (r, s):
-        body = number.to_bytes((number.bit_length() + 8) // 8, 'big')
+        body = number.to_bytes((number.bit_length() + 8) // 8, "big")
         parts += bytes([2, len(body)]) + body
     return bytes([0x30, len(parts)]) + parts
 
@@ -53,7 +53,7 @@ def der(r, s):
 def numbers(signature):
     """The two numbers of a signature."""
     length = signature[3]
-    return int.from_bytes(signature[4:4 + length], 'big'), int.from_bytes(signature[6 + length:-1], 'big')
+    return int.from_bytes(signature[4:4 + length], "big"), int.from_bytes(signature[6 + length:-1], "big")
 
 
 def signature_fault(spend, variant, pick):
@@ -69,31 +69,31 @@ def signature_fault(spend, variant, pick):
     negative = bytearray(given)
     negative[6 + given[3]] |= 0x80
     table = [
-        ('a bit of s is flipped', given[:-2] + bytes([given[-2] ^ 1, 1]), false_end(way, keys | {item: None})),
-        ('by another key', spend.signature(main, secret_of(f'stranger {pick}')), false_end(way, keys | {item: None})),
-        ('empty', b'', false_end(way, keys)),
-        ('a high s', der(r, ORDER - s) + b'\x01', clean(way, ['LOW_S'])),
-        ('another hash type', spend.signature(main, spend.claims[main].secrets[pick % len(places)], types[pick % 5]), ['not judged', 'HashType']),
-        ('a zero before r', longer, ways.bad_form(way, item)),
-        ('the hash type is missing', given[:-1], ways.bad_form(way, item)),
-        ('a negative s', bytes(negative), ways.bad_form(way, item)),
+        ("a bit of s is flipped", given[:-2] + bytes([given[-2] ^ 1, 1]), false_end(way, keys | {item: None})),
+        ("by another key", spend.signature(main, secret_of(f"stranger {pick}")), false_end(way, keys | {item: None})),
+        ("empty", b"", false_end(way, keys)),
+        ("a high s", der(r, ORDER - s) + b"\x01", clean(way, ["LOW_S"])),
+        ("another hash type", spend.signature(main, spend.claims[main].secrets[pick % len(places)], types[pick % 5]), ["not judged", "HashType"]),
+        ("a zero before r", longer, ways.bad_form(way, item)),
+        ("the hash type is missing", given[:-1], ways.bad_form(way, item)),
+        ("a negative s", bytes(negative), ways.bad_form(way, item)),
     ]
     name, new, answer = table[variant % len(table)]
-    return name, [['item', main, item, new.hex()]], of_main(spend, answer)
+    return name, [["item", main, item, new.hex()]], of_main(spend, answer)
 
 
 def other_script(spend):
     """Two keys of the script are exchanged: its hash is another one."""
     claim = spend.claims[spend.main]
-    at = {'to_local by delay': (1, 6), 'to_local by revocation': (1, 6), 'offered by revocation': (7, 16), 'offered by timeout': (7, 16),
-          'offered by preimage': (7, 16), 'received by revocation': (7, 18), 'received by success': (7, 18), 'received by timeout': (7, 18),
-          'funding': (1, 2), 'three': (1, 2)}.get(ways.FAMILY[claim.way])
+    at = {"to_local by delay": (1, 6), "to_local by revocation": (1, 6), "offered by revocation": (7, 16), "offered by timeout": (7, 16),
+          "offered by preimage": (7, 16), "received by revocation": (7, 18), "received by success": (7, 18), "received by timeout": (7, 18),
+          "funding": (1, 2), "three": (1, 2)}.get(ways.FAMILY[claim.way])
     if at is None:
         return None
     parts = pieces(claim.script)
     parts[at[0]], parts[at[1]] = parts[at[1]], parts[at[0]]
     last = len(claim.shape)
-    return 'two keys of the script are exchanged', [['item', spend.main, last, b''.join(parts).hex()]], of_main(spend, ['stops', 'OtherScript'])
+    return "two keys of the script are exchanged", [["item", spend.main, last, b"".join(parts).hex()]], of_main(spend, ["stops", "OtherScript"])
 
 
 def order_fault(spend, variant, _pick):
@@ -106,7 +106,7 @@ def order_fault(spend, variant, _pick):
     if choice == len(table) and script:
         return script
     one, other, answer = table[choice % len(table)]
-    return f'items {one} and {other} are exchanged', [['swap', spend.main, one, other]], of_main(spend, answer)
+    return f"items {one} and {other} are exchanged", [["swap", spend.main, one, other]], of_main(spend, answer)
 
 
 def extra_fault(spend, variant, pick):
@@ -114,14 +114,14 @@ def extra_fault(spend, variant, pick):
     main, way = spend.main, spend.claims[spend.main].way
     claim = spend.claims[main]
     if variant % 3 == 0:
-        given = ('', '01', '55' * 32, public(secret_of('nobody')).hex())[pick % 4]
-        return 'an item too many, the first', [['insert', main, 0, given]], of_main(spend, ways.beneath(way))
+        given = ("", "01", "55" * 32, public(secret_of("nobody")).hex())[pick % 4]
+        return "an item too many, the first", [["insert", main, 0, given]], of_main(spend, ways.beneath(way))
     if variant % 3 == 1 and ways.FAMILY[way] in ways.PAIRED:
-        answer = stops('FailedCheck Extra', ways.WAYS[way].check, ways.WAYS[way].stack, dict(ways.WAYS[way].keys))
-        return 'the extra item is not empty', [['item', main, 0, ('00', '01', '55' * 32)[pick % 3]]], of_main(spend, answer)
+        answer = stops("FailedCheck Extra", ways.WAYS[way].check, ways.WAYS[way].stack, dict(ways.WAYS[way].keys))
+        return "the extra item is not empty", [["item", main, 0, ("00", "01", "55" * 32)[pick % 3]]], of_main(spend, answer)
     table = ways.above(way, ways.height_passes(spend.lock_time, claim.sequence, claim.expiry))
     given, answer = table[pick % len(table)]
-    return 'an item too many, before the script', [['insert', main, len(claim.shape), given]], of_main(spend, answer)
+    return "an item too many, before the script", [["insert", main, len(claim.shape), given]], of_main(spend, answer)
 
 
 def amount_fault(spend, variant, pick):
@@ -130,21 +130,21 @@ def amount_fault(spend, variant, pick):
     claim = spend.claims[main]
     answer = of_main(spend, void(claim, spend.version, spend.lock_time, claim.sequence))
     if variant % 4 == 0:
-        return 'the spent output has a satoshi more', [['line', main, claim.value + 1]], answer
+        return "the spent output has a satoshi more", [["line", main, claim.value + 1]], answer
     if variant % 4 == 1:
-        return 'the spent output has a satoshi less', [['line', main, claim.value - 1]], answer
-    last = len(spend.outputs) - 1
+        return "the spent output has a satoshi less", [["line", main, claim.value - 1]], answer
     if variant % 4 == 2:
-        return 'an output is changed once it is signed', [['output', last, spend.outputs[last][1] - 1 - pick]], all_void(spend)
+        last = max(k for k, (_, value) in enumerate(spend.outputs) if value)
+        return "an output is changed once it is signed", [["output", last, spend.outputs[last][1] - 1 - pick]], all_void(spend)
     rest = sum(value for _, value in spend.outputs[:-1])
     outputs = spend.outputs[:-1] + [(spend.outputs[-1][0], sum(c.value for c in spend.claims) - rest + 1 + pick)]
-    return 'the outputs exceed what is spent', spend.changed(outputs=outputs), [clean(c.way) for c in spend.claims]
+    return "the outputs exceed what is spent", spend.changed(outputs=outputs), [clean(c.way) for c in spend.claims]
 
 
 def signed_anew(spend, name, keys, **members):
     """A fault that was signed."""
-    lock_time, sequence = members.get('lock_time', spend.lock_time), members.get('sequence', spend.claims[spend.main].sequence)
-    version = members.get('version', spend.version)
+    lock_time, sequence = members.get("lock_time", spend.lock_time), members.get("sequence", spend.claims[spend.main].sequence)
+    version = members.get("version", spend.version)
     changed = spend.with_main(sequence=sequence)
     changed = changed.changed(lock_time=lock_time, version=version)
     answers = [clean(claim.way) for claim in spend.claims]
@@ -159,12 +159,12 @@ def delay_fault(spend, variant):
     keys, delay = dict(ways.WAYS[claim.way].keys), claim.delay
     alone = len(spend.claims) == 1
     table = [
-        lambda: ('lower once it is signed', [['sequence', main, delay - 1]], all_void(spend, sequence=delay - 1)),
-        lambda: signed_anew(spend, 'one block too early', keys, sequence=delay - 1),
-        lambda: signed_anew(spend, 'disabled', keys, sequence=0x80000000 | delay),
-        lambda: signed_anew(spend, 'in units of time', keys, sequence=0x00400000 | delay),
-        lambda: ('another bit once it is signed', [['sequence', main, claim.sequence ^ 0x00010000]], all_void(spend, sequence=claim.sequence ^ 0x00010000)),
-        lambda: signed_anew(spend, 'version 1', keys, version=1) if alone else signed_anew(spend, 'disabled, final', keys, sequence=0xffffffff),
+        lambda: ("lower once it is signed", [["sequence", main, delay - 1]], all_void(spend, sequence=delay - 1)),
+        lambda: signed_anew(spend, "one block too early", keys, sequence=delay - 1),
+        lambda: signed_anew(spend, "disabled", keys, sequence=0x80000000 | delay),
+        lambda: signed_anew(spend, "in units of time", keys, sequence=0x00400000 | delay),
+        lambda: ("another bit once it is signed", [["sequence", main, claim.sequence ^ 0x00010000]], all_void(spend, sequence=claim.sequence ^ 0x00010000)),
+        lambda: signed_anew(spend, "version 1", keys, version=1) if alone else signed_anew(spend, "disabled, final", keys, sequence=0xffffffff),
     ]
     return table[variant % len(table)]()
 
@@ -173,28 +173,28 @@ def sequence_fault(spend, variant, pick):
     """A sequence is changed once it is signed, or does not do for a lock of the script."""
     main = spend.main
     claim = spend.claims[main]
-    if ways.FAMILY[claim.way] == 'to_local by delay':
+    if ways.FAMILY[claim.way] == "to_local by delay":
         return delay_fault(spend, variant)
-    if claim.way == 'received by timeout' and variant % 2 == 0:
-        return signed_anew(spend, 'final', dict(ways.WAYS[claim.way].keys), sequence=0xffffffff)
+    if claim.way == "received by timeout" and variant % 2 == 0:
+        return signed_anew(spend, "final", dict(ways.WAYS[claim.way].keys), sequence=0xffffffff)
     new = (claim.sequence ^ 1, 0xffffffff, 144 + pick, claim.sequence ^ 0x80000000)[variant % 4]
     new = 0xfffffffc if new == claim.sequence else new
-    return 'changed once it is signed', [['sequence', main, new]], all_void(spend, sequence=new)
+    return "changed once it is signed", [["sequence", main, new]], all_void(spend, sequence=new)
 
 
 def lock_fault(spend, variant, pick):
     """A lock time is changed once it is signed, or does not do for a lock of the script."""
     main = spend.main
     claim = spend.claims[main]
-    if claim.way == 'received by timeout':
+    if claim.way == "received by timeout":
         keys = dict(ways.WAYS[claim.way].keys)
-        table = [lambda: ('below the expiry once it is signed', [['lock', claim.expiry - 1]], all_void(spend, claim.expiry - 1)),
-                 lambda: signed_anew(spend, 'one block too early', keys, lock_time=claim.expiry - 1),
-                 lambda: signed_anew(spend, 'a time', keys, lock_time=500000000 + pick),
-                 lambda: ('higher once it is signed', [['lock', spend.lock_time + 1]], all_void(spend, spend.lock_time + 1))]
+        table = [lambda: ("below the expiry once it is signed", [["lock", claim.expiry - 1]], all_void(spend, claim.expiry - 1)),
+                 lambda: signed_anew(spend, "one block too early", keys, lock_time=claim.expiry - 1),
+                 lambda: signed_anew(spend, "a time", keys, lock_time=500000000 + pick),
+                 lambda: ("higher once it is signed", [["lock", spend.lock_time + 1]], all_void(spend, spend.lock_time + 1))]
         return table[variant % 4]()
     new = (spend.lock_time + 1, spend.lock_time + 700000 + pick, 500000000 + pick)[variant % 3]
-    return 'changed once it is signed', [['lock', new]], all_void(spend, new)
+    return "changed once it is signed", [["lock", new]], all_void(spend, new)
 
 
 def forged_fault(spend, variant, pick):
@@ -203,18 +203,18 @@ def forged_fault(spend, variant, pick):
     claim = spend.claims[main]
     places = signature_places(spend)
     item = places[pick % len(places)]
-    token = public(claim.secrets[pick % len(places)]) + spend.digest(main) + b'\x01'
+    token = public(claim.secrets[pick % len(places)]) + spend.digest(main) + b"\x01"
     other = 0 if ways.FAMILY[claim.way] in ways.PAIRED else 1
-    refused = {'refused': f'ForgedToken {main} {item}'}
+    refused = {"refused": f"ForgedToken {main} {item}"}
     bad = of_main(spend, ways.bad_form(claim.way, item))
-    near = [b'\x04' + token[1:], token[:-1] + b'\x02', token[:-1], token + b'\x01', token[:-1] + b'\x00', b'\x01' + token[1:]]
+    near = [b"\x04" + token[1:], token[:-1] + b"\x02", token[:-1], token + b"\x01", token[:-1] + b"\x00", b"\x01" + token[1:]]
     table = [
-        ('the right one', [['item', main, item, token.hex()]], refused),
-        ('of any 65 bytes', [['item', main, item, '03' + '5a' * 64 + '01']], refused),
-        ('almost one', [['item', main, item, near[pick % 6].hex()]], bad),
-        ('in another place', [['item', main, other, token.hex()]], {'refused': f'ForgedToken {main} {other}'}),
-        ('an item too many', [['insert', main, 0, token.hex()]], {'refused': f'ForgedToken {main} 0'}),
-        ('almost one', [['item', main, item, near[(pick + 3) % 6].hex()]], bad),
+        ("the right one", [["item", main, item, token.hex()]], refused),
+        ("of any 65 bytes", [["item", main, item, "03" + "5a" * 64 + "01"]], refused),
+        ("almost one", [["item", main, item, near[pick % 6].hex()]], bad),
+        ("in another place", [["item", main, other, token.hex()]], {"refused": f"ForgedToken {main} {other}"}),
+        ("an item too many", [["insert", main, 0, token.hex()]], {"refused": f"ForgedToken {main} 0"}),
+        ("almost one", [["item", main, item, near[(pick + 3) % 6].hex()]], bad),
     ]
     return table[variant % len(table)]
 
@@ -234,15 +234,15 @@ def question(variant, pick):
     if variant == 0:
         return assembled(opcodes.OP_SIZE, 71 if pick % 3 else 70, opcodes.OP_EQUALVERIFY)
     if variant == 1:
-        return assembled(opcodes.OP_DUP, opcodes.OP_HASH160, crypto.hash_160(digest_of(f'hash {pick}')), opcodes.OP_EQUALVERIFY)
-    return assembled(opcodes.OP_DUP, digest_of(f'bytes {pick}') * 2 + b'\x30' * 7, opcodes.OP_EQUALVERIFY)
+        return assembled(opcodes.OP_DUP, opcodes.OP_HASH160, crypto.hash_160(digest_of(f"hash {pick}")), opcodes.OP_EQUALVERIFY)
+    return assembled(opcodes.OP_DUP, digest_of(f"bytes {pick}") * 2 + b"\x30" * 7, opcodes.OP_EQUALVERIFY)
 
 
 def measured_fault(spend, variant, pick):
     """The script asks for the size, the hash or the bytes of its signature, on the path that is taken or on another one with as many items."""
     claim = spend.claims[spend.main]
     family = ways.FAMILY[claim.way]
-    if family == 'to_remote':
+    if family == "to_remote":
         return None
     table = ways.OTHER_QUESTIONS if variant % 4 == 3 and family in ways.OTHER_QUESTIONS else ways.QUESTIONS
     at, swapped = table[family]
@@ -250,10 +250,10 @@ def measured_fault(spend, variant, pick):
     if swapped:
         asked = assembled(opcodes.OP_SWAP) + asked + assembled(opcodes.OP_SWAP)
     parts = pieces(claim.script)
-    script = b''.join(parts[:at]) + asked + b''.join(parts[at:])
-    name = 'on another path' if table is ways.OTHER_QUESTIONS else ('its size', 'its hash', 'its bytes', 'its size')[variant % 4]
+    script = b"".join(parts[:at]) + asked + b"".join(parts[at:])
+    name = "on another path" if table is ways.OTHER_QUESTIONS else ("its size", "its hash", "its bytes", "its size")[variant % 4]
     answers = [clean(c.way) for c in spend.claims]
-    answers[spend.main] = ['not judged', 'MeasuredSignature']
+    answers[spend.main] = ["not judged", "MeasuredSignature"]
     return name, spend.with_main(script=script), answers
 
 

@@ -1,34 +1,31 @@
-"""Makes real/tests/written.jsonl: transactions by Electrum, one fault planted in each, and the answers that are written down for them.
+"""The rows of the answers that were written down beforehand: transactions by Electrum, one fault planted in each, and what is wanted of real/judge.
 
-The answers follow from the sheet of real/written_ways.py, which is worked by hand from the pages and the standards: nothing here runs a script
-or asks a judge."""
-
-import json
-import sys
+The answers follow from the sheet of written_ways.py, which is worked by hand from the pages and the standards: nothing here runs a script or asks a judge. Tested, not proved."""
 
 import written_faults as faults
 import written_specials
 import written_spends
 import written_ways as ways
+from written_ways import corrected
 
-LOCKED = ('to_local by delay', 'received by timeout')  # these have faults of locks in more variants
+LOCKED = ("to_local by delay", "received by timeout")  # these have faults of locks in more variants
 
 
 def row_of(name, spend, answers, of=None):
     """A row with a transaction of its own."""
-    wanted = {'fee': spend.fee(), 'faults': ['OutputsExceed'] if spend.fee() < 0 else [], 'inputs': answers}
+    wanted = {"fee": spend.fee(), "faults": ["OutputsExceed"] if spend.fee() < 0 else [], "inputs": answers}
     if of:
-        return {'name': name, 'of': of, 'text': spend.text(), 'wanted': wanted}
-    return {'name': name, 'text': spend.text(), 'wanted': wanted}
+        return {"name": name, "of": of, "text": spend.text(), "wanted": wanted}
+    return {"name": name, "text": spend.text(), "wanted": wanted}
 
 
 def fee_of(spend, edit):
     """What an edited transaction pays."""
     fee = spend.fee()
     for change in edit:
-        if change[0] == 'line':
+        if change[0] == "line":
             fee += change[2] - spend.claims[change[1]].value
-        if change[0] == 'output':
+        if change[0] == "output":
             fee -= change[2] - spend.outputs[change[1]][1]
     return fee
 
@@ -39,12 +36,15 @@ def planted(name, spend, kind, variant, pick):
     if fault is None:
         return None
     said, change, answers = fault
-    title = f'{name}, {faults.KINDS[kind]}: {said}'
+    title = f"{name}, {faults.KINDS[kind]}: {said}"
     if not isinstance(change, list):
         return row_of(title, change, answers, name)
+    if change[0][0] == "output" and change[0][1] < len(spend.outputs) - 1:
+        return corrected({"name": title, "of": name, "edit": change, "wanted": {"fee": fee_of(spend, change), "faults": [], "inputs": answers}},
+                         "the last output, which has no satoshis", "an output of less than none can not be made")
     if isinstance(answers, dict):
-        return {'name': title, 'of': name, 'edit': change, 'wanted': answers}
-    return {'name': title, 'of': name, 'edit': change, 'wanted': {'fee': fee_of(spend, change), 'faults': [], 'inputs': answers}}
+        return {"name": title, "of": name, "edit": change, "wanted": answers}
+    return {"name": title, "of": name, "edit": change, "wanted": {"fee": fee_of(spend, change), "faults": [], "inputs": answers}}
 
 
 def rows():
@@ -65,13 +65,3 @@ def rows():
             kind = (kind + 1) % 8
         begun[family] = kind
     yield from written_specials.rows()
-
-
-def main():
-    """Prints the rows, or says that Electrum is not here."""
-    for row in rows():
-        sys.stdout.write(json.dumps(row, separators=(',', ':')) + '\n')
-
-
-if __name__ == '__main__':
-    main()

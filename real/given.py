@@ -1,0 +1,72 @@
+"""Reads what real/judge is given: a transaction with the outputs that it spends, as lines or partially signed. Tested, not proved."""
+import judging
+import partial
+import scripts
+import whole
+from errors import Refused, bytes_of
+from transaction import MAX_MONEY, Output, read_transaction
+
+
+def output_of(number, line):
+    """A value and a program, as line `number` of the input has them."""
+    words = line.split(" ")
+    if len(words) != 2 or not (words[0].isascii() and words[0].isdecimal() and len(words[0]) <= 16) or int(words[0]) > MAX_MONEY:
+        raise Refused(f"BadLine {number}")
+    try:
+        return Output(int(words[0]), bytes_of(words[1]))
+    except Refused:
+        raise Refused(f"BadLine {number}") from None
+
+
+def read_lines(given):
+    """A transaction and the outputs that it spends, as lines."""
+    try:
+        lines = given.decode("ascii").splitlines()
+    except UnicodeDecodeError:
+        raise Refused("BadHex") from None
+    while lines and not lines[-1].strip():
+        lines.pop()
+    transaction = read_transaction(bytes_of(lines[0].strip() if lines else ""))
+    if len(lines) - 1 != len(transaction.inputs):
+        raise Refused("BadCount")
+    return transaction, [output_of(number, line.strip()) for number, line in enumerate(lines[1:], 2)], {}
+
+
+def unreadable(fields, output):
+    """Why an input of a partially signed transaction is not judged, or None. Outputs of other kinds than version 0 are named later."""
+    taproot = partial.taproot_fields(fields)
+    if taproot:
+        return judging.Settled("TaprootFields", f"the input has the fields {', '.join(taproot)} (BIP 371)")
+    if output is None:
+        return judging.Settled("NoOutput", "neither WITNESS_UTXO nor NON_WITNESS_UTXO tells what the input spends")
+    is_judged = scripts.is_key_hash(output.program) or scripts.is_script_hash(output.program)
+    if is_judged and partial.final_witness(fields) is None:
+        return judging.Settled("NotFinal", "the input has no FINAL_SCRIPTWITNESS; real/psbt finish makes it from signatures")
+    return None
+
+
+def read_partial(given):
+    """A partially signed transaction, with what it says of the outputs that it spends: None where it says nothing."""
+    found = partial.read(partial.decoded(given))
+    outputs, settled = [], {}
+    for index, (it, fields) in enumerate(zip(found.transaction.inputs, found.inputs)):
+        output = partial.spent_output(found, index)
+        why = unreadable(fields, output)
+        if why:
+            settled[index] = why
+        it.witness = partial.final_witness(fields) or []
+        it.script = fields.get(partial.key_of(partial.FINAL_SCRIPTSIG), b"")
+        outputs.append(output)
+    return found.transaction, outputs, settled
+
+
+def read(given):
+    """The transaction, the outputs that it spends, and what settles some inputs. No item may have the form of a token."""
+    transaction, spent, settled = (read_partial if partial.is_partial(given) else read_lines)(given)
+    judging.refuse_tokens(transaction)
+    return transaction, spent, settled
+
+
+def told(transaction, spent, settled, curve, trace):
+    """What is told of a transaction, and of each of its inputs."""
+    return [whole.told(transaction, spent), *judging.judge(transaction, spent, curve, trace, settled)]
