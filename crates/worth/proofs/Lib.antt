@@ -1,0 +1,4 @@
+pub mod Shares
+pub mod Bounds
+mod ShareExamples
+mod BoundExamples
