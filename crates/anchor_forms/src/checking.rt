@@ -1,6 +1,7 @@
 // Checks the patterns of the scripts with anchors.
 
-ghost use Rattle.std.specs.Prelude.{◌≡◌, true, IfOk};
+ghost use Rattle.std.specs.Prelude.{◌≡◌, ◌++◌, true, IfOk};
+ghost use Rattle.forms.specs.Pieces.{htlc_beginning_pieces};
 ghost use Rattle.anchor_forms.specs.Pieces.{block_pieces, offered_with_anchors_pieces, received_with_anchors_pieces};
 
 use crate::pattern_set::ChannelPatterns;
@@ -12,10 +13,12 @@ use std::alloc::{AllocError, Global};
 
 /// Checks the patterns of the scripts of both types of channels. The only error is that memory ran out.
 pub fn channel_patterns(alloc: Global) -> Result<ChannelPatterns, AllocError> {
+    let offered_with_anchors = checked_offered(alloc)?;
+    let received_with_anchors = checked_received(alloc)?;
     Ok(ChannelPatterns {
         forms: patterns(alloc)?,
-        offered_with_anchors: checked_offered(alloc)?,
-        received_with_anchors: checked_received(alloc)?,
+        offered_with_anchors,
+        received_with_anchors,
     })
 }
 
@@ -48,12 +51,22 @@ fn block(alloc: Global) -> Result<Vec<Piece>, AllocError>
     ]?)
 }
 
+// A script with these branches behind the revocation key's. The only error is that memory ran out.
+fn whole(alloc: Global, mut branches: Vec<Piece>) -> Result<Vec<Piece>, AllocError>
+    ensures { IfOk result (λ v. v.items ≡ htlc_beginning_pieces ++ (branches.items ++ block_pieces)) }
+{
+    let mut end = block(alloc)?;
+    branches.append(&mut end)?;
+    let mut pieces = htlc_beginning(alloc)?;
+    pieces.append(&mut branches)?;
+    Ok(pieces)
+}
+
 // The revocation key; both HTLC keys, for the timeout; or the remote key with the preimage. The only error is that memory ran out.
 fn offered(alloc: Global) -> Result<Vec<Piece>, AllocError>
     ensures { IfOk result (λ v. v.items ≡ offered_with_anchors_pieces) }
 {
-    let mut pieces = htlc_beginning(alloc)?;
-    let mut branches = vec![in alloc;
+    let branches = vec![in alloc;
         Code(Op::NotIf),
         Code(Op::Drop),
         Code(Op::Number(2)),
@@ -67,18 +80,14 @@ fn offered(alloc: Global) -> Result<Vec<Piece>, AllocError>
         Code(Op::EqualVerify),
         Code(Op::CheckSig),
     ]?;
-    pieces.append(&mut branches)?;
-    let mut end = block(alloc)?;
-    pieces.append(&mut end)?;
-    Ok(pieces)
+    whole(alloc, branches)
 }
 
 // The revocation key; both HTLC keys with the preimage; or the remote key from the expiry on. The only error is that memory ran out.
 fn received(alloc: Global) -> Result<Vec<Piece>, AllocError>
     ensures { IfOk result (λ v. v.items ≡ received_with_anchors_pieces) }
 {
-    let mut pieces = htlc_beginning(alloc)?;
-    let mut branches = vec![in alloc;
+    let branches = vec![in alloc;
         Code(Op::If),
         Code(Op::Hash160),
         HashHole,
@@ -95,8 +104,5 @@ fn received(alloc: Global) -> Result<Vec<Piece>, AllocError>
         Code(Op::Drop),
         Code(Op::CheckSig),
     ]?;
-    pieces.append(&mut branches)?;
-    let mut end = block(alloc)?;
-    pieces.append(&mut end)?;
-    Ok(pieces)
+    whole(alloc, branches)
 }
