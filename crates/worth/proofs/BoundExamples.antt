@@ -1,42 +1,25 @@
 -- What is taken off at the bounds and beyond them, and what is left where there is no bound.
-use Rattle.std.proofs.Common.{◌≡◌, ℕ, ◌+◌, Bool, true, false, map, List, [], ◌∷◌, refl, arith, lit≤, lit<}
+use Rattle.std.proofs.Common.{◌≡◌, ℕ, ◌+◌, Bool, true, false, map, List, [], ◌∷◌, refl, arith, lit≤}
 use Rattle.tx.specs.declared.input.OutPoint.{OutPoint}
 use Rattle.terms.specs.declared.htlcs.Htlc.{Htlc}
-use Rattle.terms.specs.declared.sides.Side.{Side}
 use Rattle.terms.specs.declared.sides.Side.TheVariants.{A, B}
 use Rattle.terms.specs.declared.agreement.BaseKeys.{BaseKeys}
-use Rattle.terms.specs.declared.agreement.Party.{Party}
 use Rattle.terms.specs.declared.agreement.Terms.{Terms}
 use Rattle.terms.specs.declared.views.View.{View}
 use Rattle.commit.specs.Outputs.{outputs_of}
 use Rattle.commit.specs.Order.{in_order, output_cmp}
 use Rattle.commit.specs.Commitments.{commitment_of}
+use Rattle.worth.proofs.Samples.{opened_by, view, all_known}
 use Rattle.worth.specs.Shares.{Deductions, counted_msat, counted_sat, deductions, IsLess, none_known}
 use Rattle.worth.specs.Bounds.{htlc_count, counted_count, greatest, AreAtMost, IsWithin}
 
 abbrev of : ℕ → ℕ → ℕ → ℕ → Deductions
 of fee_sat dust_sat trimmed_sat rest_msat = record { fee_sat = fee_sat; dust_sat = dust_sat; trimmed_sat = trimmed_sat; rest_msat = rest_msat }
 
-abbrev all_known : Htlc → Bool
-all_known h = true
-
 module _ (funding : OutPoint) (bases : BaseKeys) (point : List ℕ) where
-  abbrev side : ℕ → ℕ → Party
-  side dust_sat start_msat = record { dust_sat = dust_sat; delay_blocks = 144; minimum_msat = 0; start_msat = start_msat; bases = bases }
-
   -- by the dust limits of A and B
-  abbrev opened_by : Side → ℕ → ℕ → Terms
-  opened_by opener dust-a dust-b = record { funding = funding; capacity_sat = 100000; opener = opener; feerate_per_kw = 1000; a = side dust-a 80000000; b = side dust-b 20000000; limited = lit≤ tt; whole = refl; short_a = lit< tt; short_b = lit< tt }
-
-  abbrev of_amount : ℕ → Htlc
-  of_amount amount_msat = record { id = 0; amount_msat = amount_msat; hash = []; expiry_height = 500 }
-
-  abbrev view : ℕ → ℕ → List ℕ → ℕ → List ℕ → View
-  view feerate_per_kw balance-a from-a balance-b from-b = record {
-    a = record { balance_msat = balance-a; offered = map of_amount from-a };
-    b = record { balance_msat = balance-b; offered = map of_amount from-b };
-    feerate_per_kw = feerate_per_kw;
-  }
+  abbrev opened : ℕ → ℕ → Terms
+  opened dust-a dust-b = opened_by funding bases A dust-a dust-b
 
   -- ---- at the bounds
 
@@ -44,7 +27,7 @@ module _ (funding : OutPoint) (bases : BaseKeys) (point : List ℕ) where
   abbrev at_most : View
   at_most = view 1000 98205002 (1248999 ∷ []) 545999 []
 
-  dearest : deductions (opened_by A 546 546) at_most true B all_known ≡ of 0 545 1248 1998
+  dearest : deductions (opened 546 546) at_most true B all_known ≡ of 0 545 1248 1998
   dearest = refl
 
   -- the greatest are just those
@@ -55,7 +38,7 @@ module _ (funding : OutPoint) (bases : BaseKeys) (point : List ℕ) where
   abbrev above : View
   above = view 1000 98205000 (1249000 ∷ []) 546000 []
 
-  above_has_outputs : (deductions (opened_by A 546 546) above true B all_known ≡ of 0 0 0 0) × (counted_sat true all_known (commitment_of (opened_by A 546 546) above B 1 point).outputs ≡ 1795)
+  above_has_outputs : (deductions (opened 546 546) above true B all_known ≡ of 0 0 0 0) × (counted_sat true all_known (commitment_of (opened 546 546) above B 1 point).outputs ≡ 1795)
   unfolding commitment_of outputs_of in_order output_cmp
   above_has_outputs = (refl, refl)
 
@@ -63,14 +46,14 @@ module _ (funding : OutPoint) (bases : BaseKeys) (point : List ℕ) where
   abbrev timeout : View
   timeout = view 1000 98205002 [] 545999 (1248999 ∷ [])
 
-  timeout_is_cheaper : deductions (opened_by A 546 546) timeout true B none_known ≡ of 0 545 0 1998
+  timeout_is_cheaper : deductions (opened 546 546) timeout true B none_known ≡ of 0 545 0 1998
   timeout_is_cheaper = refl
 
   -- the opener A, whose fee is for one HTLC with an output
   abbrev dear : View
   dear = view 1000 59441999 (10000000 ∷ []) 30558001 []
 
-  fee_is_the_bound : (deductions (opened_by A 546 546) dear true A none_known ≡ of 896 0 0 999) × (greatest A A 1000 546 (htlc_count dear) (counted_count none_known A dear) ≡ of 896 545 1248 1998)
+  fee_is_the_bound : (deductions (opened 546 546) dear true A none_known ≡ of 896 0 0 999) × (greatest A A 1000 546 (htlc_count dear) (counted_count none_known A dear) ≡ of 896 545 1248 1998)
   fee_is_the_bound = (refl, refl)
 
   -- yes: AreAtMost
@@ -88,11 +71,11 @@ module _ (funding : OutPoint) (bases : BaseKeys) (point : List ℕ) where
 
   -- by the dust limit of the owner alone
   -- yes: IsWithin
-  at_its_limits : IsWithin (opened_by A 546 1000) at_most A 1000 546
+  at_its_limits : IsWithin (opened 546 1000) at_most A 1000 546
   at_its_limits = record { feerate = lit≤ tt; limit = lit≤ tt }
 
   -- no: IsWithin
-  above_its_limits : (IsWithin (opened_by A 546 1000) at_most A 999 546 → ⊥) × (IsWithin (opened_by A 546 1000) at_most A 1000 545 → ⊥) × (IsWithin (opened_by A 546 1000) at_most B 1000 999 → ⊥)
+  above_its_limits : (IsWithin (opened 546 1000) at_most A 999 546 → ⊥) × (IsWithin (opened 546 1000) at_most A 1000 545 → ⊥) × (IsWithin (opened 546 1000) at_most B 1000 999 → ⊥)
   above_its_limits = (λ w. let l = w.feerate in omega (arith, l), λ w. let l = w.limit in omega (arith, l), λ w. let l = w.limit in omega (arith, l))
 
   -- ---- the identity, off by one
@@ -110,7 +93,7 @@ module _ (funding : OutPoint) (bases : BaseKeys) (point : List ℕ) where
       × (IsLess 1794998 (of 0 545 1249 1998) 0 → ⊥)
       × (IsLess 1794998 (of 0 545 1248 1997) 0 → ⊥)
       × (IsLess 69441999 (of (896 + 896) 0 0 999) 68545 → ⊥)
-      × (IsLess 1794998 (deductions (opened_by A 546 500) at_most true B all_known) 0 → ⊥)
+      × (IsLess 1794998 (deductions (opened 546 500) at_most true B all_known) 0 → ⊥)
   as_it_is_not =
       (λ e. omega (arith, e), λ e. omega (arith, e), λ e. omega (arith, e), λ e. omega (arith, e), λ e. omega (arith, e), λ e. omega (arith, e), λ e. omega (arith, e), λ e. omega (arith, e))
 
@@ -123,8 +106,8 @@ module _ (funding : OutPoint) (bases : BaseKeys) (point : List ℕ) where
   abbrev of_b : ℕ → (Htlc → Bool) → ℕ × ℕ × Deductions
   of_b feerate_per_kw known = (
     counted_msat known B (owing feerate_per_kw),
-    counted_sat true known (commitment_of (opened_by A 546 546) (owing feerate_per_kw) B 1 point).outputs,
-    deductions (opened_by A 546 546) (owing feerate_per_kw) true B known,
+    counted_sat true known (commitment_of (opened 546 546) (owing feerate_per_kw) B 1 point).outputs,
+    deductions (opened 546 546) (owing feerate_per_kw) true B known,
   )
 
   -- B's own commitment at 1,000 satoshis for 1,000 units of weight, and at the greatest feerate that 32 bits can hold: all of the HTLC is gone, whether or not B knows the preimage, and no deduction but 'trimmed' says so
@@ -138,8 +121,8 @@ module _ (funding : OutPoint) (bases : BaseKeys) (point : List ℕ) where
 
   -- with a dust limit of A's at its capacity A's commitment pays B nothing of 30,000 satoshis
   any_dust_limit : (counted_msat all_known B (owing 1000) ≡ 30000000)
-      × (counted_sat false all_known (commitment_of (opened_by A 100000 546) (owing 1000) A 1 point).outputs ≡ 0)
-      × (deductions (opened_by A 100000 546) (owing 1000) false B all_known ≡ of 0 20000 10000 0)
+      × (counted_sat false all_known (commitment_of (opened 100000 546) (owing 1000) A 1 point).outputs ≡ 0)
+      × (deductions (opened 100000 546) (owing 1000) false B all_known ≡ of 0 20000 10000 0)
   unfolding commitment_of outputs_of in_order output_cmp
   any_dust_limit = (refl, refl, refl)
 

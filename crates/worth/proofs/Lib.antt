@@ -1,4 +1,11 @@
 pub mod Shares
 pub mod Bounds
+pub mod Counted
+pub mod Due
+pub mod Staged
+pub mod Least
+pub mod Samples
 mod ShareExamples
 mod BoundExamples
+mod CountedExamples
+mod LeastExamples

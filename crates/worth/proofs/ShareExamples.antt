@@ -1,12 +1,10 @@
 -- What the outputs of worked commitments are worth to each side, and what is taken off. The amounts of the first are those of BOLT 3, appendix C; the others were computed from BOLT 3 by a program of its own.
 use Rattle.std.proofs.Common.{◌≡◌, ℕ, Bool, true, false, map, List, [], ◌∷◌, ◌++◌, refl, lit≤, lit<}
-use Rattle.std.specs.Prelude.{nat_lt}
 use Rattle.tx.specs.declared.input.OutPoint.{OutPoint}
 use Rattle.terms.specs.declared.htlcs.Htlc.{Htlc}
 use Rattle.terms.specs.declared.sides.Side.{Side}
 use Rattle.terms.specs.declared.sides.Side.TheVariants.{A, B}
 use Rattle.terms.specs.declared.agreement.BaseKeys.{BaseKeys}
-use Rattle.terms.specs.declared.agreement.Party.{Party}
 use Rattle.terms.specs.declared.agreement.Terms.{Terms}
 use Rattle.terms.specs.declared.views.View.{View}
 use Rattle.commit.specs.Amounts.{amounts_of}
@@ -14,25 +12,10 @@ use Rattle.commit.specs.Keys.{keys_of}
 use Rattle.commit.specs.Outputs.{outputs_of}
 use Rattle.commit.specs.Order.{in_order, output_cmp}
 use Rattle.commit.specs.Commitments.{commitment_of}
+use Rattle.worth.proofs.Samples.{side, opened_by, view, mixed, all_known, large_known}
 use Rattle.worth.specs.Shares.{Deductions, owner_by, counted_msat, counted_sat, values_sat, deductions, none_known, all_deductions}
 
 module _ (funding : OutPoint) (bases : BaseKeys) (point : List ℕ) where
-  abbrev side : ℕ → ℕ → Party
-  side dust_sat start_msat = record { dust_sat = dust_sat; delay_blocks = 144; minimum_msat = 0; start_msat = start_msat; bases = bases }
-
-  abbrev of_amount : ℕ → Htlc
-  of_amount amount_msat = record { id = 0; amount_msat = amount_msat; hash = []; expiry_height = 500 }
-
-  abbrev view : ℕ → ℕ → List ℕ → ℕ → List ℕ → View
-  view feerate_per_kw balance-a from-a balance-b from-b = record {
-    a = record { balance_msat = balance-a; offered = map of_amount from-a };
-    b = record { balance_msat = balance-b; offered = map of_amount from-b };
-    feerate_per_kw = feerate_per_kw;
-  }
-
-  abbrev all_known : Htlc → Bool
-  all_known h = true
-
   -- what a side counts on in millisatoshis, what the outputs are worth in satoshis, and the deductions: fee, dust, HTLCs without an output, and the millisatoshis that are rounded off
   abbrev figures : ℕ → ℕ → Deductions → ℕ × ℕ × ℕ × ℕ × ℕ × ℕ
   figures whole_msat satoshis d = (whole_msat, satoshis, d.fee_sat, d.dust_sat, d.trimmed_sat, d.rest_msat)
@@ -40,7 +23,7 @@ module _ (funding : OutPoint) (bases : BaseKeys) (point : List ℕ) where
   -- ---- appendix C: A opened the channel, and the commitments are A's
 
   abbrev appendix_terms : Terms
-  appendix_terms = record { funding = funding; capacity_sat = 10000000; opener = A; feerate_per_kw = 1000; a = side 546 10000000000; b = side 546 0; limited = lit≤ tt; whole = refl; short_a = lit< tt; short_b = lit< tt }
+  appendix_terms = record { funding = funding; capacity_sat = 10000000; opener = A; feerate_per_kw = 1000; a = side bases 546 10000000000; b = side bases 546 0; limited = lit≤ tt; whole = refl; short_a = lit< tt; short_b = lit< tt }
 
   abbrev appendix_view : ℕ → View
   appendix_view feerate_per_kw = view feerate_per_kw 6988000000 (2000000 ∷ 3000000 ∷ []) 3000000000 (1000000 ∷ 2000000 ∷ 4000000 ∷ [])
@@ -108,22 +91,15 @@ module _ (funding : OutPoint) (bases : BaseKeys) (point : List ℕ) where
   unfolding outputs_of
   as_peer_without = refl
 
-  -- ---- either opener, with dust limits of 546 satoshis for A and 1,000 for B, at 1,000 satoshis for 1,000 units of weight
+  -- ---- either opener, with dust limits of 546 satoshis for A and 1,000 for B, at 1,000 satoshis for 1,000 units of weight: A's second HTLC has an output on A's commitment alone
 
-  abbrev opened_by : Side → Terms
-  opened_by opener = record { funding = funding; capacity_sat = 100000; opener = opener; feerate_per_kw = 5000; a = side 546 60000000; b = side 1000 40000000; limited = lit≤ tt; whole = refl; short_a = lit< tt; short_b = lit< tt }
-
-  -- A offered 10,000.5 and 1,300 satoshis, of which the second has an output on A's commitment alone; B offered 11,999 and 300.999
-  abbrev mixed : View
-  mixed = view 1000 40000250 (10000500 ∷ 1300000 ∷ []) 36399251 (11999000 ∷ 300999 ∷ [])
-
-  abbrev large_known : Htlc → Bool
-  large_known h = nat_lt 5000000 h.amount_msat
+  abbrev opened : Side → Terms
+  opened opener = opened_by funding bases opener 546 1000
 
   -- on one's own commitment and on the peer's, each with none, with the larger and with both of the HTLCs that were offered to the side
   abbrev mixed_of : Side → Side → (own : Bool) → (Htlc → Bool) → ℕ × ℕ × ℕ × ℕ × ℕ × ℕ
   mixed_of opener me own known =
-      figures (counted_msat known me mixed) (counted_sat own known (commitment_of (opened_by opener) mixed (owner_by own me) 1 point).outputs) (deductions (opened_by opener) mixed own me known)
+      figures (counted_msat known me mixed) (counted_sat own known (commitment_of (opened opener) mixed (owner_by own me) 1 point).outputs) (deductions (opened opener) mixed own me known)
 
   abbrev each : Side → Side → List (ℕ × ℕ × ℕ × ℕ × ℕ × ℕ)
   each opener me = map (mixed_of opener me true) (none_known ∷ large_known ∷ all_known ∷ []) ++ map (mixed_of opener me false) (none_known ∷ large_known ∷ all_known ∷ [])
@@ -176,7 +152,7 @@ module _ (funding : OutPoint) (bases : BaseKeys) (point : List ℕ) where
 
   -- of A's commitments and of B's: what they are worth, and the deductions of both sides
   abbrev all_of : Side → Side → ℕ × ℕ × ℕ × ℕ × ℕ × ℕ
-  all_of opener owner = figures 100000000 (values_sat (commitment_of (opened_by opener) mixed owner 1 point).outputs) (all_deductions (opened_by opener) mixed owner)
+  all_of opener owner = figures 100000000 (values_sat (commitment_of (opened opener) mixed owner 1 point).outputs) (all_deductions (opened opener) mixed owner)
 
   all_outputs : map (all_of A) (A ∷ B ∷ []) ++ map (all_of B) (A ∷ B ∷ [])
       ≡ (100000000, 98458, 1240, 0, 300, 2000)

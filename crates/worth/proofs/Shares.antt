@@ -72,17 +72,17 @@ balance_placed limit_sat balance_msat owed = fee_joined _ _ (value_placed (nat_l
 -- ---- the outputs, by their kinds
 
 -- what an output adds to those on which a side counts
-abbrev worth_on : Bool → (Htlc → Bool) → CommitmentOutput → ℕ
+abbrev pub worth_on : Bool → (Htlc → Bool) → CommitmentOutput → ℕ
 worth_on own known o = if counts_on own known o.kind then o.value else 0
 
-abbrev worth_in : Bool → (Htlc → Bool) → List CommitmentOutput → ℕ
+abbrev pub worth_in : Bool → (Htlc → Bool) → List CommitmentOutput → ℕ
 worth_in own known os = sum_by (worth_on own known) os
 
 one_kept : (b : Bool) (o : CommitmentOutput) (kept : List CommitmentOutput) (rest : ℕ) → values_sat kept ≡ rest → values_sat (cond b (o ∷ kept) kept) ≡ (if b then o.value else 0) + rest
 one_kept true o kept rest e = sum_by-cons (λ (x : CommitmentOutput). x.value) o kept ∙ ap (λ n. o.value + n) e
 one_kept false o kept rest e = omega (arith, e)
 
-filtered : (own : Bool) (known : Htlc → Bool) (os : List CommitmentOutput) → counted_sat own known os ≡ worth_in own known os
+pub filtered : (own : Bool) (known : Htlc → Bool) (os : List CommitmentOutput) → counted_sat own known os ≡ worth_in own known os
 filtered own known [] = refl
 filtered own known (o ∷ os) =
     one_kept (counts_on own known o.kind) o (filter (λ x. counts_on own known x.kind) os) (worth_in own known os) (filtered own known os) ∙ sym (sum_by-cons (worth_on own known) o os)

@@ -1,2 +1,4 @@
 pub mod Shares
 pub mod Bounds
+pub mod Counted
+pub mod Least

@@ -1,8 +1,11 @@
 //! Laws over the definitions alone.
 
 ghost use Rattle.worth.specs.Bounds.{AllAreBounded, DeductionsAreBounded, LittleIsTakenOff, LittleOfAllIsTakenOff};
+ghost use Rattle.worth.specs.Counted.{CountedAreDue, CountedAreWorth};
+ghost use Rattle.worth.specs.Least.{WhicheverCloses};
 ghost use Rattle.worth.specs.Shares.{AllIsTheCapacity, SharesAreWorth};
 
+use channel::laws::sides_are_sound;
 use commit::laws::there_is_one_order;
 
 /// The outputs of a commitment on which a side counts are worth what it counts on, less its deductions: of its own commitment or its peer's, whichever HTLCs that were offered to it are known. All outputs
@@ -23,4 +26,24 @@ pub fn deductions_are_bounded()
     ensures all { LittleOfAllIsTakenOff }
 {
     shares_are_worth();
+}
+
+/// What a side claims of a commitment that closed its channel is one claim for each output on which it counts. Whichever of its own HTLC transactions stand, the claims are worth, with the fees of these, what it
+/// counts on, less its deductions. And each claim is due: on its peer's commitment these are all that is due, and on its own each HTLC's is due at either stage. Two named byte strings with one hash are the exception.
+pub fn counted_are_worth()
+    ensures worth { CountedAreWorth }
+    ensures due { CountedAreDue }
+{
+    there_is_one_order();
+    shares_are_worth();
+}
+
+/// Whichever commitment closes a channel, whatever messages came before: one that the peer revoked, the peer's newest, the one after it, or the side's own newest. What it gives the side is what the side counts on, or
+/// the capacity if it was revoked, less deductions that are said exactly; the claims on it are worth that, with the fees of HTLC transactions that stand. And it is at least a number that can be read before.
+pub fn whichever_closes()
+    ensures { WhicheverCloses }
+{
+    there_is_one_order();
+    shares_are_worth();
+    sides_are_sound();
 }

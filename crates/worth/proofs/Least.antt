@@ -1,0 +1,126 @@
+-- Whichever commitment closes a channel, it gives the side what it is worth, and the least at least.
+use Rattle.std.proofs.Common.{◌≡◌, ℕ, zero, suc, ◌+◌, ◌*◌, ◌<◌, ◌≤◌, min, Bool, true, false, List, [], ◌∷◌, ◌++◌, map, take, drop, Some, None, sym, subst, arith}
+use Rattle.std.specs.Prelude.{slice_get}
+use Rattle.std.specs.List.{AllByRecursion}
+use Rattle.terms.specs.declared.htlcs.Htlc.{Htlc}
+use Rattle.terms.specs.declared.sides.Side.{Side}
+use Rattle.terms.specs.declared.agreement.Terms.{Terms}
+use Rattle.terms.specs.Sides.{other}
+use Rattle.commit.specs.Order.{ThereIsOneOrder}
+use Rattle.commit.specs.Commitments.{commitment_of}
+use Rattle.channel.specs.declared.commitments.CommitmentState.{CommitmentState}
+use Rattle.channel.specs.Numbered.{IsNumbered}
+use Rattle.channel.specs.States.{Signing, State}
+use Rattle.channel.specs.Peers.{IsLived}
+use Rattle.channel.specs.Recording.{SidesNumber}
+use Rattle.channel.specs.Tokens.{contents_of}
+use Rattle.worth.specs.Shares.{owner_by, counted_msat, counted_sat, values_sat, deductions, all_deductions, IsLess, SharesAreWorth, AllIsTheCapacity}
+use Rattle.worth.specs.Least.{MayClose, revoked, newest, next, own, own_sat, peers_sat, revoked_sat, gives_sat, whole_msat, taken_off, claims_sat, least, at_least_sat, WhicheverCloses}
+use Rattle.worth.proofs.Counted.{counted_worth}
+use Rattle.worth.proofs.Staged.{staged_worth}
+
+-- ---- the least of a list
+
+some_is : {X : Type 0} (x y : X) → Some x ≡ Some y → x ≡ y
+some_is x y e = cc
+
+none_some : {X : Type 0} (x : X) → None ≡ Some x → ⊥
+none_some x e = cc
+
+lower : (n m : ℕ) (xs : List ℕ) → n ≤ m → AllByRecursion (λ x. m ≤ x) xs → AllByRecursion (λ x. n ≤ x) xs
+lower n m [] l a = tt
+lower n m (x ∷ xs) l a = (omega (arith, l, a.0), lower n m xs l a.1)
+
+least_below : (xs : List ℕ) → AllByRecursion (λ x. least xs ≤ x) xs
+least_below [] = tt
+least_below (n ∷ []) = (omega arith, tt)
+least_below (n ∷ m ∷ ns) = (omega arith, lower (min n (least (m ∷ ns))) (least (m ∷ ns)) (m ∷ ns) (omega arith) (least_below (m ∷ ns)))
+
+-- ---- at a place of a list
+
+module _ (P : ℕ → Type 0) where
+  in_first : (xs ys : List ℕ) → AllByRecursion P (xs ++ ys) → AllByRecursion P xs
+  in_first [] ys a = tt
+  in_first (x ∷ xs) ys a = (a.0, in_first xs ys a.1)
+
+  in_second : (xs ys : List ℕ) → AllByRecursion P (xs ++ ys) → AllByRecursion P ys
+  in_second [] ys a = a
+  in_second (x ∷ xs) ys a = in_second xs ys a.1
+
+  module _ {X : Type 0} (f : X → ℕ) where
+    of_all : (xs : List X) (i : ℕ) (x : X) → slice_get xs i ≡ Some x → AllByRecursion P (map f xs) → P (f x)
+    of_all [] i x e a = absurd (none_some x e)
+    of_all (y ∷ ys) zero x e a = subst (λ z. P (f z)) (some_is y x e) a.0
+    of_all (y ∷ ys) (suc i) x e a = of_all ys i x e a.1
+
+    of_later : (n : ℕ) (xs : List X) (i : ℕ) (x : X) → n ≤ i → slice_get xs i ≡ Some x → AllByRecursion P (map f (drop n xs)) → P (f x)
+    of_later zero xs i x l e a = of_all xs i x e a
+    of_later (suc n) [] i x l e a = absurd (none_some x e)
+    of_later (suc n) (y ∷ ys) zero x l e a = absurd (omega (arith, l))
+    of_later (suc n) (y ∷ ys) (suc i) x l e a = of_later n ys i x (omega (arith, l)) e a
+
+    of_earlier : (n : ℕ) (xs : List X) (i : ℕ) (x : X) → i < n → slice_get xs i ≡ Some x → AllByRecursion P (map f (take n xs)) → P (f x)
+    of_earlier zero xs i x l e a = absurd (omega (arith, l))
+    of_earlier (suc n) [] i x l e a = absurd (none_some x e)
+    of_earlier (suc n) (y ∷ ys) zero x l e a = subst (λ z. P (f z)) (some_is y x e) a.0
+    of_earlier (suc n) (y ∷ ys) (suc i) x l e a = of_earlier n ys i x (omega (arith, l)) e a.1
+
+module _ (known : Htlc → Bool) (s : State) (k : CommitmentState) where
+  abbrev P : ℕ → Type 0
+  P x = at_least_sat known s ≤ x
+
+  abbrev mine : List ℕ
+  mine = map (own_sat known s) (drop s.number s.mine)
+
+  abbrev newer : List ℕ
+  newer = map (peers_sat known s) (drop s.peer_number s.signed)
+
+  abbrev older : List ℕ
+  older = map (revoked_sat s) (take s.peer_number s.signed)
+
+  every : AllByRecursion P ((mine ++ newer) ++ older)
+  every = least_below ((mine ++ newer) ++ older)
+
+  is_least : (m : MayClose s k) → at_least_sat known s ≤ gives_sat known s k m
+  is_least (revoked n l at) = of_earlier P (revoked_sat s) s.peer_number s.signed n k l at (in_second P (mine ++ newer) older every)
+  is_least (newest at) = of_later P (peers_sat known s) s.peer_number s.signed s.peer_number k (omega arith) at (in_second P mine newer (in_first P (mine ++ newer) older every))
+  is_least (next e at) = of_later P (peers_sat known s) s.peer_number s.signed (s.peer_number + 1) k (omega arith) at (in_second P mine newer (in_first P (mine ++ newer) older every))
+  is_least (own at) = of_later P (own_sat known s) s.number s.mine s.number k (omega arith) at (in_first P mine newer (in_first P (mine ++ newer) older every))
+
+-- ---- what each gives
+
+-- a recorded commitment is of its side, and its view shares out the capacity
+of_mine : SidesNumber → (tokens_of : Signing) (s : State) → IsLived tokens_of s → (n : ℕ) (k : CommitmentState) → slice_get s.mine n ≡ Some k → IsNumbered s.held.terms s.held.side n k
+of_mine law tokens_of s lived n k at = (law tokens_of s lived).mine.each n k at
+
+of_signed : SidesNumber → (tokens_of : Signing) (s : State) → IsLived tokens_of s → (n : ℕ) (k : CommitmentState) → slice_get s.signed n ≡ Some k → IsNumbered s.held.terms (other s.held.side) n k
+of_signed law tokens_of s lived n k at = (law tokens_of s lived).signed.each n k at
+
+-- a share of a recorded commitment, by its owner
+share_of : SharesAreWorth → (terms : Terms) (ours : Bool) (me : Side) (k : CommitmentState) (known : Htlc → Bool) → k.owner ≡ owner_by ours me
+    → IsLess (counted_msat known me k.view) (deductions terms k.view ours me known) (counted_sat ours known (contents_of terms k).outputs)
+share_of law terms ours me k known e =
+    subst (λ owner. IsLess (counted_msat known me k.view) (deductions terms k.view ours me known) (counted_sat ours known (commitment_of terms k.view owner k.number k.point.bytes).outputs)) (sym e)
+    (law terms k.view ours me k.number k.point.bytes known)
+
+all_of : AllIsTheCapacity → (terms : Terms) (owner : Side) (n : ℕ) (k : CommitmentState) → IsNumbered terms owner n k
+    → IsLess (1000 * terms.capacity_sat) (all_deductions terms k.view owner) (values_sat (contents_of terms k).outputs)
+all_of law terms owner n k i =
+    subst (λ by. IsLess (1000 * terms.capacity_sat) (all_deductions terms k.view owner) (values_sat (commitment_of terms k.view by k.number k.point.bytes).outputs)) (sym i.owner)
+    (law terms k.view owner k.number k.point.bytes i.shares.whole)
+
+module _ (shares : SharesAreWorth) (all : AllIsTheCapacity) (order : ThereIsOneOrder) (numbered : SidesNumber) where
+  is_worth : (tokens_of : Signing) (s : State) → IsLived tokens_of s → (known : Htlc → Bool) (k : CommitmentState) (m : MayClose s k) → IsLess (whole_msat known s k m) (taken_off known s k m) (gives_sat known s k m)
+  is_worth tokens_of s lived known k (revoked n l at) = all_of all s.held.terms (other s.held.side) n k (of_signed numbered tokens_of s lived n k at)
+  is_worth tokens_of s lived known k (newest at) = share_of shares s.held.terms false s.held.side k known (of_signed numbered tokens_of s lived s.peer_number k at).owner
+  is_worth tokens_of s lived known k (next e at) = share_of shares s.held.terms false s.held.side k known (of_signed numbered tokens_of s lived (s.peer_number + 1) k at).owner
+  is_worth tokens_of s lived known k (own at) = share_of shares s.held.terms true s.held.side k known (of_mine numbered tokens_of s lived s.number k at).owner
+
+  are_claimed : (tokens_of : Signing) (s : State) → IsLived tokens_of s → (known : Htlc → Bool) (stands : ℕ → Bool) (k : CommitmentState) (m : MayClose s k) → claims_sat known stands s k m ≡ gives_sat known s k m
+  are_claimed tokens_of s lived known stands k (revoked n l at) = staged_worth order s.held.terms k.view k.owner k.number k.point.bytes stands
+  are_claimed tokens_of s lived known stands k (newest at) = counted_worth order s.held.terms k.view k.owner k.number k.point.bytes false known stands
+  are_claimed tokens_of s lived known stands k (next e at) = counted_worth order s.held.terms k.view k.owner k.number k.point.bytes false known stands
+  are_claimed tokens_of s lived known stands k (own at) = counted_worth order s.held.terms k.view k.owner k.number k.point.bytes true known stands
+
+  pub whichever_closes : WhicheverCloses
+  whichever_closes = record { worth = is_worth; claims = are_claimed; least = is_least }

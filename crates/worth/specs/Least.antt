@@ -1,0 +1,77 @@
+-- The least that a side has of a channel, whichever commitment closes it: a number that can be read before a close.
+use Rattle.std.specs.Prelude.{◌≡◌, ℕ, ◌+◌, ◌*◌, ◌<◌, ◌≤◌, min, Bool, true, false, List, [], ◌∷◌, ◌++◌, map, take, drop, Some, slice_get}
+use Rattle.terms.specs.declared.amounts.TheConstants.{MSAT_PER_SAT}
+use Rattle.terms.specs.declared.htlcs.Htlc.{Htlc}
+use Rattle.terms.specs.Sides.{other}
+use Rattle.penalty.specs.Worth.{staged, value_of, fees_with}
+use Rattle.channel.specs.declared.commitments.CommitmentState.{CommitmentState}
+use Rattle.channel.specs.States.{Signing, State}
+use Rattle.channel.specs.Peers.{IsLived}
+use Rattle.channel.specs.Tokens.{contents_of}
+use Rattle.worth.specs.Shares.{Deductions, counted_msat, counted_sat, values_sat, deductions, all_deductions, IsLess}
+use Rattle.worth.specs.Counted.{counted, fees_counted}
+
+-- Which commitment may close a channel: one that the peer revoked; the peer's newest; the one after it, which the side signed and the peer has not yet answered by a revocation; or the side's own newest
+pub data MayClose (s : State) (k : CommitmentState) : Type 0 where
+  revoked : (n : ℕ) → n < s.peer_number → slice_get s.signed n ≡ Some k → MayClose s k
+  newest : slice_get s.signed s.peer_number ≡ Some k → MayClose s k
+  next : s.awaiting ≡ true → slice_get s.signed (s.peer_number + 1) ≡ Some k → MayClose s k
+  own : slice_get s.mine s.number ≡ Some k → MayClose s k
+
+-- ---- what it gives the side
+
+-- the satoshis of the outputs on which the side counts, of its own commitment and of one of its peer's; and those of all outputs
+abbrev pub own_sat : (Htlc → Bool) → State → CommitmentState → ℕ
+own_sat known s k = counted_sat true known (contents_of s.held.terms k).outputs
+
+abbrev pub peers_sat : (Htlc → Bool) → State → CommitmentState → ℕ
+peers_sat known s k = counted_sat false known (contents_of s.held.terms k).outputs
+
+abbrev pub revoked_sat : State → CommitmentState → ℕ
+revoked_sat s k = values_sat (contents_of s.held.terms k).outputs
+
+-- by why it may close the channel: all outputs, if it is revoked
+abbrev pub gives_sat : (Htlc → Bool) → (s : State) (k : CommitmentState) → MayClose s k → ℕ
+gives_sat known s k (revoked n l at) = revoked_sat s k
+gives_sat known s k (newest at) = peers_sat known s k
+gives_sat known s k (next e at) = peers_sat known s k
+gives_sat known s k (own at) = own_sat known s k
+
+-- what that is worth: the capacity, if it is revoked; else what the side counts on
+abbrev pub whole_msat : (Htlc → Bool) → (s : State) (k : CommitmentState) → MayClose s k → ℕ
+whole_msat known s k (revoked n l at) = MSAT_PER_SAT * s.held.terms.capacity_sat
+whole_msat known s k (newest at) = counted_msat known s.held.side k.view
+whole_msat known s k (next e at) = counted_msat known s.held.side k.view
+whole_msat known s k (own at) = counted_msat known s.held.side k.view
+
+-- less the deductions of both sides, if it is revoked; else less the side's
+abbrev pub taken_off : (Htlc → Bool) → (s : State) (k : CommitmentState) → MayClose s k → Deductions
+taken_off known s k (revoked n l at) = all_deductions s.held.terms k.view (other s.held.side)
+taken_off known s k (newest at) = deductions s.held.terms k.view false s.held.side known
+taken_off known s k (next e at) = deductions s.held.terms k.view false s.held.side known
+taken_off known s k (own at) = deductions s.held.terms k.view true s.held.side known
+
+-- the claims, whichever HTLC transactions stand: a penalty on each output, if it is revoked; else one claim for each output on which the side counts
+abbrev pub claims_sat : (Htlc → Bool) → (ℕ → Bool) → (s : State) (k : CommitmentState) → MayClose s k → ℕ
+claims_sat known stands s k (revoked n l at) = let c = contents_of s.held.terms k in value_of (staged stands c) + fees_with stands c
+claims_sat known stands s k (newest at) = let c = contents_of s.held.terms k in value_of (counted false known stands c) + fees_counted false known stands c
+claims_sat known stands s k (next e at) = let c = contents_of s.held.terms k in value_of (counted false known stands c) + fees_counted false known stands c
+claims_sat known stands s k (own at) = let c = contents_of s.held.terms k in value_of (counted true known stands c) + fees_counted true known stands c
+
+-- ---- the least of them
+
+abbrev pub least : List ℕ → ℕ
+least [] = 0
+least (n ∷ []) = n
+least (n ∷ m ∷ ns) = min n (least (m ∷ ns))
+
+-- of one's own newest commitment, of the peer's newest and the one after it, and of those before
+abbrev pub at_least_sat : (Htlc → Bool) → State → ℕ
+at_least_sat known s = least (map (own_sat known s) (drop s.number s.mine) ++ map (peers_sat known s) (drop s.peer_number s.signed) ++ map (revoked_sat s) (take s.peer_number s.signed))
+
+-- whatever messages came: whichever commitment closes the channel, what it gives is what it is worth, less deductions that are said exactly; the claims are worth that, with the fees of HTLC transactions that stand;
+-- and that is the least at least
+pub record WhicheverCloses : Type 0 where
+  pub worth : (tokens_of : Signing) (s : State) → IsLived tokens_of s → (known : Htlc → Bool) (k : CommitmentState) (m : MayClose s k) → IsLess (whole_msat known s k m) (taken_off known s k m) (gives_sat known s k m)
+  pub claims : (tokens_of : Signing) (s : State) → IsLived tokens_of s → (known : Htlc → Bool) (stands : ℕ → Bool) (k : CommitmentState) (m : MayClose s k) → claims_sat known stands s k m ≡ gives_sat known s k m
+  pub least : (known : Htlc → Bool) (s : State) (k : CommitmentState) (m : MayClose s k) → at_least_sat known s ≤ gives_sat known s k m
