@@ -1,4 +1,4 @@
--- The commitment of BOLT 3, Appendix C, with two HTLCs of each direction: its programs are those that the appendix lists, and no two scripts share one.
+-- The commitment of BOLT 3, Appendix C, with two HTLCs of each direction: its programs are those that the appendix lists, and no two scripts share one. Two of its HTLCs with anchors.
 use Rattle.std.proofs.Common.{◌≡◌, ◌≢◌, ℕ, zero, suc, List, [], ◌∷◌, Option, Some, None, refl, sym, ap, subst, ◌∙◌, arith}
 use Rattle.std.specs.Prelude.{Contains, ◌==◌, if◌then◌else◌, slice_index}
 use Rattle.sha2.specs.Sha256.{sha256, digest_bytes, hash_after, compress, rounds, schedule, first_words}
@@ -6,7 +6,7 @@ use Rattle.digest.specs.Ripemd160.{left_words, right_words, left_rotations, righ
 use Rattle.script.specs.Number.{minimal_bytes_of, digits}
 use Rattle.sighash.specs.Programs.{script_hash_program, key_hash_program}
 use Rattle.terms.specs.Scripts.{number_push}
-use Rattle.anchor_forms.specs.declared.channel_types.ChannelType.TheVariants.{StaticRemoteKey}
+use Rattle.anchor_forms.specs.declared.channel_types.ChannelType.TheVariants.{StaticRemoteKey, Anchors}
 use Rattle.commit.specs.Keys.{KeyBytes}
 use Rattle.commit.specs.declared.fees.Direction.TheVariants.{Offered, Received}
 use Rattle.revoked.specs.Parts.{RevokedParts}
@@ -67,6 +67,18 @@ program_of_second_offered = refl
 program_of_second_received : known_program commitment (ToHtlc second_received) ≡ 0x00 ∷ 0x20 ∷ 0x8c ∷ 0x48 ∷ 0xd1 ∷ 0x51 ∷ 0x60 ∷ 0x39 ∷ 0x7c ∷ 0x97 ∷ 0x31 ∷ 0xdf ∷ 0x9b ∷ 0xc3 ∷ 0xb2 ∷ 0x36 ∷ 0x65 ∷ 0x6e ∷ 0xfb ∷ 0x66 ∷ 0x65 ∷ 0xfb ∷ 0xfe ∷ 0x92 ∷ 0xb4 ∷ 0xa6 ∷ 0x87 ∷ 0x8e ∷ 0x88 ∷ 0xa4 ∷ 0x99 ∷ 0xf7 ∷ 0x41 ∷ 0xc4 ∷ []
 unfolding number_push minimal_bytes_of digits script_hash_program sha256 digest_bytes hash_after compress rounds schedule first_words left_words right_words left_rotations right_rotations left_constants right_constants block_words left_line right_line blocks ripemd_compress ripemd_hash_after ripemd_bytes ripemd160
 program_of_second_received = refl
+
+-- two of them as they are with anchors: the appendix's scripts with `1 CHECKSEQUENCEVERIFY DROP` before the last ENDIF, hashed by an independent script
+abbrev with_anchors : RevokedParts
+with_anchors = record commitment { channel_type = Anchors }
+
+program_of_offered_with_anchors : known_program with_anchors (ToHtlc first_offered) ≡ 0x00 ∷ 0x20 ∷ 0x3e ∷ 0x68 ∷ 0x11 ∷ 0x5a ∷ 0xe0 ∷ 0xb1 ∷ 0x5b ∷ 0x8d ∷ 0xe7 ∷ 0x5b ∷ 0x6c ∷ 0x6b ∷ 0xc9 ∷ 0xaf ∷ 0x5a ∷ 0xc9 ∷ 0xf0 ∷ 0x13 ∷ 0x91 ∷ 0x54 ∷ 0x4e ∷ 0x08 ∷ 0x70 ∷ 0xda ∷ 0xe4 ∷ 0x43 ∷ 0xa1 ∷ 0xe8 ∷ 0xfe ∷ 0x78 ∷ 0x37 ∷ 0xea ∷ []
+unfolding number_push minimal_bytes_of digits script_hash_program sha256 digest_bytes hash_after compress rounds schedule first_words left_words right_words left_rotations right_rotations left_constants right_constants block_words left_line right_line blocks ripemd_compress ripemd_hash_after ripemd_bytes ripemd160
+program_of_offered_with_anchors = refl
+
+program_of_received_with_anchors : known_program with_anchors (ToHtlc first_received) ≡ 0x00 ∷ 0x20 ∷ 0xfe ∷ 0x05 ∷ 0x98 ∷ 0xd7 ∷ 0x4f ∷ 0xee ∷ 0x22 ∷ 0x05 ∷ 0xcc ∷ 0x36 ∷ 0x72 ∷ 0xe6 ∷ 0xe6 ∷ 0x64 ∷ 0x77 ∷ 0x06 ∷ 0xb4 ∷ 0xf3 ∷ 0x09 ∷ 0x97 ∷ 0x13 ∷ 0xb4 ∷ 0x66 ∷ 0x1b ∷ 0x62 ∷ 0x48 ∷ 0x2c ∷ 0x3a ∷ 0xdd ∷ 0xd0 ∷ 0x4a ∷ 0x5e ∷ []
+unfolding number_push minimal_bytes_of digits script_hash_program sha256 digest_bytes hash_after compress rounds schedule first_words left_words right_words left_rotations right_rotations left_constants right_constants block_words left_line right_line blocks ripemd_compress ripemd_hash_after ripemd_bytes ripemd160
+program_of_received_with_anchors = refl
 
 -- which output has a program that begins with the version, the length and this byte
 abbrev by_third : ℕ → Option RevokedOutput
