@@ -3,8 +3,8 @@
 //!
 //! `enforce_words::run_words` does what the words say, and returns a status of at most 2. `node_words::run_word` does so
 //! for `node`, the one word that starts threads and may wait. This file has only the
-//! streams and the arguments. After that, `enforce_notes` writes notes on standard error, about refusals and about
-//! rules that are stricter than consensus. They change no status.
+//! streams and the arguments. After that, it writes the notes of `enforce_notes` on standard error: about refusals, about
+//! rules that are stricter than consensus, and about what endangers money. They change no status.
 #![tactic(auto)]
 
 use enforce_notes::{Kept, notes_of};

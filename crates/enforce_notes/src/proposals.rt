@@ -1,43 +1,36 @@
 // Notes on a scenario that has its shape: its limits, and the terms of its channels.
 
 use json_value::Value;
+use scenario::{MAX_BLOCKS, MAX_CHANNELS, MAX_EVENTS};
 use std::alloc::AllocError;
 use std::fmt::Write;
 use terms::ProposedTerms;
 use texts::{FromValue, tag_of};
-
-// The most channels and events of a scenario, and blocks of an event.
-const MAX_CHANNELS: usize = 8;
-
-const MAX_EVENTS: usize = 10_000;
-
-const MAX_BLOCKS: u64 = 10_000;
-
-// The most satoshis that there are: 21,000,000 bitcoins.
-const MAX_SAT: u64 = 2_100_000_000_000_000;
+use tx::MAX_VALUE;
 
 /// Notes the first limit that a scenario exceeds, or else the first channel on whose terms the two sides can't agree.
 pub fn note_scenario(notes: &mut String, value: &Value) -> Result<(), AllocError> {
     let channels = items_of(value, "channels");
     let events = items_of(value, "events");
     if channels.len() > MAX_CHANNELS {
-        let count = channels.len();
+        let (count, most) = (channels.len(), MAX_CHANNELS);
         return writeln!(
             notes,
-            "note: the scenario has {count} channels, and at most 8 are allowed"
+            "note: the scenario has {count} channels, and at most {most} are allowed"
         );
     }
     if events.len() > MAX_EVENTS {
-        let count = events.len();
+        let (count, most) = (events.len(), MAX_EVENTS);
         return writeln!(
             notes,
-            "note: the scenario has {count} events, and at most 10000 are allowed"
+            "note: the scenario has {count} events, and at most {most} are allowed"
         );
     }
+    let most = MAX_BLOCKS;
     match too_many_blocks(events) {
         Some((event, count)) => writeln!(
             notes,
-            "note: event {event} asks for {count} blocks, and at most 10000 are allowed in one event"
+            "note: event {event} asks for {count} blocks, and at most {most} are allowed in one event"
         ),
         None => note_terms(notes, channels),
     }
@@ -95,10 +88,11 @@ fn note_channel(
     terms: &ProposedTerms,
 ) -> Result<(), AllocError> {
     let capacity_sat = terms.capacity_sat;
-    if capacity_sat > MAX_SAT {
+    if capacity_sat > MAX_VALUE {
+        let most = MAX_VALUE;
         return writeln!(
             notes,
-            "note: channel {channel}: its capacity is {capacity_sat} satoshis, and there are at most 2100000000000000"
+            "note: channel {channel}: its capacity is {capacity_sat} satoshis, and there are at most {most}"
         );
     }
     let (a, b) = (terms.a.start_msat, terms.b.start_msat);

@@ -94,6 +94,23 @@ pub fn prints(
     prints_of(rt, alloc, words, &mut input.as_bytes(), out, err, status);
 }
 
+/// Asserts what `run` notes on a scenario that is played.
+pub fn noted(rt: &impl Abort, alloc: Global, input: &str, note: &str) {
+    let all = words_of(rt, alloc, &["run"]);
+    let mut input = input.as_bytes();
+    let mut printed: Vec<u8> = Vec::new(alloc);
+    let mut complained: Vec<u8> = Vec::new(alloc);
+    let status = run_words(
+        alloc,
+        all.as_slice(),
+        &mut input,
+        &mut printed,
+        &mut complained,
+    );
+    assert_eq!(rt; complained.as_slice(), note.as_bytes());
+    assert_eq!(rt; status, 0);
+}
+
 /// Asserts that a call fails whose output can't be written.
 pub fn breaks(rt: &impl Abort, alloc: Global, words: &[&str], input: &str) {
     let all = words_of(rt, alloc, words);

@@ -34,18 +34,34 @@ fn scenario(rt: &impl Abort, alloc: Global, start: &str, events: &str) -> String
 
 // Asserts the output and the status of `run` for a scenario.
 fn plays(rt: &impl Abort, alloc: Global, start: &str, events: &str, out: &str, status: u8) {
+    plays_with(rt, alloc, start, events, out, "", status);
+}
+
+// Asserts the output, the note and the status of `run` for a scenario.
+fn plays_with(
+    rt: &impl Abort,
+    alloc: Global,
+    start: &str,
+    events: &str,
+    out: &str,
+    note: &str,
+    status: u8,
+) {
     let text = scenario(rt, alloc, start, events);
-    prints(rt, alloc, &["run"], text.as_str(), out, "", status);
+    prints(rt, alloc, &["run"], text.as_str(), out, note, status);
 }
 
 #[test]
 fn signs_once_penalties_are_kept(rt: HostRuntime) {
-    plays(&rt, rt.alloc(), START, SIGNS, SIGNED, 0);
+    let note =
+        "note: event 6 is the first that was refused, PenaltiesMissing 0: [\"sign\", \"A\", 0]\n";
+    plays_with(&rt, rt.alloc(), START, SIGNS, SIGNED, note, 0);
 }
 
 #[test]
 fn mines_and_looks(rt: HostRuntime) {
-    plays(&rt, rt.alloc(), START, MINES, MINED, 0);
+    let note = "note: event 3 is the first that was refused, TooDeep: [\"reorg\", 3, 0]\n";
+    plays_with(&rt, rt.alloc(), START, MINES, MINED, note, 0);
 }
 
 #[test]

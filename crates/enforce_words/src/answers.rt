@@ -25,14 +25,15 @@ impl<'a> Command<'a> {
     }
 }
 
-/// The text that a program prints. Only `run` reads the input.
+/// The text that a program prints. Only `run` reads the input, and appends to the note.
 pub fn answer<R: Read>(
     alloc: Global,
     command: &Command<'_>,
     input: &mut R,
+    note: &mut String,
 ) -> Result<String, CommandError> {
     match command {
         Command::Script(word) => script_words::answer(alloc, word).map_err(CommandError::Script),
-        Command::Run => play(alloc, input),
+        Command::Run => play(alloc, input, note),
     }
 }

@@ -20,6 +20,7 @@ mod answers;
 mod endings;
 mod errors;
 mod playing;
+mod refused;
 
 use crate::answers::{Command, answer};
 pub use endings::push_all_kept;
@@ -30,7 +31,8 @@ use std::alloc::Global;
 use std::io::{Read, Write};
 
 /// Runs the program on its words (without its name) and returns its status: 0 when done, 1 for refused input or a failed write, 2 for
-/// wrong words, which are detected before any input is read. The whole text is made before its first byte is written.
+/// wrong words, which are detected before any input is read. The whole text is made before its first byte is written. Of a scenario that was played, a note on its first refused event is
+/// written to `err` after it; where that note can't be made or written, nothing else changes.
 pub fn run_words<R: Read, W: Write, E: Write>(
     alloc: Global,
     words: &[String],
@@ -43,5 +45,16 @@ pub fn run_words<R: Read, W: Write, E: Write>(
     let Some(command) = Command::read(words) else {
         return refuse_words(err);
     };
-    finish(alloc, out, answer(alloc, &command, input))
+    let mut note = String::new(alloc);
+    let text = answer(alloc, &command, input, &mut note);
+    let status = finish(alloc, out, text);
+    say(err, note.as_str());
+    status
+}
+
+// Writes a note, if there is one.
+fn say<E: Write>(err: &mut E, note: &str) {
+    if !note.is_empty() {
+        let _ = err.write_all(note.as_bytes());
+    }
 }

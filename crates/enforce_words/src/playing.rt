@@ -2,6 +2,7 @@
 
 use crate::endings::text_of;
 use crate::errors::CommandError;
+use crate::refused::first_refused;
 use scenario::Scenario;
 use std::alloc::{AllocError, Global};
 use std::io;
@@ -12,12 +13,16 @@ use world::World;
 const MAX_INPUT: usize = 4_194_304;
 
 /// Plays the scenario in the input, and returns the lines of its events and of the world after them. Its refusals come in this order: input that can't be read
-/// (`ReadFailed`), input that is too long (`TooLong`), and what [`Scenario::read`] refuses.
-pub fn play<R: Read>(alloc: Global, input: &mut R) -> Result<String, CommandError> {
+/// (`ReadFailed`), input that is too long (`TooLong`), and what [`Scenario::read`] refuses. The note on the first refused event is appended to `note`, unless memory runs out in it.
+pub fn play<R: Read>(
+    alloc: Global,
+    input: &mut R,
+    note: &mut String,
+) -> Result<String, CommandError> {
     let scenario = scenario_in(alloc, input)?;
     let world = World::new(alloc, &scenario.seeds, scenario.channels.values());
     let mut world = world.map_err(CommandError::World)?;
-    Ok(lines_of(alloc, &mut world, &scenario)?)
+    Ok(lines_of(alloc, &mut world, &scenario, note)?)
 }
 
 /// The scenario in the input. Its refusals come in this order: input that can't be read (`ReadFailed`), input that is too long (`TooLong`), and what
@@ -44,7 +49,17 @@ fn read_all<R: Read>(alloc: Global, input: &mut R) -> Result<Vec<u8>, CommandErr
 }
 
 // Plays the events of a scenario, and returns the lines. The only error is that memory ran out.
-fn lines_of(alloc: Global, world: &mut World, scenario: &Scenario) -> Result<String, AllocError> {
-    let outcomes = world.play(scenario.events.values())?;
-    text_of(alloc, outcomes.as_slice(), world)
+fn lines_of(
+    alloc: Global,
+    world: &mut World,
+    scenario: &Scenario,
+    note: &mut String,
+) -> Result<String, AllocError> {
+    let events = scenario.events.values();
+    let outcomes = world.play(events)?;
+    let text = text_of(alloc, outcomes.as_slice(), world)?;
+    if let Ok(line) = first_refused(alloc, events, outcomes.as_slice()) {
+        let _ = note.push_str(line.as_str());
+    }
+    Ok(text)
 }
