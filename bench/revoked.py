@@ -90,7 +90,7 @@ class Row:
         self.channel_type = channel_type
 
     def line(self):
-        words = [self.values["type"]] + [self.values[name] for name in NAMES] + [str(self.values["delay"]), self.tx]
+        words = [self.tx, self.values["type"]] + [self.values[name] for name in NAMES] + [str(self.values["delay"])]
         return " ".join(words + [f"{d}:{h}:{e}" for d, h, e in self.htlcs])
 
     def is_claimed(self, output):

@@ -1,9 +1,9 @@
 //! Compares `revoked` with BOLT 3, Appendix C, and with its HTLCs as they are with anchors: `stdin` is the input, and
 //! `stdout` the expected output, which an independent script wrote.
 //!
-//! A line has a revoked commitment and a transaction. Its words are the channel's type (`static_remotekey` or
-//! `anchors`), the commitment's five keys (revocation, delayed, local HTLC, remote HTLC, remote), its delay in blocks,
-//! the transaction without witnesses, and its HTLCs. An HTLC is
+//! A line has a transaction and a revoked commitment. Its words are the transaction without witnesses, the channel's
+//! type (`static_remotekey` or `anchors`), the commitment's five keys (revocation, delayed, local HTLC, remote HTLC,
+//! remote), its delay in blocks, and its HTLCs. An HTLC is
 //! `offered` or `received`, the payment hash and the expiry, with a colon between each two. Of each claim the program
 //! prints the index of the output, its value, the script, the path and the fills of its slots, and last the indices of
 //! the other outputs.
@@ -15,9 +15,8 @@ mod reading;
 
 use claim::{Claim, Slot};
 use page::Page;
-use reading::{Parts, htlcs_of, parts_of, tx_of};
-use revoked::{ChannelPatterns, Found, Revoked, RevokedHtlc, channel_patterns, claims_in};
-use std::alloc::{AllocError, Global};
+use reading::{revoked_of, tx_of};
+use revoked::{ChannelPatterns, Found, Revoked, channel_patterns, claims_in};
 use std::io;
 use std::process::ExitCode;
 use tx::Tx;
@@ -58,46 +57,18 @@ fn show_found(page: &mut Page, found: &Found) {
     page.push("\n");
 }
 
-/// What a revoked commitment lets claim of a transaction.
-fn found_in(
-    alloc: Global,
-    patterns: &ChannelPatterns,
-    parts: &Parts,
-    htlcs: Vec<RevokedHtlc>,
-    tx: &Tx,
-) -> Result<Found, AllocError> {
-    let revoked = Revoked::new(
-        alloc,
-        patterns,
-        parts.channel_type,
-        parts.keys,
-        parts.delay_blocks,
-        htlcs,
-    )?;
-    claims_in(alloc, patterns, &revoked, tx)
-}
-
-/// Shows what a line's commitment lets claim of a transaction.
-fn show_tx(
-    page: &mut Page,
-    patterns: &ChannelPatterns,
-    line: &str,
-    htlcs: Vec<RevokedHtlc>,
-    tx: &Tx,
-) {
-    let Some(parts) = parts_of(page.alloc(), line) else {
-        return page.fail();
-    };
-    match found_in(page.alloc(), patterns, &parts, htlcs, tx) {
+/// Shows what a commitment lets claim of a transaction.
+fn show_claims(page: &mut Page, patterns: &ChannelPatterns, revoked: &Revoked, tx: &Tx) {
+    match claims_in(page.alloc(), patterns, revoked, tx) {
         Ok(found) => show_found(page, &found),
         Err(_) => page.fail(),
     }
 }
 
-/// Shows what the commitment and the transaction of a line give.
-fn show_line(page: &mut Page, patterns: &ChannelPatterns, line: &str, htlcs: Vec<RevokedHtlc>) {
-    match tx_of(page.alloc(), line) {
-        Some(tx) => show_tx(page, patterns, line, htlcs, &tx),
+/// Shows what the commitment that words name lets claim of a transaction.
+fn show_tx(page: &mut Page, patterns: &ChannelPatterns, commitment: &str, tx: &Tx) {
+    match revoked_of(page, patterns, commitment) {
+        Some(revoked) => show_claims(page, patterns, &revoked, tx),
         None => page.fail(),
     }
 }
@@ -105,8 +76,9 @@ fn show_line(page: &mut Page, patterns: &ChannelPatterns, line: &str, htlcs: Vec
 /// Shows all lines.
 fn show_lines(page: &mut Page, patterns: &ChannelPatterns, lines: &str) {
     for line in lines.lines() {
-        match htlcs_of(page.alloc(), line) {
-            Some(htlcs) => show_line(page, patterns, line, htlcs),
+        let (tx, commitment) = line.split_once(' ').unwrap_or((line, ""));
+        match tx_of(page.alloc(), tx) {
+            Some(tx) => show_tx(page, patterns, commitment, &tx),
             None => page.fail(),
         }
     }

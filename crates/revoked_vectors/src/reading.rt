@@ -1,133 +1,102 @@
 //! The words of a line.
 
+use hex::FromHex;
 use keys::Key;
-use revoked::{ChannelType, CommitmentKeys, Direction, Expiry, RevokedHtlc};
+use page::Page;
+use revoked::{
+    ChannelPatterns, ChannelType, CommitmentKeys, Direction, Expiry, Revoked, RevokedHtlc,
+};
 use std::alloc::Global;
 use std::str::SplitWhitespace;
 use tx::{Tx, decode_stripped};
 
-/// The number of words before the transaction.
-const WORDS_BEFORE_TX: usize = 7;
-
-/// What a line says of a commitment besides its HTLCs.
-#[derive(Clone, Copy)]
-pub struct Parts {
-    pub channel_type: ChannelType,
-    pub keys: CommitmentKeys,
-    pub delay_blocks: u16,
-}
-
-/// The key that a word spells.
-fn key_of(alloc: Global, word: &str) -> Option<Key> {
-    let bytes = hex::decode(alloc, word).ok()?;
-    if bytes.len() != 33 {
-        return None;
-    }
-    let mut key = [0; 33];
-    key.copy_from_slice(bytes.as_slice());
-    Key::read(&key)
-}
-
-/// The type of channel that a word names.
-fn channel_type_of(word: &str) -> Option<ChannelType> {
-    if word == "static_remotekey" {
-        Some(ChannelType::StaticRemoteKey)
-    } else if word == "anchors" {
-        Some(ChannelType::Anchors)
-    } else {
-        None
+/// The bytes that a word spells. The page fails if they are not as many.
+fn bytes_of<const N: usize>(page: &mut Page, word: &str) -> [u8; N] {
+    match <[u8; N] as FromHex>::from_hex(word) {
+        Ok(bytes) => bytes,
+        Err(_) => {
+            page.fail();
+            [0; N]
+        }
     }
 }
 
 /// The key that the next word spells.
-fn next_key(alloc: Global, words: &mut SplitWhitespace<'_>) -> Option<Key> {
-    key_of(alloc, words.next()?)
+fn next_key(page: &mut Page, words: &mut SplitWhitespace<'_>) -> Option<Key> {
+    Key::read(&bytes_of(page, words.next().unwrap_or("")))
 }
 
 /// The keys that the next words spell.
-fn keys_of(alloc: Global, words: &mut SplitWhitespace<'_>) -> Option<CommitmentKeys> {
+fn keys_of(page: &mut Page, words: &mut SplitWhitespace<'_>) -> Option<CommitmentKeys> {
     Some(CommitmentKeys {
-        revocation: next_key(alloc, words)?,
-        delayed: next_key(alloc, words)?,
-        local_htlc: next_key(alloc, words)?,
-        remote_htlc: next_key(alloc, words)?,
-        remote: next_key(alloc, words)?,
+        revocation: next_key(page, words)?,
+        delayed: next_key(page, words)?,
+        local_htlc: next_key(page, words)?,
+        remote_htlc: next_key(page, words)?,
+        remote: next_key(page, words)?,
     })
 }
 
-/// The commitment of a line, without its HTLCs.
-pub fn parts_of(alloc: Global, line: &str) -> Option<Parts> {
+/// Appends the HTLC that a word names.
+fn push_htlc(page: &mut Page, word: &str, htlcs: &mut Vec<RevokedHtlc>) {
+    let (direction, rest) = word.split_once(':').unwrap_or(("", ""));
+    let (hash, height) = rest.split_once(':').unwrap_or(("", ""));
+    let direction = if direction == "offered" {
+        Direction::Offered
+    } else {
+        Direction::Received
+    };
+    let hash = bytes_of(page, hash);
+    match Expiry::new(height.parse().unwrap_or(0)) {
+        Some(expiry) => {
+            let htlc = RevokedHtlc {
+                direction,
+                hash,
+                expiry,
+            };
+            if htlcs.push(htlc).is_err() {
+                page.fail();
+            }
+        }
+        None => page.fail(),
+    }
+}
+
+/// The HTLCs that words name.
+fn htlcs_of(page: &mut Page, words: SplitWhitespace<'_>) -> Vec<RevokedHtlc> {
+    let mut htlcs = Vec::new(page.alloc());
+    for word in words {
+        push_htlc(page, word, &mut htlcs);
+    }
+    htlcs
+}
+
+/// The commitment of a line, which stands behind the transaction.
+pub fn revoked_of(page: &mut Page, patterns: &ChannelPatterns, line: &str) -> Option<Revoked> {
     let mut words = line.split_whitespace();
-    let channel_type = channel_type_of(words.next()?)?;
-    let keys = keys_of(alloc, &mut words)?;
-    let delay_blocks = words.next()?.parse().ok()?;
-    Some(Parts {
+    let channel_type = if words.next().unwrap_or("") == "anchors" {
+        ChannelType::Anchors
+    } else {
+        ChannelType::StaticRemoteKey
+    };
+    let keys = keys_of(page, &mut words)?;
+    let delay_blocks = words.next().unwrap_or("").parse().unwrap_or(0);
+    let htlcs = htlcs_of(page, words);
+    Revoked::new(
+        page.alloc(),
+        patterns,
         channel_type,
         keys,
         delay_blocks,
-    })
+        htlcs,
+    )
+    .ok()
 }
 
-/// The transaction that hexadecimal digits spell.
-fn decoded(alloc: Global, word: &str) -> Option<Tx> {
+/// The transaction that a word spells.
+pub fn tx_of(alloc: Global, word: &str) -> Option<Tx> {
     match hex::decode(alloc, word) {
         Ok(bytes) => decode_stripped(alloc, bytes.as_slice()).ok(),
         Err(_) => None,
     }
-}
-
-/// The transaction of a line.
-pub fn tx_of(alloc: Global, line: &str) -> Option<Tx> {
-    match line.split_whitespace().nth(WORDS_BEFORE_TX) {
-        Some(word) => decoded(alloc, word),
-        None => None,
-    }
-}
-
-/// The hash that a word spells.
-fn hash_of(alloc: Global, word: &str) -> Option<[u8; 32]> {
-    let bytes = hex::decode(alloc, word).ok()?;
-    if bytes.len() != 32 {
-        return None;
-    }
-    let mut hash = [0; 32];
-    hash.copy_from_slice(bytes.as_slice());
-    Some(hash)
-}
-
-/// The direction that a word names.
-fn direction_of(word: &str) -> Option<Direction> {
-    if word == "offered" {
-        Some(Direction::Offered)
-    } else if word == "received" {
-        Some(Direction::Received)
-    } else {
-        None
-    }
-}
-
-/// The HTLC that a word names.
-fn htlc_of(alloc: Global, word: &str) -> Option<RevokedHtlc> {
-    let mut parts = word.split(':');
-    let direction = direction_of(parts.next()?)?;
-    let hash = hash_of(alloc, parts.next()?)?;
-    let height = parts.next()?.parse().ok()?;
-    let expiry = Expiry::new(height)?;
-    Some(RevokedHtlc {
-        direction,
-        hash,
-        expiry,
-    })
-}
-
-/// The HTLCs of a line, which stand behind the transaction.
-pub fn htlcs_of(alloc: Global, line: &str) -> Option<Vec<RevokedHtlc>> {
-    let mut htlcs = Vec::new(alloc);
-    for word in line.split_whitespace().skip(WORDS_BEFORE_TX + 1) {
-        let htlc = htlc_of(alloc, word)?;
-        if htlcs.push(htlc).is_err() {
-            return None;
-        }
-    }
-    Some(htlcs)
 }
