@@ -15,7 +15,8 @@ use Rattle.channel.specs.Peers.{IsLived}
 use Rattle.channel.specs.Recording.{SidesNumber}
 use Rattle.channel.specs.Tokens.{contents_of}
 use Rattle.worth.specs.Shares.{owner_by, counted_msat, counted_sat, values_sat, deductions, all_deductions, IsLess, SharesAreWorth, AllIsTheCapacity}
-use Rattle.worth.specs.Least.{MayClose, revoked, newest, next, own, own_sat, peers_sat, revoked_sat, gives_sat, whole_msat, taken_off, claims_sat, least, at_least_sat, WhicheverCloses}
+use Rattle.worth.specs.Bounds.{AreAtMost, IsWithin, DeductionsAreBounded, AllAreBounded}
+use Rattle.worth.specs.Least.{MayClose, revoked, newest, next, own, own_sat, peers_sat, revoked_sat, gives_sat, whole_msat, taken_off, most_off, claims_sat, least, at_least_sat, WhicheverCloses}
 use Rattle.worth.proofs.Counted.{counted_worth}
 use Rattle.worth.proofs.Staged.{staged_worth}
 
@@ -109,12 +110,27 @@ all_of law terms owner n k i =
     subst (λ by. IsLess (1000 * terms.capacity_sat) (all_deductions terms k.view owner) (values_sat (commitment_of terms k.view by k.number k.point.bytes).outputs)) (sym i.owner)
     (law terms k.view owner k.number k.point.bytes i.shares.whole)
 
-module _ (shares : SharesAreWorth) (all : AllIsTheCapacity) (order : ThereIsOneOrder) (numbered : SidesNumber) where
+-- its feerate and its owner's dust limit, by whose it is
+of_owner : (terms : Terms) (k : CommitmentState) (owner : Side) (feerate_per_kw limit_sat : ℕ) → k.owner ≡ owner → IsWithin terms k.view k.owner feerate_per_kw limit_sat → IsWithin terms k.view owner feerate_per_kw limit_sat
+of_owner terms k owner feerate_per_kw limit_sat e w = subst (λ by. IsWithin terms k.view by feerate_per_kw limit_sat) e w
+
+module _ (shares : SharesAreWorth) (all : AllIsTheCapacity) (each : DeductionsAreBounded) (both : AllAreBounded) (order : ThereIsOneOrder) (numbered : SidesNumber) where
   is_worth : (tokens_of : Signing) (s : State) → IsLived tokens_of s → (known : Htlc → Bool) (k : CommitmentState) (m : MayClose s k) → IsLess (whole_msat known s k m) (taken_off known s k m) (gives_sat known s k m)
   is_worth tokens_of s lived known k (revoked n l at) = all_of all s.held.terms (other s.held.side) n k (of_signed numbered tokens_of s lived n k at)
   is_worth tokens_of s lived known k (newest at) = share_of shares s.held.terms false s.held.side k known (of_signed numbered tokens_of s lived s.peer_number k at).owner
   is_worth tokens_of s lived known k (next e at) = share_of shares s.held.terms false s.held.side k known (of_signed numbered tokens_of s lived (s.peer_number + 1) k at).owner
   is_worth tokens_of s lived known k (own at) = share_of shares s.held.terms true s.held.side k known (of_mine numbered tokens_of s lived s.number k at).owner
+
+  are_bounded : (tokens_of : Signing) (s : State) → IsLived tokens_of s → (known : Htlc → Bool) (k : CommitmentState) (m : MayClose s k) (feerate_per_kw limit_sat : ℕ) → IsWithin s.held.terms k.view k.owner feerate_per_kw limit_sat
+      → AreAtMost (taken_off known s k m) (most_off known s k m feerate_per_kw limit_sat)
+  are_bounded tokens_of s lived known k (revoked n l at) feerate_per_kw limit_sat w =
+      both s.held.terms k.view (other s.held.side) feerate_per_kw limit_sat (of_owner s.held.terms k (other s.held.side) feerate_per_kw limit_sat (of_signed numbered tokens_of s lived n k at).owner w)
+  are_bounded tokens_of s lived known k (newest at) feerate_per_kw limit_sat w =
+      each s.held.terms k.view false s.held.side known feerate_per_kw limit_sat (of_owner s.held.terms k (other s.held.side) feerate_per_kw limit_sat (of_signed numbered tokens_of s lived s.peer_number k at).owner w)
+  are_bounded tokens_of s lived known k (next e at) feerate_per_kw limit_sat w =
+      each s.held.terms k.view false s.held.side known feerate_per_kw limit_sat (of_owner s.held.terms k (other s.held.side) feerate_per_kw limit_sat (of_signed numbered tokens_of s lived (s.peer_number + 1) k at).owner w)
+  are_bounded tokens_of s lived known k (own at) feerate_per_kw limit_sat w =
+      each s.held.terms k.view true s.held.side known feerate_per_kw limit_sat (of_owner s.held.terms k s.held.side feerate_per_kw limit_sat (of_mine numbered tokens_of s lived s.number k at).owner w)
 
   are_claimed : (tokens_of : Signing) (s : State) → IsLived tokens_of s → (known : Htlc → Bool) (stands : ℕ → Bool) (k : CommitmentState) (m : MayClose s k) → claims_sat known stands s k m ≡ gives_sat known s k m
   are_claimed tokens_of s lived known stands k (revoked n l at) = staged_worth order s.held.terms k.view k.owner k.number k.point.bytes stands
@@ -123,4 +139,4 @@ module _ (shares : SharesAreWorth) (all : AllIsTheCapacity) (order : ThereIsOneO
   are_claimed tokens_of s lived known stands k (own at) = counted_worth order s.held.terms k.view k.owner k.number k.point.bytes true known stands
 
   pub whichever_closes : WhicheverCloses
-  whichever_closes = record { worth = is_worth; claims = are_claimed; least = is_least }
+  whichever_closes = record { worth = is_worth; bounded = are_bounded; claims = are_claimed; least = is_least }

@@ -48,13 +48,16 @@ DeductionsAreBounded =
     (terms : Terms) (view : View) (own : Bool) (me : Side) (known : Htlc → Bool) (feerate_per_kw limit_sat : ℕ) → IsWithin terms view (owner_by own me) feerate_per_kw limit_sat
     → AreAtMost (deductions terms view own me known) (greatest terms.opener me feerate_per_kw limit_sat (htlc_count view) (counted_count known me view))
 
--- those of both sides
+-- those of both sides, of the owner's commitment
+abbrev pub greatest_of_both : Terms → View → (owner : Side) → (feerate_per_kw limit_sat : ℕ) → Deductions
+greatest_of_both terms view owner feerate_per_kw limit_sat =
+    together (greatest terms.opener owner feerate_per_kw limit_sat (htlc_count view) (counted_count none_known owner view))
+    (greatest terms.opener (other owner) feerate_per_kw limit_sat (htlc_count view) (counted_count none_known (other owner) view))
+
 abbrev pub AllAreBounded : Type 0
 AllAreBounded =
     (terms : Terms) (view : View) (owner : Side) (feerate_per_kw limit_sat : ℕ) → IsWithin terms view owner feerate_per_kw limit_sat
-    → AreAtMost (all_deductions terms view owner)
-    (together (greatest terms.opener owner feerate_per_kw limit_sat (htlc_count view) (counted_count none_known owner view))
-    (greatest terms.opener (other owner) feerate_per_kw limit_sat (htlc_count view) (counted_count none_known (other owner) view)))
+    → AreAtMost (all_deductions terms view owner) (greatest_of_both terms view owner feerate_per_kw limit_sat)
 
 -- so the outputs on which a side counts are worth what it counts on, less that much at most
 abbrev pub LittleIsTakenOff : Type 0
@@ -71,5 +74,4 @@ LittleOfAllIsTakenOff =
     → total_msat_of view ≡ MSAT_PER_SAT * terms.capacity_sat
     → MSAT_PER_SAT * terms.capacity_sat
     ≤ MSAT_PER_SAT * values_sat (commitment_of terms view owner n point).outputs
-    + deducted_msat (together (greatest terms.opener owner feerate_per_kw limit_sat (htlc_count view) (counted_count none_known owner view))
-    (greatest terms.opener (other owner) feerate_per_kw limit_sat (htlc_count view) (counted_count none_known (other owner) view)))
+    + deducted_msat (greatest_of_both terms view owner feerate_per_kw limit_sat)

@@ -9,6 +9,7 @@ use Rattle.channel.specs.States.{Signing, State}
 use Rattle.channel.specs.Peers.{IsLived}
 use Rattle.channel.specs.Tokens.{contents_of}
 use Rattle.worth.specs.Shares.{Deductions, counted_msat, counted_sat, values_sat, deductions, all_deductions, IsLess}
+use Rattle.worth.specs.Bounds.{htlc_count, counted_count, greatest, greatest_of_both, AreAtMost, IsWithin}
 use Rattle.worth.specs.Counted.{counted, fees_counted}
 
 -- Which commitment may close a channel: one that the peer revoked; the peer's newest; the one after it, which the side signed and the peer has not yet answered by a revocation; or the side's own newest
@@ -51,6 +52,13 @@ taken_off known s k (newest at) = deductions s.held.terms k.view false s.held.si
 taken_off known s k (next e at) = deductions s.held.terms k.view false s.held.side known
 taken_off known s k (own at) = deductions s.held.terms k.view true s.held.side known
 
+-- at most that, at a feerate and a dust limit that are the greatest
+abbrev pub most_off : (Htlc → Bool) → (s : State) (k : CommitmentState) → MayClose s k → (feerate_per_kw limit_sat : ℕ) → Deductions
+most_off known s k (revoked n l at) feerate_per_kw limit_sat = greatest_of_both s.held.terms k.view (other s.held.side) feerate_per_kw limit_sat
+most_off known s k (newest at) feerate_per_kw limit_sat = greatest s.held.terms.opener s.held.side feerate_per_kw limit_sat (htlc_count k.view) (counted_count known s.held.side k.view)
+most_off known s k (next e at) feerate_per_kw limit_sat = greatest s.held.terms.opener s.held.side feerate_per_kw limit_sat (htlc_count k.view) (counted_count known s.held.side k.view)
+most_off known s k (own at) feerate_per_kw limit_sat = greatest s.held.terms.opener s.held.side feerate_per_kw limit_sat (htlc_count k.view) (counted_count known s.held.side k.view)
+
 -- the claims, whichever HTLC transactions stand: a penalty on each output, if it is revoked; else one claim for each output on which the side counts
 abbrev pub claims_sat : (Htlc → Bool) → (ℕ → Bool) → (s : State) (k : CommitmentState) → MayClose s k → ℕ
 claims_sat known stands s k (revoked n l at) = let c = contents_of s.held.terms k in value_of (staged stands c) + fees_with stands c
@@ -69,9 +77,11 @@ least (n ∷ m ∷ ns) = min n (least (m ∷ ns))
 abbrev pub at_least_sat : (Htlc → Bool) → State → ℕ
 at_least_sat known s = least (map (own_sat known s) (drop s.number s.mine) ++ map (peers_sat known s) (drop s.peer_number s.signed) ++ map (revoked_sat s) (take s.peer_number s.signed))
 
--- whatever messages came: whichever commitment closes the channel, what it gives is what it is worth, less deductions that are said exactly; the claims are worth that, with the fees of HTLC transactions that stand;
+-- whatever messages came: whichever commitment closes the channel, what it gives is what it is worth, less deductions that are said exactly, and have a bound where the feerate and the dust limit have one; the claims are worth that, with the fees of HTLC transactions that stand;
 -- and that is the least at least
 pub record WhicheverCloses : Type 0 where
   pub worth : (tokens_of : Signing) (s : State) → IsLived tokens_of s → (known : Htlc → Bool) (k : CommitmentState) (m : MayClose s k) → IsLess (whole_msat known s k m) (taken_off known s k m) (gives_sat known s k m)
+  pub bounded : (tokens_of : Signing) (s : State) → IsLived tokens_of s → (known : Htlc → Bool) (k : CommitmentState) (m : MayClose s k) (feerate_per_kw limit_sat : ℕ) → IsWithin s.held.terms k.view k.owner feerate_per_kw limit_sat
+      → AreAtMost (taken_off known s k m) (most_off known s k m feerate_per_kw limit_sat)
   pub claims : (tokens_of : Signing) (s : State) → IsLived tokens_of s → (known : Htlc → Bool) (stands : ℕ → Bool) (k : CommitmentState) (m : MayClose s k) → claims_sat known stands s k m ≡ gives_sat known s k m
   pub least : (known : Htlc → Bool) (s : State) (k : CommitmentState) (m : MayClose s k) → at_least_sat known s ≤ gives_sat known s k m

@@ -39,11 +39,13 @@ pub fn counted_are_worth()
 }
 
 /// Whichever commitment closes a channel, whatever messages came before: one that the peer revoked, the peer's newest, the one after it, or the side's own newest. What it gives the side is what the side counts on, or
-/// the capacity if it was revoked, less deductions that are said exactly; the claims on it are worth that, with the fees of HTLC transactions that stand. And it is at least a number that can be read before.
+/// the capacity if it was revoked, less deductions that are said exactly, and have a bound where its feerate and its owner's dust limit have one; the claims on it are worth that, with the fees of HTLC transactions that stand. And
+/// it is at least a number that can be read before.
 pub fn whichever_closes()
     ensures { WhicheverCloses }
 {
     there_is_one_order();
     shares_are_worth();
+    deductions_are_bounded();
     sides_are_sound();
 }
