@@ -1,0 +1,4 @@
+mod Tests
+mod PremiseExamples
+mod RevokedCloseExamples
+mod ZeroExamples
