@@ -82,7 +82,7 @@ not_there : (blocks : List Block) (c : Contents) → is_absent blocks (transacti
 not_there blocks c e on =
     let b = all_hold (λ (x : Block). list_all (λ (u : Transaction). not (bytes_eq (transaction_id u) (transaction_id (transaction_of c)))) x.transactions) blocks e on.stands.block (block_in blocks on.height on.signed on.stands) in
     let differ = no (bytes_eq (transaction_id on.signed) (transaction_id (transaction_of c)))
-        (all_hold (λ (u : Transaction). not (bytes_eq (transaction_id u) (transaction_id (transaction_of c)))) on.stands.block.transactions b on.signed on.stands.within) in
+    (all_hold (λ (u : Transaction). not (bytes_eq (transaction_id u) (transaction_id (transaction_of c)))) on.stands.block.transactions b on.signed on.stands.within) in
     let same : transaction_id on.signed ≡ transaction_id (transaction_of c) = same_id on.signed (transaction_of c) (on.same ∙ sym (bare_commitment c)) in
     false≢true (sym differ ∙ (bytes_eq-Decides (transaction_id on.signed) (transaction_id (transaction_of c))).1 same)
 
