@@ -21,7 +21,7 @@ use Rattle.running.specs.declared.counts.Counts.{Counts}
 use Rattle.running.specs.declared.runs.Report.{Report}
 use Rattle.running.specs.Events.{all_turns}
 use Rattle.running.specs.Playing.{ArePlayed, AreAllPlayed, IsFirstLine, no_more}
-use Rattle.running.specs.Reports.{IsLeft, total_of, IsReport}
+use Rattle.running.specs.Reports.{IsLeft, total_of, IsRun, IsReport}
 
 -- ---- a book that threads leave
 
@@ -70,13 +70,13 @@ signed_without_channel l = false≢true l.accepted
 
 -- yes: AreAllPlayed
 no_channel : (h i : History) (es : List Event) → AreAllPlayed h i 0 es []
-no_channel h i es = record { lines = []; numbers = refl; first = All-nil (IsFirstLine h i); played = no_more }
+no_channel h i es = record { lines = []; numbers = refl; first = All-nil (IsFirstLine h i); each = no_more }
 
 -- no: AreAllPlayed
-counts_without_channel : (h i : History) (es : List Event) (k : Counts) → AreAllPlayed h i 0 es (k ∷ []) → ⊥
-counts_without_channel h i es k a =
-    let e : length a.lines ≡ 0 = sym (length-map a.lines _) ∙ ap length a.numbers in
-    (elim a.lines as (λ ls. length ls ≡ 0 → ArePlayed es ls (k ∷ []) → ⊥) [ [] ↦ λ n p. elim p [ ] | l ∷ ls ↦ λ n p. omega (arith, n) ]) e a.played
+channel_unplayed : (h i : History) (es : List Event) → AreAllPlayed h i 1 es [] → ⊥
+channel_unplayed h i es a =
+    let e : length a.lines ≡ 1 = sym (length-map a.lines _) ∙ ap length a.numbers in
+    (elim a.lines as (λ ls. length ls ≡ 1 → ArePlayed es ls [] → ⊥) [ [] ↦ λ n p. omega (arith, n) | l ∷ ls ↦ λ n p. elim p [ ] ]) e a.each
 
 -- ---- a report
 
@@ -85,17 +85,17 @@ module _ (scenario : Scenario) (report : Report) where
   begins_with_both : (p q : ProposedTerms) → scenario.channels ≡ p ∷ q ∷ [] → (r : IsReport scenario report) → AllBegin scenario.seeds 0 (p ∷ q ∷ []) empty_world r.world
   begins_with_both p q e r = subst (λ (ts : List ProposedTerms). AllBegin scenario.seeds 0 ts empty_world r.world) e r.begins
 
-  -- yes: IsReport.a
+  -- yes: IsReport.run
   goes_on_from_a : (r : IsReport scenario report) → (later : List Entry) × (report.a ≡ r.world.a.history ++ later)
-  goes_on_from_a r = r.a.goes_on
+  goes_on_from_a r = r.run.a_left.goes_on
 
-  -- yes: IsReport.b
-  goes_on_from_b : (r : IsReport scenario report) → (later : List Entry) × (report.b ≡ r.world.b.history ++ later)
-  goes_on_from_b r = r.b.goes_on
+  -- yes: IsRun.b_left
+  goes_on_from_b : (a b : History) (n : ℕ) (es : List Event) (r : IsRun a b n es report) → (later : List Entry) × (report.b ≡ b ++ later)
+  goes_on_from_b a b n es r = r.b_left.goes_on
 
-  -- yes: IsReport.played
-  plays_both : length scenario.channels ≡ 2 → (r : IsReport scenario report) → AreAllPlayed r.world.a.history r.world.b.history 2 scenario.events report.channels.items
-  plays_both e r = subst (λ (n : ℕ). AreAllPlayed r.world.a.history r.world.b.history n scenario.events report.channels.items) e r.played
+  -- yes: IsRun.played
+  plays_both : (a b : History) (es : List Event) (r : IsRun a b 2 es report) → AreAllPlayed a b 2 es r.lines
+  plays_both a b es r = r.played
 
   -- three turns in channel 1, one in channel 0; blocks and the turn of a channel that is not there are none
   -- yes: IsReport.counted
@@ -104,9 +104,8 @@ module _ (scenario : Scenario) (report : Report) where
   counts_turns e f r = rw (e, f) at r.counted
 
   -- yes: IsReport
-  is_report : (w : World) → IsBeginning scenario.seeds scenario.channels w → IsLeft w.a.history report.a → IsLeft w.b.history report.b
-      → AreAllPlayed w.a.history w.b.history (length scenario.channels) scenario.events report.channels.items → map total_of report.channels.items ≡ all_turns (length scenario.channels) scenario.events → IsReport scenario report
-  is_report w i a b p c = record { world = w; begins = i; a = a; b = b; played = p; counted = c }
+  is_report : (w : World) → IsBeginning scenario.seeds scenario.channels w → IsRun w.a.history w.b.history (length scenario.channels) scenario.events report → map total_of report.channels.items ≡ all_turns (length scenario.channels) scenario.events → IsReport scenario report
+  is_report w i r c = record { world = w; begins = i; run = r; counted = c }
 
   -- no: IsReport
   turn_uncounted : (k : Counts) → length scenario.channels ≡ 1 → scenario.events ≡ events.Sign B 0 ∷ [] → report.channels.items ≡ k ∷ [] → total_of k ≡ 0 → IsReport scenario report → ⊥

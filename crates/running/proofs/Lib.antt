@@ -10,3 +10,8 @@ pub mod Finding
 pub mod Payments
 pub mod Seating
 pub mod Broadcasting
+pub mod Entered
+pub mod Serving
+pub mod Homing
+pub mod Turns
+mod ReportExamples

@@ -1,18 +1,26 @@
 -- Events of channels, one after the other, and how many they are.
-use Rattle.std.proofs.Common.{◌≡◌, ℕ, suc, ◌+◌, ◌<◌, ◌≤◌, true, false, List, [], ◌∷◌, length, map, drop, get_or, Option, Some, None, Result, Ok, refl, sym, ap, ◌∙◌, subst, arith, add-one, drop-cons}
+use Rattle.std.proofs.Common.{◌≡◌, ℕ, zero, suc, ◌+◌, ◌<◌, ◌≤◌, true, false, List, [], ◌∷◌, length, map, drop, get_or, All, Option, Some, None, Result, Ok, refl, sym, ap, ◌∙◌, subst, arith, add-one, drop-cons}
 use Rattle.std.specs.declared.alloc.AllocError.{AllocError}
 use Rattle.std.specs.Prelude.{IfOk}
-use Rattle.std.proofs.lemmas.Result.{IfOk-weaker}
-use Rattle.std.proofs.lemmas.List.{drop_all}
+use Rattle.std.specs.List.{range_with_len}
+use Rattle.std.proofs.lemmas.List.{drop_all, length-map}
+use Rattle.std.proofs.lemmas.List.Elements.{All-nil, All-cons}
 use Rattle.std.proofs.lemmas.Simd.{map-map}
 use Rattle.scenario.specs.declared.events.Event.{Event}
 use Rattle.desk.specs.Histories.{History}
 use Rattle.running.specs.declared.lines.Turn.{Turn}
+use Rattle.desk.specs.declared.desk.Seat.{Seat}
+use Rattle.running.specs.declared.houses.Office.{Office}
+use Rattle.running.specs.declared.houses.House.{House}
+use Rattle.running.specs.declared.ends.End.{End}
 use Rattle.running.specs.declared.lines.Line.{Line}
+use Rattle.running.specs.declared.lines.PlayedLine.{PlayedLine}
 use Rattle.running.specs.declared.counts.Counts.{Counts}
 use Rattle.running.specs.Events.{turn_in, count_of, turns_at, turns_in, all_turns}
 use Rattle.running.specs.Acting.{no_counts, Plays}
 use Rattle.running.specs.Playing.{sum_of, PlaysAll, IsPlayed, ArePlayed, AreAllPlayed}
+use Rattle.running.specs.Crews.{IsEnd, IsLine, IsLone}
+use Rattle.running.specs.Homes.{IsLonePair}
 use Rattle.running.specs.Reports.{total_of}
 
 -- ---- sums
@@ -61,10 +69,6 @@ all_played es i first l so past was =
     let last : PlaysAll (drop i es) l l no_counts = subst (λ (xs : List Event). PlaysAll xs l l no_counts) (sym (drop_all i es past)) (PlaysAll.none_left l) in
     subst (λ (s : Counts). PlaysAll es first l s) (sum_none so) (was no_counts l last)
 
--- the same for a result
-pub played_on : (es : List Event) (first last : Line) (r : Result Counts AllocError) → IfOk r (PlaysAll es first last) → IfOk r (IsPlayed es first)
-played_on es first last r all = IfOk-weaker r (PlaysAll es first last) (IsPlayed es first) (λ k is. (last, is)) all
-
 -- ---- how many they are
 
 plays_total : (t : Option Turn) (before after : Line) (k : Counts) → Plays t before after k → total_of k ≡ count_of t
@@ -80,24 +84,51 @@ all_total es before after k (PlaysAll.played e rest first between last counts mo
     let sum : total_of (sum_of counts more) ≡ total_of counts + total_of more = omega arith in
     sum ∙ ap (λ (n : ℕ). n + total_of more) here ∙ ap (λ (n : ℕ). turns_at first.channel e + n) later
 
-totals : (events : List Event) (lines : List Line) (counts : List Counts) → ArePlayed events lines counts → map total_of counts ≡ map (λ l. turns_in l.channel events) lines
-totals events lines counts ArePlayed.no_more = refl
-totals events lines counts (ArePlayed.one_more l ls k ks is others) =
-    ap (λ (n : ℕ). n ∷ map total_of ks) (all_total events l is.0 k is.1) ∙ ap (λ (ns : List ℕ). turns_in l.channel events ∷ ns) (totals events ls ks others)
+totals : (events : List Event) (lines : List Line) (played : List PlayedLine) → ArePlayed events lines played → map (λ p. total_of p.counts) played ≡ map (λ l. turns_in l.channel events) lines
+totals events lines played ArePlayed.no_more = refl
+totals events lines played (ArePlayed.one_more l ls p ps is others) =
+    ap (λ (n : ℕ). n ∷ map (λ p. total_of p.counts) ps) (all_total events l is.after p.counts is.all) ∙ ap (λ (ns : List ℕ). turns_in l.channel events ∷ ns) (totals events ls ps others)
 
 -- the channels of these lines are all below a number
-pub counted_all : (a b : History) (n : ℕ) (events : List Event) (counts : List Counts) → AreAllPlayed a b n events counts → map total_of counts ≡ all_turns n events
-counted_all a b n events counts all =
-    totals events all.lines counts all.played ∙ sym (map-map (λ (c : ℕ). turns_in c events) (λ (l : Line). l.channel) all.lines)
-    ∙ ap (λ (cs : List ℕ). map (λ c. turns_in c events) cs) all.numbers
+pub counted_all : (a b : History) (n : ℕ) (events : List Event) (played : List PlayedLine) (counts : List Counts) → AreAllPlayed a b n events played → map (λ p. p.counts) played ≡ counts
+    → map total_of counts ≡ all_turns n events
+counted_all a b n events played counts all same =
+    ap (λ (ks : List Counts). map total_of ks) (sym same) ∙ map-map total_of (λ (p : PlayedLine). p.counts) played ∙ totals events all.lines played all.each
+    ∙ sym (map-map (λ (c : ℕ). turns_in c events) (λ (l : Line). l.channel) all.lines) ∙ ap (λ (cs : List ℕ). map (λ c. turns_in c events) cs) all.numbers
 
--- ---- what each line counts
+-- as many as channels
+pub as_many : (events : List Event) (lines : List Line) (played : List PlayedLine) → ArePlayed events lines played → length played ≡ length lines
+as_many events lines played ArePlayed.no_more = refl
+as_many events lines played (ArePlayed.one_more l ls p ps is others) = ap suc (as_many events ls ps others)
 
-pub played_each : (events : List Event) (lines : List Line) (counts : List Counts) → length counts ≡ length lines
-    → ((i : ℕ) (d : Result Counts AllocError) (l : Line) → i < length lines → IfOk (get_or (map Ok counts) i d) (IsPlayed events (get_or lines i l)))
-    → ArePlayed events lines counts
+range_long : (a n : ℕ) → length (range_with_len a n) ≡ n
+range_long a zero = refl
+range_long a (suc n) = ap suc (range_long (a + 1) n)
+
+pub channels_many : (a b : History) (n : ℕ) (events : List Event) (played : List PlayedLine) → AreAllPlayed a b n events played → length played ≡ n
+channels_many a b n events played all =
+    as_many events all.lines played all.each ∙ sym (length-map all.lines (λ (l : Line). l.channel)) ∙ ap (λ (cs : List ℕ). length cs) all.numbers ∙ range_long 0 n
+
+-- ---- what each line gives back
+
+pub gives_back : (es : List Event) (first last : Line) (k : Counts) (p : PlayedLine) → p.counts ≡ k → p.a ≡ last.a.seat → p.b ≡ last.b.seat → PlaysAll es first last k → IsPlayed es first p
+gives_back es first last k p counts a b all = record { after = last; all = subst (λ (x : Counts). PlaysAll es first last x) (sym counts) all; a = a; b = b }
+
+lone_end : (office : Office) (e : End) (s : Seat) → IsEnd office e → s ≡ e.seat → IsLone office.desk s
+lone_end office e s is same = subst (λ (x : Seat). IsLone office.desk x) (sym same) (record { seat_of = is.seat; heard = is.heard })
+
+pub lone_pair : (house : House) (l : Line) (p : PlayedLine) → IsLine house l → p.a ≡ l.a.seat → p.b ≡ l.b.seat → IsLonePair house p
+lone_pair house l p is a b = record { a = lone_end house.a l.a p.a is.a a; b = lone_end house.b l.b p.b is.b b }
+
+pub played_each : (events : List Event) (lines : List Line) (played : List PlayedLine) → length played ≡ length lines
+    → ((i : ℕ) (d : Result PlayedLine AllocError) (l : Line) → i < length lines → IfOk (get_or (map Ok played) i d) (IsPlayed events (get_or lines i l)))
+    → ArePlayed events lines played
 played_each events [] [] many each = ArePlayed.no_more
-played_each events [] (k ∷ ks) many each = absurd (omega (arith, many))
+played_each events [] (p ∷ ps) many each = absurd (omega (arith, many))
 played_each events (l ∷ ls) [] many each = absurd (omega (arith, many))
-played_each events (l ∷ ls) (k ∷ ks) many each =
-    ArePlayed.one_more l ls k ks (each 0 (Ok k) l (omega arith)) (played_each events ls ks (omega (arith, many)) (λ i d m low. each (suc i) d m (omega (arith, low))))
+played_each events (l ∷ ls) (p ∷ ps) many each =
+    ArePlayed.one_more l ls p ps (each 0 (Ok p) l (omega arith)) (played_each events ls ps (omega (arith, many)) (λ i d m low. each (suc i) d m (omega (arith, low))))
+
+pub lone_each : (house : House) (played : List PlayedLine) → ((i : ℕ) (d : Result PlayedLine AllocError) → i < length played → IfOk (get_or (map Ok played) i d) (IsLonePair house)) → All (IsLonePair house) played
+lone_each house [] each = All-nil (IsLonePair house)
+lone_each house (p ∷ ps) each = All-cons (IsLonePair house) p ps (each 0 (Ok p) (omega arith)) (lone_each house ps (λ i d low. each (suc i) d (omega (arith, low))))

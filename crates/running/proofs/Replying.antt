@@ -104,18 +104,18 @@ in_memory (closed (Ok n)) is = refl
 in_memory (closed (Err e)) is = absurd cc
 
 -- a reply that does not say that memory ran out is the book's own
-pub own_reply : (call : Call) (s t : Seat) (reply : Reply) → IsReply call s t reply → ran_out reply ≡ false → IsOwnReply call s t reply
-own_reply call s t reply is own = ⊎_elim
+pub own_reply : (call : Call) (s t : Seat) (reply : Reply) → number_in t ≡ number_in s → IsReply call s t reply → ran_out reply ≡ false → IsOwnReply call s t reply
+own_reply call s t reply number is own = ⊎_elim
     (λ (none_left : (reply ≡ no_memory_of call) × (calls_in t ≡ calls_in s) × (last_in t ≡ is.0)).
     let both : true ≡ false = sym (ap ran_out none_left.0 ∙ out_of_memory call) ∙ own in
     absurd cc)
     (λ (it : (reply ≡ reply_of peer_tokens is.0 call) × (calls_in t ≡ calls_after (calls_in s) is.0 (number_in s) call) × (last_in t ≡ history_after peer_tokens is.0 (number_in s) call)).
-    record { history = is.0; found = is.1; reply_is = it.0; calls = it.1; last = it.2 })
+    record { history = is.0; number = number; found = is.1; reply_is = it.0; calls = it.1; last = it.2 })
     is.2
 
 -- ---- what is sent
 
-pub is_sent : (call : Call) (s t : Seat) (inbox newer : List Message) (reply : Reply) (r : Result Bool AllocError) → IsReply call s t reply → IfOk r (λ _. ran_out reply ≡ false)
+pub is_sent : (call : Call) (s t : Seat) (inbox newer : List Message) (reply : Reply) (r : Result Bool AllocError) → number_in t ≡ number_in s → IsReply call s t reply → IfOk r (λ _. ran_out reply ≡ false)
     → IfOk r (λ done. done ≡ is_accepted reply) → OnOk r (newer ≡ inbox ++ messages_in reply) → IfOk r (IsSent call s t inbox newer)
-is_sent call s t inbox newer reply (Ok done) answered own done_is sent = record { reply = reply; answered = own_reply call s t reply answered own; done_is = done_is; sent = sent }
-is_sent call s t inbox newer reply (Err e) answered own done_is sent = done_is
+is_sent call s t inbox newer reply (Ok done) number answered own done_is sent = record { reply = reply; answered = own_reply call s t reply number answered own; done_is = done_is; sent = sent }
+is_sent call s t inbox newer reply (Err e) number answered own done_is sent = done_is

@@ -1,43 +1,111 @@
 -- What a whole run leaves.
-use Rattle.std.proofs.Common.{◌≡◌, ℕ, List, length, Result, Ok, Err, sym, ◌∙◌, subst}
+use Rattle.std.proofs.Common.{◌≡◌, ℕ, ◌+◌, List, [], ◌∷◌, ◌++◌, length, map, All, Result, Ok, Err, refl, ◌∙◌, subst, arith, length-append}
 use Rattle.std.specs.declared.alloc.AllocError.{AllocError}
 use Rattle.std.specs.Prelude.{IfOk}
-use Rattle.std.proofs.lemmas.Result.{IfOk-weaker}
+use Rattle.std.proofs.lemmas.List.{length-map}
+use Rattle.std.proofs.lemmas.List.Elements.{All-nil, All-cons, All-append, All-map, All-weaker}
 use Rattle.scenario.specs.declared.events.Event.{Event}
 use Rattle.scenario.specs.declared.scenarios.Scenario.{Scenario}
+use Rattle.book.specs.Books.{replay}
+use Rattle.desk.specs.declared.desk.Seat.{Seat}
 use Rattle.desk.specs.Histories.{History}
-use Rattle.desk.specs.Seats.{opening_in, last_in}
+use Rattle.desk.specs.Seats.{opening_in}
 use Rattle.world.specs.declared.taken_apart.BooksAndChain.{BooksAndChain}
 use Rattle.running.specs.declared.beginning.Opened.{Opened}
-use Rattle.running.specs.declared.counts.Counts.{Counts}
+use Rattle.running.specs.declared.houses.Office.{Office}
+use Rattle.running.specs.declared.houses.House.{House}
+use Rattle.running.specs.declared.houses.Closers.{Closers}
+use Rattle.running.specs.declared.lines.PlayedLine.{PlayedLine}
+use Rattle.running.specs.declared.staff.Served.{Served}
+use Rattle.running.specs.declared.homes.Returned.{Returned}
 use Rattle.running.specs.declared.runs.Report.{Report}
 use Rattle.running.specs.Beginning.{IsBegun, IsOpened}
-use Rattle.running.specs.Playing.{AreAllPlayed}
-use Rattle.running.specs.Reports.{IsLeft, IsReport}
-use Rattle.running.proofs.Playing.{counted_all}
+use Rattle.running.specs.Crews.{payments_in, payment_bytes, PaysItself, ClosesAfter, IsLone, KeepsAndReleases, HasServed, seat_in}
+use Rattle.running.specs.Homes.{IsLonePair, IsIdleSeat, HaveServed, ends_a, ends_b, seats_a, seats_b}
+use Rattle.running.specs.Reports.{IsLeft, IsPlayedOut, IsSettled, IsOfThreads, IsRun, IsReport}
+use Rattle.running.proofs.Playing.{counted_all, channels_many}
+use Rattle.running.proofs.Entered.{entered}
+use Rattle.running.proofs.Turns.{each_makes}
+use Rattle.running.proofs.Serving.{idle_worked}
+use Rattle.running.proofs.Homing.{are_home}
+
+-- ---- one side
+
+all_lone : (office : Office) (ends : List Seat) (staff : List Served) (player : Seat) → All (IsLone office.desk) ends → All (HasServed office) staff → IsIdleSeat office.desk player
+    → All (IsLone office.desk) (ends ++ (map seat_in staff ++ player ∷ []))
+all_lone office ends staff player lines served idle =
+    let P : Seat → Type 0 = IsLone office.desk in
+    All-append P ends (map seat_in staff ++ player ∷ []) lines
+    (All-append P (map seat_in staff) (player ∷ []) (All-map P seat_in staff (All-weaker (HasServed office) (λ (s : Served). P (seat_in s)) (λ s is. is.seat) staff served))
+    (All-cons P player [] idle.lone (All-nil P)))
+
+all_worked : (office : Office) (keys : List (List ℕ)) (staff : List Served) (player : Seat) → payment_bytes office.payments.items ≡ keys → All (HasServed office) staff → IsIdleSeat office.desk player
+    → All (KeepsAndReleases keys) (map seat_in staff ++ player ∷ [])
+all_worked office keys staff player same served idle =
+    let P : Seat → Type 0 = KeepsAndReleases keys in
+    All-append P (map seat_in staff) (player ∷ [])
+    (All-map P seat_in staff
+    (All-weaker (HasServed office) (λ (s : Served). P (seat_in s)) (λ s is. subst (λ (ks : List (List ℕ)). KeepsAndReleases ks (seat_in s)) same is.work) staff served))
+    (All-cons P player [] (idle_worked keys player idle.calls) (All-nil P))
+
+of_threads : (office : Office) (closer player : Seat) (channels workers : ℕ) (ends : List Seat) (staff : List Served) (book : History) → ClosesAfter office (channels + workers + 2) closer → PaysItself office closer
+    → length ends ≡ channels → All (IsLone office.desk) ends → HaveServed office (workers + 1) staff → IsIdleSeat office.desk player
+    → IsSettled office closer (ends ++ (map seat_in staff ++ player ∷ [])) book → IsOfThreads (opening_in closer) book ends
+of_threads office closer player channels workers ends staff book closes pays many lines served idle settled =
+    let others = map seat_in staff ++ player ∷ [] in
+    let few : length (map seat_in staff ++ player ∷ []) ≡ workers + 2 = omega (arith, length-append (map seat_in staff) (player ∷ []), length-map staff seat_in, served.many) in
+    let all : length (ends ++ (map seat_in staff ++ player ∷ [])) ≡ channels + workers + 2 = omega (arith, length-append ends (map seat_in staff ++ player ∷ []), few, many) in
+    let top = closes.top in
+    record {
+      others = others;
+      work = all_worked office (payments_in (replay (opening_in closer))) staff player pays served.each idle;
+      home = are_home office.desk closer settled.after (ends ++ others) book closes.new.calls closes.new.heard closes.last (omega (arith, all, top))
+          (all_lone office ends staff player lines served.each idle) settled.takes settled.closed;
+    }
+
+-- ---- both sides
+
+lone_a : (house : House) (lines : List PlayedLine) → All (IsLonePair house) lines → All (IsLone house.a.desk) (ends_a lines)
+lone_a house lines all = All-map (IsLone house.a.desk) (λ (p : PlayedLine). p.a) lines (All-weaker (IsLonePair house) (λ (p : PlayedLine). IsLone house.a.desk p.a) (λ p is. is.a) lines all)
+
+lone_b : (house : House) (lines : List PlayedLine) → All (IsLonePair house) lines → All (IsLone house.b.desk) (ends_b lines)
+lone_b house lines all = All-map (IsLone house.b.desk) (λ (p : PlayedLine). p.b) lines (All-weaker (IsLonePair house) (λ (p : PlayedLine). IsLone house.b.desk p.b) (λ p is. is.b) lines all)
+
+pub has_run : (house : House) (closers : Closers) (channels workers : ℕ) (events : List Event) (r : Returned) (result : Result Report AllocError) → ClosesAfter house.a (channels + workers + 2) closers.a
+    → ClosesAfter house.b (channels + workers + 2) closers.b → PaysItself house.a closers.a → PaysItself house.b closers.b → IsPlayedOut house closers channels workers events r
+    → IfOk result (λ x. IsSettled house.a closers.a (seats_a r) x.a) → IfOk result (λ x. IsSettled house.b closers.b (seats_b r) x.b) → IfOk result (λ x. map (λ p. p.counts) r.played.lines.items ≡ x.channels.items)
+    → IfOk result (IsRun (opening_in closers.a) (opening_in closers.b) channels events)
+has_run house closers channels workers events r (Err e) a b pays_a pays_b out settled_a settled_b counts = settled_a
+has_run house closers channels workers events r (Ok x) a b pays_a pays_b out settled_a settled_b counts =
+    let lines = r.played.lines.items in
+    let many = channels_many (opening_in closers.a) (opening_in closers.b) channels events lines out.played in
+    record {
+      a_left = subst (λ (h : History). IsLeft h x.a) settled_a.takes.opening settled_a.left;
+      b_left = subst (λ (h : History). IsLeft h x.b) settled_b.takes.opening settled_b.left;
+      lines = lines;
+      played = out.played;
+      counts = counts;
+      entered = entered (opening_in closers.a) (opening_in closers.b) events out.played.lines lines out.played.first out.played.each;
+      turns = each_makes (opening_in closers.a) (opening_in closers.b) events out.played.lines lines out.played.first out.played.each;
+      a_threads = of_threads house.a closers.a r.played.player.a channels workers (ends_a lines) r.staff_a.items x.a a pays_a (length-map lines (λ (p : PlayedLine). p.a) ∙ many) (lone_a house lines out.lines) out.staff_a out.player.a settled_a;
+      b_threads = of_threads house.b closers.b r.played.player.b channels workers (ends_b lines) r.staff_b.items x.b b pays_b (length-map lines (λ (p : PlayedLine). p.b) ∙ many) (lone_b house lines out.lines) out.staff_b out.player.b settled_b;
+    }
+
+-- ---- the report
+
+pub as_opened : (history : History) (n : ℕ) (o : Opened) → IsOpened history n o → IsOpened (opening_in o.closer) n o
+as_opened history n o is = record { made_with = refl; closer = is.closer; stock = is.stock; many = is.many }
 
 pub reported : (scenario : Scenario) (begun : BooksAndChain) (a b : Opened) (m n k : ℕ) (result : Result Report AllocError) → IsBegun scenario begun → IsOpened begun.a m a → IsOpened begun.b n b
-    → k ≡ length scenario.channels → IfOk result (λ r. IsLeft (last_in a.closer) r.a) → IfOk result (λ r. IsLeft (last_in b.closer) r.b)
-    → IfOk result (λ r. AreAllPlayed (opening_in a.closer) (opening_in b.closer) k scenario.events r.channels.items) → IfOk result (IsReport scenario)
-reported scenario begun a b m n k (Ok r) is of_a of_b many left_a left_b played =
-    let counts = r.channels.items in
-    let from_a : AreAllPlayed is.world.a.history (opening_in b.closer) k scenario.events counts =
-    subst (λ (h : History). AreAllPlayed h (opening_in b.closer) k scenario.events counts) (of_a.closer.made_with ∙ is.a) played in
-    let from_both : AreAllPlayed is.world.a.history is.world.b.history k scenario.events counts =
-    subst (λ (h : History). AreAllPlayed is.world.a.history h k scenario.events counts) (of_b.closer.made_with ∙ is.b) from_a in
-    let all = subst (λ (j : ℕ). AreAllPlayed is.world.a.history is.world.b.history j scenario.events counts) many from_both in
+    → k ≡ length scenario.channels → IfOk result (IsRun (opening_in a.closer) (opening_in b.closer) k scenario.events) → IfOk result (IsReport scenario)
+reported scenario begun a b m n k (Err e) is of_a of_b many run = run
+reported scenario begun a b m n k (Ok r) is of_a of_b many run =
+    let from_a : IsRun is.world.a.history (opening_in b.closer) k scenario.events r = subst (λ (h : History). IsRun h (opening_in b.closer) k scenario.events r) (of_a.made_with ∙ is.a) run in
+    let from_both : IsRun is.world.a.history is.world.b.history k scenario.events r = subst (λ (h : History). IsRun is.world.a.history h k scenario.events r) (of_b.made_with ∙ is.b) from_a in
+    let all = subst (λ (j : ℕ). IsRun is.world.a.history is.world.b.history j scenario.events r) many from_both in
     record {
       world = is.world;
       begins = is.begins;
-      a = subst (λ (h : History). IsLeft h r.a) (of_a.closer.last ∙ is.a) left_a;
-      b = subst (λ (h : History). IsLeft h r.b) (of_b.closer.last ∙ is.b) left_b;
-      played = all;
-      counted = counted_all is.world.a.history is.world.b.history (length scenario.channels) scenario.events counts all;
+      run = all;
+      counted = counted_all is.world.a.history is.world.b.history (length scenario.channels) scenario.events all.lines r.channels.items all.played all.counts;
     }
-reported scenario begun a b m n k (Err e) is of_a of_b many left_a left_b played = left_a
-
--- a report has the counts that it was given
-pub all_kept : (a b : History) (n : ℕ) (events : List Event) (counts : List Counts) (r : Result Report AllocError) → IfOk r (λ x. x.channels.items ≡ counts) → AreAllPlayed a b n events counts
-    → IfOk r (λ x. AreAllPlayed a b n events x.channels.items)
-all_kept a b n events counts r same all =
-    IfOk-weaker r (λ x. x.channels.items ≡ counts) (λ x. AreAllPlayed a b n events x.channels.items) (λ x is. subst (λ (ks : List Counts). AreAllPlayed a b n events ks) (sym is) all) same

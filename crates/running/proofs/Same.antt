@@ -8,7 +8,8 @@ use Rattle.running.specs.declared.houses.Office.{Office}
 use Rattle.running.specs.declared.houses.House.{House}
 use Rattle.running.specs.declared.watching.Watcher.{Watcher}
 use Rattle.running.specs.declared.players.Player.{Player}
-use Rattle.running.specs.Crews.{IsWatcher, GoesOnWatching, IsPlayer, GoesOnPlaying}
+use Rattle.running.specs.Crews.{IsWatcher, GoesOnWatching, IsPlayer, IsNewPlayer, GoesOnPlaying}
+use Rattle.running.specs.Homes.{IsHandedBack}
 
 pub same_calls : (desk : Desk) (s : Seat) → IsSeatOf desk s → HasSameCalls desk s s
 same_calls desk s is = record { seat_of = is; number = refl; opening = refl; place = refl; heard = refl; calls = refl }
@@ -45,3 +46,10 @@ is_player house p q on = record { a = on.a.seat_of; b = on.b.seat_of; place = on
 pub still_plays : (house : House) (p q r : Player) → GoesOnPlaying house p q → GoesOnPlaying house q r → GoesOnPlaying house p r
 still_plays house p q r one two =
     record { a = still_same house.a.desk p.a q.a r.a one.a two.a; b = still_same house.b.desk p.b q.b r.b one.b two.b; place = two.place }
+
+-- its seats after it, which made no call
+pub handed_back : (house : House) (p q : Player) → IsNewPlayer house p → GoesOnPlaying house p q → IsHandedBack house q
+handed_back house p q new on = record {
+  a = record { lone = record { seat_of = on.a.seat_of; heard = on.a.heard ∙ new.a.heard }; calls = on.a.calls ∙ new.a.calls };
+  b = record { lone = record { seat_of = on.b.seat_of; heard = on.b.heard ∙ new.b.heard }; calls = on.b.calls ∙ new.b.calls };
+}

@@ -1,14 +1,16 @@
 -- What threads are equipped with: seats at a board and at a desk that were just made, and channels.
-use Rattle.std.proofs.Common.{◌≡◌, ℕ, zero, suc, ◌+◌, List, [], ◌∷◌, ◌++◌, map, All, sym, ap, ◌∙◌, arith, add-one}
-use Rattle.std.specs.List.{range_with_len}
-use Rattle.std.proofs.lemmas.List.{map-append}
+use Rattle.std.proofs.Common.{◌≡◌, ℕ, zero, suc, ◌+◌, true, List, [], ◌∷◌, ◌++◌, length, map, All, Option, Some, None, IfSome, refl, sym, ap, ◌∙◌, subst, arith, add-one}
+use Rattle.std.specs.List.{range_with_len, last_or}
+use Rattle.std.proofs.lemmas.List.{map-append, length-map}
 use Rattle.std.proofs.lemmas.List.Elements.{All-weaker}
 use Rattle.board.specs.declared.board.Board.{Board}
 use Rattle.board.specs.declared.board.Seat.{Seat}
 use Rattle.board.specs.Seats.{IsSeatOf, IsNewSeatOf, AreSeats}
 use Rattle.book.specs.Books.{replay}
 use Rattle.desk.specs.Histories.{History}
+use Rattle.desk.specs.declared.desk.Desk.{Desk}
 use Rattle.desk.specs.declared.desk.Seat.{Seat as DeskSeat}
+use Rattle.desk.specs.Seats.{AreSeats as AreDeskSeats, EndsWithLast, number_in, is_last_in}
 use Rattle.running.specs.declared.houses.Office.{Office}
 use Rattle.running.specs.declared.lines.Line.{Line}
 use Rattle.running.specs.Crews.{payments_in, PaysItself, IsOwnSeat}
@@ -35,3 +37,30 @@ channels_more lines more n l pushed before is =
     let place : n ≡ 0 + n = omega arith in
     ap (λ (ls : List Line). map (λ l. l.channel) ls) pushed ∙ map-append (λ (l : Line). l.channel) lines (l ∷ []) ∙ ap (λ (cs : List ℕ). cs ++ l.channel ∷ []) before
     ∙ ap (λ (c : ℕ). range_with_len 0 n ++ c ∷ []) (is ∙ place) ∙ sym (range_more 0 n) ∙ ap (λ (k : ℕ). range_with_len 0 k) (sym (add-one n))
+
+-- ---- the last of a desk's seats
+
+range_last : (first : ℕ) (xs : List ℕ) (x count : ℕ) → xs ++ x ∷ [] ≡ range_with_len first count → x ≡ first + length xs
+range_last first [] x zero e = let no : ⊥ = cc in absurd no
+range_last first [] x (suc count) e =
+    let is : x ≡ first = cc in
+    omega (arith, is)
+range_last first (y ∷ ys) x zero e = let no : ⊥ = cc in absurd no
+range_last first (y ∷ ys) x (suc count) e =
+    let rest : ys ++ x ∷ [] ≡ range_with_len (first + 1) count = cc in
+    let is = range_last (first + 1) ys x count rest in
+    omega (arith, is)
+
+pub last_number : (desk : Desk) (opening : History) (first count : ℕ) (seats left : List DeskSeat) (s : DeskSeat) → seats ≡ left ++ s ∷ [] → AreDeskSeats desk opening first count seats → number_in s ≡ first + length left
+last_number desk opening first count seats left s popped are =
+    let numbers : map number_in left ++ number_in s ∷ [] ≡ range_with_len first count =
+    sym (map-append number_in left (s ∷ [])) ∙ ap (λ (l : List DeskSeat). map number_in l) (sym popped) ∙ are.numbers in
+    range_last first (map number_in left) (number_in s) count numbers ∙ ap (λ (k : ℕ). first + k) (length-map left number_in)
+
+last_pushed : (o : Option DeskSeat) (left : List DeskSeat) (s : DeskSeat) → last_or o (left ++ s ∷ []) ≡ Some s
+last_pushed o [] s = refl
+last_pushed o (x ∷ left) s = last_pushed (Some x) left s
+
+pub last_is : (seats left : List DeskSeat) (s : DeskSeat) → seats ≡ left ++ s ∷ [] → EndsWithLast seats → is_last_in s ≡ true
+last_is seats left s popped ends =
+    subst (λ (o : Option DeskSeat). IfSome o (λ t. is_last_in t ≡ true)) (ap (last_or None) popped ∙ last_pushed None left s) ends

@@ -74,9 +74,10 @@ ran_out (released (Err e)) = release_error_number e == 0
 ran_out (closed (Err e)) = close_error_number e == 0
 ran_out reply = false
 
--- the book's own reply, at the end of a history that goes on from the one that the seat last saw; the seat's calls and the history are those after it
+-- the book's own reply, at the end of a history that goes on from the one that the seat last saw; the seat keeps its number, and its calls and the history are those after it
 pub record IsOwnReply (call : Call) (before after : Seat) (reply : Reply) : Type 0 where
   pub history : History
+  pub number : number_in after ≡ number_in before
   pub found : IsHistoryFor (number_in before) (calls_in before) (last_in before) history
   pub reply_is : reply ≡ reply_of peer_tokens history call
   pub calls : calls_in after ≡ calls_after (calls_in before) history (number_in before) call

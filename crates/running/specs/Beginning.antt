@@ -2,13 +2,13 @@
 use Rattle.std.specs.Prelude.{◌≡◌, ℕ, ◌+◌, ◌≤◌, List, length}
 use Rattle.book.specs.declared.calls.Entry.{Entry}
 use Rattle.desk.specs.Histories.{first_seat}
-use Rattle.desk.specs.Seats.{IsSeatOf, IsNewSeatOf}
+use Rattle.desk.specs.Seats.{opening_in}
 use Rattle.scenario.specs.declared.scenarios.Scenario.{Scenario}
 use Rattle.world.specs.declared.taken_apart.BooksAndChain.{BooksAndChain}
 use Rattle.world.specs.Worlds.{World}
 use Rattle.world.specs.Beginning.{IsBeginning}
 use Rattle.running.specs.declared.beginning.Opened.{Opened}
-use Rattle.running.specs.Crews.{IsStock}
+use Rattle.running.specs.Crews.{IsStock, ClosesAfter}
 
 -- the books and the chain of the scenario's world before its first event; no call in it is of a seat above 0
 pub record IsBegun (scenario : Scenario) (begun : BooksAndChain) : Type 0 where
@@ -20,13 +20,9 @@ pub record IsBegun (scenario : Scenario) (begun : BooksAndChain) : Type 0 where
   pub a_few : first_seat begun.a ≤ 1
   pub b_few : first_seat begun.b ≤ 1
 
--- a side's desk over a book with this history, with a seat that closes it and as many others as to make this number
+-- a side's desk over a book with this history, with its last seat, which closes it, and as many others as to make this number
 pub record IsOpened (history : List Entry) (seats : ℕ) (o : Opened) : Type 0 where
-  pub closer : IsNewSeatOf o.office.desk history o.closer
+  pub made_with : opening_in o.closer ≡ history
+  pub closer : ClosesAfter o.office (length o.stock.seats.items) o.closer
   pub stock : IsStock o.office o.closer o.stock
   pub many : length o.stock.seats.items + 1 ≡ seats
-
--- a side's desk has the seat that closes it, and its threads have seats there
-pub record AreReady (o : Opened) : Type 0 where
-  pub closer : IsSeatOf o.office.desk o.closer
-  pub stock : IsStock o.office o.closer o.stock

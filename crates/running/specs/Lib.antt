@@ -3,6 +3,7 @@ pub mod Following
 pub mod Crews
 pub mod Acting
 pub mod Playing
+pub mod Homes
 pub mod Broadcasts
 pub mod Beginning
 pub mod Reports

@@ -7,6 +7,7 @@ use Rattle.desk.specs.Seats.{calls_in, last_in, opening_in}
 use Rattle.running.specs.declared.houses.Closers.{Closers}
 use Rattle.running.specs.declared.ends.End.{End}
 use Rattle.running.specs.declared.lines.Line.{Line}
+use Rattle.running.specs.declared.lines.PlayedLine.{PlayedLine}
 use Rattle.running.specs.declared.counts.Counts.{Counts}
 use Rattle.running.specs.Events.{turn_in}
 use Rattle.running.specs.Acting.{no_counts, Plays}
@@ -20,14 +21,17 @@ pub data PlaysAll : List Event → Line → Line → Counts → Type 0 where
   played : (e : Event) (es : List Event) (before between after : Line) (counts more : Counts) → between.channel ≡ before.channel → Plays (turn_in before.channel e) before between counts
       → PlaysAll es between after more → PlaysAll (e ∷ es) before after (sum_of counts more)
 
--- a channel's events were played from this line on, to these counts
-abbrev pub IsPlayed : List Event → Line → Counts → Type 0
-IsPlayed events line counts = (after : Line) × PlaysAll events line after counts
+-- a channel's events were played from this line on, to these counts, and its two seats are given back
+pub record IsPlayed (events : List Event) (line : Line) (p : PlayedLine) : Type 0 where
+  pub after : Line
+  pub all : PlaysAll events line after p.counts
+  pub a : p.a ≡ after.a.seat
+  pub b : p.b ≡ after.b.seat
 
 -- the same for each channel
-pub data ArePlayed (events : List Event) : List Line → List Counts → Type 0 where
+pub data ArePlayed (events : List Event) : List Line → List PlayedLine → Type 0 where
   no_more : ArePlayed events [] []
-  one_more : (l : Line) (ls : List Line) (k : Counts) (ks : List Counts) → IsPlayed events l k → ArePlayed events ls ks → ArePlayed events (l ∷ ls) (k ∷ ks)
+  one_more : (l : Line) (ls : List Line) (p : PlayedLine) (ps : List PlayedLine) → IsPlayed events l p → ArePlayed events ls ps → ArePlayed events (l ∷ ls) (p ∷ ps)
 
 -- an end's seat has made no call, has last seen this history, and no message is on its way to it
 pub record IsFirstEnd (history : History) (e : End) : Type 0 where
@@ -44,9 +48,9 @@ pub record IsFirstLine (a b : History) (l : Line) : Type 0 where
 abbrev pub IsFirstLineIn : Closers → Line → Type 0
 IsFirstLineIn closers = IsFirstLine (opening_in closers.a) (opening_in closers.b)
 
--- the events of all channels below a number were played, each channel's from ends that have made no call, of sides whose books have these histories
-pub record AreAllPlayed (a b : History) (channels : ℕ) (events : List Event) (counts : List Counts) : Type 0 where
+-- the events of all channels below a number were played, each channel's from ends that have made no call, of sides whose books have these histories, and these seats were given back
+pub record AreAllPlayed (a b : History) (channels : ℕ) (events : List Event) (played : List PlayedLine) : Type 0 where
   pub lines : List Line
   pub numbers : map (λ l. l.channel) lines ≡ range_with_len 0 channels
   pub first : All (IsFirstLine a b) lines
-  pub played : ArePlayed events lines counts
+  pub each : ArePlayed events lines played

@@ -1,16 +1,29 @@
 -- What a node leaves.
-use Rattle.std.specs.Prelude.{◌≡◌, ℕ, ◌+◌, true, length, map}
+use Rattle.std.specs.Prelude.{◌≡◌, ℕ, ◌+◌, true, List, ◌++◌, All, length, map}
 use Rattle.channel.specs.Tokens.{peer_tokens}
 use Rattle.book.specs.Accepted.{all_accepted, AreWhole}
 use Rattle.book.specs.Guarding.{is_guarded}
+use Rattle.book.specs.Books.{replay}
+use Rattle.book.specs.declared.calls.Call.{Call}
+use Rattle.book.specs.declared.calls.Call.TheVariants.{Open, Keep, Release}
+use Rattle.desk.specs.declared.desk.Seat.{Seat}
 use Rattle.desk.specs.Histories.{History, GoesOn}
+use Rattle.desk.specs.Seats.{calls_in, opening_in}
+use Rattle.scenario.specs.declared.events.Event.{Event}
 use Rattle.scenario.specs.declared.scenarios.Scenario.{Scenario}
 use Rattle.world.specs.Worlds.{World}
 use Rattle.world.specs.Beginning.{IsBeginning}
 use Rattle.running.specs.declared.counts.Counts.{Counts}
+use Rattle.running.specs.declared.houses.Office.{Office}
+use Rattle.running.specs.declared.houses.House.{House}
+use Rattle.running.specs.declared.houses.Closers.{Closers}
+use Rattle.running.specs.declared.homes.Returned.{Returned}
+use Rattle.running.specs.declared.lines.PlayedLine.{PlayedLine}
 use Rattle.running.specs.declared.runs.Report.{Report}
 use Rattle.running.specs.Events.{all_turns}
+use Rattle.running.specs.Crews.{payments_in, KeepsAndReleases}
 use Rattle.running.specs.Playing.{AreAllPlayed}
+use Rattle.running.specs.Homes.{TakesEach, IsClosedBy, AreHome, IsLonePair, IsHandedBack, HaveServed, ends_a, ends_b}
 
 -- a book that threads leave: it goes on from the one that was opened, each call in it was accepted, none is a signature that the penalties of a revoked commitment had to come before, and each
 -- claim in it is an accepted one
@@ -23,11 +36,62 @@ pub record IsLeft (opening history : History) : Type 0 where
 abbrev pub total_of : Counts → ℕ
 total_of counts = counts.played + counts.refused
 
--- both books go on from those that the scenario's world begins with, each channel's updates, signatures, deliveries and closes were played in order, from there on, and each is counted once
+-- what all threads give back, a watcher and as many workers a side and a thread for each of as many channels, which played these events
+pub record IsPlayedOut (house : House) (closers : Closers) (channels workers : ℕ) (events : List Event) (r : Returned) : Type 0 where
+  pub played : AreAllPlayed (opening_in closers.a) (opening_in closers.b) channels events r.played.lines.items
+  pub lines : All (IsLonePair house) r.played.lines.items
+  pub player : IsHandedBack house r.played.player
+  pub staff_a : HaveServed house.a (workers + 1) r.staff_a.items
+  pub staff_b : HaveServed house.b (workers + 1) r.staff_b.items
+
+-- these seats came home to the one that closes a desk, with which the book was then left
+pub record IsSettled (office : Office) (closer : Seat) (seats : List Seat) (book : History) : Type 0 where
+  pub after : Seat
+  pub takes : TakesEach office.desk closer seats after
+  pub left : IsLeft (opening_in after) book
+  pub closed : IsClosedBy after book
+
+-- Whose the later entries of a side's book are: those of its ends of channels, and those of its other threads, which only keep and release, each release to the payment key of its channel in the
+-- opening book.
+pub record IsOfThreads (opening book : History) (ends : List Seat) : Type 0 where
+  pub others : List Seat
+  pub work : All (KeepsAndReleases (payments_in (replay opening))) others
+  pub home : AreHome opening book (ends ++ others)
+
+-- the calls of a channel's thread that the two books accepted are as many as were counted as played
+abbrev pub IsCounted : PlayedLine → Type 0
+IsCounted p = length (calls_in p.a) + length (calls_in p.b) ≡ p.counts.played
+
+-- a call that steps, signs, revokes or closes
+abbrev pub IsTurns : Call → Type 0
+IsTurns (Open opening) = ⊥
+IsTurns (Keep channel number claims) = ⊥
+IsTurns (Release channel batch) = ⊥
+IsTurns call = Unit {0}
+
+abbrev pub AreTurns : History → Type 0
+AreTurns entries = All (λ e. IsTurns e.call) entries
+
+-- a channel's thread made no other calls
+abbrev pub MakesTurns : PlayedLine → Type 0
+MakesTurns p = AreTurns (calls_in p.a) × AreTurns (calls_in p.b)
+
+-- What threads leave of two books with these histories: both go on from them. Each channel's updates, signatures, deliveries and closes were played in order, each with the book's own reply at a
+-- beginning of the book that is left, and each accepted one is an entry there. All other later entries are keeps and releases.
+pub record IsRun (a b : History) (channels : ℕ) (events : List Event) (r : Report) : Type 0 where
+  pub a_left : IsLeft a r.a
+  pub b_left : IsLeft b r.b
+  pub lines : List PlayedLine
+  pub played : AreAllPlayed a b channels events lines
+  pub counts : map (λ p. p.counts) lines ≡ r.channels.items
+  pub entered : All IsCounted lines
+  pub turns : All MakesTurns lines
+  pub a_threads : IsOfThreads a r.a (ends_a lines)
+  pub b_threads : IsOfThreads b r.b (ends_b lines)
+
+-- the run of a scenario's events over the two books with which its world begins; each turn is counted once
 pub record IsReport (scenario : Scenario) (report : Report) : Type 0 where
   pub world : World
   pub begins : IsBeginning scenario.seeds scenario.channels world
-  pub a : IsLeft world.a.history report.a
-  pub b : IsLeft world.b.history report.b
-  pub played : AreAllPlayed world.a.history world.b.history (length scenario.channels) scenario.events report.channels.items
+  pub run : IsRun world.a.history world.b.history (length scenario.channels) scenario.events report
   pub counted : map total_of report.channels.items ≡ all_turns (length scenario.channels) scenario.events

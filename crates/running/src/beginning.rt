@@ -3,7 +3,7 @@
 ghost use Rattle.std.specs.Prelude.{◌≡◌, ◌<◌, ◌≤◌, IfOk, map};
 ghost use Rattle.book.specs.Books.{replay, fundings_of};
 ghost use Rattle.desk.specs.Histories.{first_seat};
-ghost use Rattle.desk.specs.Seats.{AreSeats};
+ghost use Rattle.desk.specs.Seats.{AreSeats, EndsWithLast};
 ghost use Rattle.running.specs.Beginning.{IsBegun, IsOpened};
 ghost use Rattle.running.specs.Crews.{payments_in};
 
@@ -26,7 +26,7 @@ use world::{BooksAndChain, World};
 #[derive(Drop)]
 pub(crate) struct Opened {
     pub(crate) office: Office,
-    /// The seat that closes the desk once all threads have ended.
+    /// The desk's last seat, which closes it once all threads have ended.
     pub(crate) closer: Seat,
     pub(crate) stock: Stock,
 }
@@ -94,7 +94,8 @@ fn desk_over<R: Wait>(
 ) -> Result<(Desk, Vec<Seat>), AllocError>
     requires some { 0 < seats }
     requires numbers { first_seat book ≤ 1 }
-    ensures { IfOk result (λ r. AreSeats r.0 book (first_seat book) seats r.1.items) }
+    ensures seats { IfOk result (λ r. AreSeats r.0 book (first_seat book) seats r.1.items) }
+    ensures last { IfOk result (λ r. EndsWithLast r.1.items) }
 {
     match Desk::new(rt, alloc, book, seats) {
         Ok(made) => Ok(made),

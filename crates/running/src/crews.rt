@@ -3,7 +3,7 @@
 ghost use Rattle.std.specs.Prelude.{◌≡◌, ◌+◌, ◌*◌, ◌<◌, ◌≤◌, All, IfOk, OnOk, length, map};
 ghost use Rattle.std.specs.List.{range_with_len};
 ghost use Rattle.board.specs.Seats as board_seats;
-ghost use Rattle.running.specs.Crews.{IsOwnSeat, IsStock, IsWorker, IsWatcher, IsMember, IsEnd, IsLine, IsPlayer, IsCrew};
+ghost use Rattle.running.specs.Crews.{IsOwnSeat, IsStock, IsUnused, IsWorker, IsWatcher, IsMember, IsEnd, IsLine, IsNewPlayer, IsCrew};
 ghost use Rattle.desk.specs.Seats.{opening_in};
 ghost use Rattle.running.specs.Playing.{IsFirstEnd, IsFirstLineIn};
 
@@ -82,7 +82,8 @@ fn one_worker(
 ) -> Result<Worker, AllocError>
     requires stock { IsStock office.now closer.now stock.old × (0 < length stock.old.seats.items) }
     requires place { board_seats.IsSeatOf board.now place }
-    ensures worker { IfOk result (IsWorker office.now board.now) }
+    ensures worker { IfOk result (λ w. IsWorker office.now board.now w
+        × IsUnused w.hands.seat) }
     ensures stock { IsStock office.now closer.now stock.new }
     ensures left { OnOk result (length stock.new.seats.items + 1
         ≡ length stock.old.seats.items) }
@@ -138,7 +139,7 @@ fn watcher_of(
 ) -> Result<Watcher, AllocError>
     requires stock { IsStock office.now closer.now stock.old × (0 < length stock.old.seats.items) }
     requires place { board_seats.IsSeatOf board.now place }
-    ensures watcher { IfOk result (IsWatcher office.now board.now) }
+    ensures watcher { IfOk result (λ w. IsWatcher office.now board.now w × IsUnused w.seat) }
     ensures stock { IsStock office.now closer.now stock.new }
     ensures left { OnOk result (length stock.new.seats.items + 1
         ≡ length stock.old.seats.items) }
@@ -277,7 +278,7 @@ fn player_of(
     requires a { IsStock house.now.a closers.now.a a.old × (0 < length a.old.seats.items) }
     requires b { IsStock house.now.b closers.now.b b.old × (0 < length b.old.seats.items) }
     requires place { board_seats.IsSeatOf house.now.board place }
-    ensures { IsPlayer house.now result }
+    ensures { IsNewPlayer house.now result }
 {
     Player {
         a: next_seat(&house.a, &closers.a, &mut a.seats),

@@ -9,8 +9,11 @@
 //! The main contract is that of `run_node` (`IsReport` of `specs/Reports.antt`), for whatever the threads do in whatever
 //! order. Each book goes on from the one that was opened for its side. Each call in it was accepted, and no signature
 //! follows a revocation without the penalties kept between the two. Each claim in it is an accepted one. A channel's
-//! updates, signatures, deliveries and closes are played in order, each with the book's own reply, and counted once, as
-//! played or as refused. That a call returns, that threads run at once and that all jobs are done is not proved.
+//! updates, signatures, deliveries and closes are played in order, each with the reply of the book that is left, and
+//! counted once, as played or as refused; each that is played is an entry of its thread's. All other later entries are
+//! keeps and releases, each release of one claim to its side's key. That is known since the seats of all threads come
+//! home to those that close the desks. That a call returns, that threads run at once, that what is kept and released is
+//! what jobs ask for, and that all jobs are done is not proved.
 //!
 //! Where memory is refused a worker tries its job again, and a thread that puts a job puts it again, without a bound. So
 //! `run_node` does not return while memory stays refused there. Elsewhere a thread gives up, and the answer is that
@@ -30,6 +33,7 @@ mod beginning;
 mod counts;
 mod crews;
 mod ends;
+mod homes;
 mod houses;
 mod lines;
 mod players;

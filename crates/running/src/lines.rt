@@ -2,6 +2,7 @@
 
 ghost use Rattle.std.specs.Prelude.{◌≡◌, ◌+◌, ◌≤◌, IfOk};
 ghost use Rattle.running.specs.Crews.{IsLine};
+ghost use Rattle.running.specs.Homes.{IsLonePair};
 ghost use Rattle.running.specs.Acting.{IsTurn, Plays};
 ghost use Rattle.running.specs.Events.{turn_of, turn_in};
 ghost use Rattle.running.specs.Playing.{PlaysAll, IsPlayed};
@@ -10,6 +11,7 @@ use crate::acts::{Act, act_for};
 use crate::counts::Counts;
 use crate::ends::End;
 use crate::houses::House;
+use desk::Seat;
 use scenario::Event;
 use std::alloc::AllocError;
 use std::sync::Wait;
@@ -22,6 +24,16 @@ pub(crate) struct Line {
     pub(crate) channel: u64,
     pub(crate) a: End,
     pub(crate) b: End,
+}
+
+/// What a channel's thread gives back. No end of a queue is in it, so that the workers see that no job comes any more.
+#[derive(Drop)]
+pub(crate) struct PlayedLine {
+    pub(crate) counts: Counts,
+    /// Its seat at A's desk.
+    pub(crate) a: Seat,
+    /// Its seat at B's desk.
+    pub(crate) b: Seat,
 }
 
 /// What an event asks of the thread of a channel.
@@ -149,7 +161,8 @@ fn play_all<R: Wait>(
     line: &mut Line,
 ) -> Result<Counts, AllocError>
     requires { IsLine house.now line.old }
-    ensures { IfOk result (PlaysAll events.now line.old line.new) }
+    ensures line { IsLine house.now line.new }
+    ensures plays { IfOk result (PlaysAll events.now line.old line.new) }
 {
     let mut counts = Counts {
         played: 0,
@@ -165,19 +178,54 @@ fn play_all<R: Wait>(
     Ok(counts)
 }
 
-/// The same from a line of its own, which it lets go at the end.
-#[tactic(auto, using(crate::proofs::Playing::played_on))]
+// An end's seat. The rest is let go.
+fn seat_of(end: End) -> Seat
+    ensures { result ≡ end.seat }
+{
+    let End {
+        seat,
+        sender,
+        pass,
+        inbox,
+    } = end;
+    drop(sender);
+    drop(pass);
+    drop(inbox);
+    seat
+}
+
+// What a line gives back after its events were played, to these counts.
+fn given_back(line: Line, counts: Counts) -> PlayedLine
+    ensures counts { result.counts ≡ counts }
+    ensures a { result.a ≡ line.a.seat }
+    ensures b { result.b ≡ line.b.seat }
+{
+    let Line { a, b, .. } = line;
+    PlayedLine {
+        counts,
+        a: seat_of(a),
+        b: seat_of(b),
+    }
+}
+
+/// Plays the events of a channel from a line of its own, and gives its seats back. The only error is that memory ran out.
+#[tactic(auto, using(crate::proofs::Playing::gives_back, crate::proofs::Playing::lone_pair))]
 pub(crate) fn play_line<R: Wait>(
     rt: &R,
     house: &House,
     events: &[Event],
     mine: Line,
-) -> Result<Counts, AllocError>
+) -> Result<PlayedLine, AllocError>
     requires { IsLine house.now mine }
-    ensures { IfOk result (IsPlayed events.now mine) }
+    ensures played { IfOk result (IsPlayed events.now mine) }
+    ensures seats { IfOk result (IsLonePair house.now) }
 {
     let mut line = mine;
-    let counts = play_all(rt, house, events, &mut line);
-    drop(line);
-    counts
+    match play_all(rt, house, events, &mut line) {
+        Ok(counts) => Ok(given_back(line, counts)),
+        Err(error) => {
+            drop(line);
+            Err(error)
+        }
+    }
 }

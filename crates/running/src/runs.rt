@@ -1,21 +1,22 @@
 //! A whole run of a node.
 
-ghost use Rattle.std.specs.Prelude.{◌≡◌, ◌+◌, ◌*◌, ◌<◌, ◌≤◌, IfOk, All, length, map};
+ghost use Rattle.std.specs.Prelude.{◌≡◌, ◌+◌, ◌*◌, ◌<◌, ◌≤◌, Ok, IfOk, All, length, map};
 ghost use Rattle.board.specs.Seats as board_seats;
-ghost use Rattle.desk.specs.Histories.{calls_of};
-ghost use Rattle.desk.specs.Seats.{IsSeatOf, number_in, calls_in, opening_in, last_in};
-ghost use Rattle.running.specs.Beginning.{AreReady};
-ghost use Rattle.running.specs.Crews.{IsStock, IsMember, IsLine, IsPlayer, IsCrew};
-ghost use Rattle.running.specs.Playing.{IsPlayed, ArePlayed, AreAllPlayed};
-ghost use Rattle.running.specs.Reports.{IsLeft, IsReport};
+ghost use Rattle.desk.specs.Seats.{IsSeatOf, opening_in};
+ghost use Rattle.running.specs.Beginning.{IsOpened};
+ghost use Rattle.running.specs.Crews.{IsStock, IsMember, IsLine, IsNewPlayer, IsCrew, HasServed};
+ghost use Rattle.running.specs.Playing.{IsPlayed, ArePlayed};
+ghost use Rattle.running.specs.Homes.{IsClosedBy, IsLonePair, IsHandedBack, HavePlayed, HaveServed, HasReturned, seats_a, seats_b};
+ghost use Rattle.running.specs.Reports.{IsLeft, IsSettled, IsPlayedOut, IsRun, IsReport};
 
 use crate::beginning::{Opened, begin, open_side};
 use crate::counts::Counts;
 use crate::crews::{Crew, Stock, crew_of};
+use crate::homes::{PlayedEvents, Returned, all_home, counts_of};
 use crate::houses::{Closers, House, Office};
-use crate::lines::{Line, play_line};
+use crate::lines::{Line, PlayedLine, play_line};
 use crate::players::{Player, play_chain};
-use crate::staff::{Member, beside};
+use crate::staff::{Member, Served, beside};
 use crate::stages::Stage;
 use board::Board;
 use book::Book;
@@ -42,35 +43,20 @@ pub struct Report {
     pub channels: Vec<Counts>,
 }
 
-// ---- the end
-
-// The book of a side whose threads have ended. The seat that closes the desk makes no further call. That the book's claims were accepted is a clause of its entries.
-fn closed<R: Wait>(rt: &R, office: Office, closer: Seat) -> Book
-    requires { IsSeatOf office.desk closer }
-    ensures left { IsLeft (last_in closer) result }
-    ensures calls { calls_of (number_in closer) result ≡ calls_in closer }
-{
-    let mut closer = closer;
-    let Office { desk, .. } = office;
-    let book = desk.close(rt, &mut closer);
-    let _entries = book.entries();
-    book
-}
-
 // ---- the threads
 
-// The counts of all channels, unless memory ran out in one.
-fn counts_in(
+// What the threads of all channels give back, unless memory ran out in one.
+fn lines_in(
     alloc: Global,
-    played: Vec<Result<Counts, AllocError>>,
-) -> Result<Vec<Counts>, AllocError>
+    played: Vec<Result<PlayedLine, AllocError>>,
+) -> Result<Vec<PlayedLine>, AllocError>
     ensures { IfOk result (λ v. map Ok v.items ≡ played.items) }
 {
-    let mut counts = Vec::new(alloc);
+    let mut lines = Vec::new(alloc);
     for one in played {
-        counts.push(one?)?;
+        lines.push(one?)?;
     }
-    Ok(counts)
+    Ok(lines)
 }
 
 // Plays the events of all channels, each in a thread of its own if one can be made. The only error is that memory ran out.
@@ -80,22 +66,25 @@ fn play_lines<R: Threads + Wait + Sync>(
     house: &House,
     events: &[Event],
     lines: Vec<Line>,
-) -> Result<Vec<Counts>, AllocError>
+) -> Result<Vec<PlayedLine>, AllocError>
     requires { All (IsLine house.now) lines.items }
-    ensures { IfOk result (λ v. ArePlayed events.now lines.items v.items) }
+    ensures played { IfOk result (λ v. ArePlayed events.now lines.items v.items) }
+    ensures seats { IfOk result (λ v. All (IsLonePair house.now) v.items) }
 {
     let played = thread::map_vec(
         rt,
         lines,
-        &|line: Line| -> Result<Counts, AllocError>
+        &|line: Line| -> Result<PlayedLine, AllocError>
             requires { IsLine house.now line }
-            ensures { IfOk result (IsPlayed events.entry.now line) }
+            ensures { IfOk result (λ p. IsPlayed events.entry.now line p
+                × IsLonePair house.entry.now p) }
         { play_line(rt, house, events, line) },
     )?;
-    counts_in(alloc, played)
+    lines_in(alloc, played)
 }
 
 // Plays all events: first those of the channels, then those of the chain. The only error is that memory ran out.
+#[tactic(auto, using(crate::proofs::Same::handed_back))]
 fn play_events<R: Threads + Wait + Sync>(
     rt: &R,
     alloc: Global,
@@ -103,15 +92,26 @@ fn play_events<R: Threads + Wait + Sync>(
     events: &[Event],
     lines: Vec<Line>,
     player: Player,
-) -> Result<Vec<Counts>, AllocError>
+) -> Result<PlayedEvents, AllocError>
     requires lines { All (IsLine house.now) lines.items }
-    requires player { IsPlayer house.now player }
-    ensures { IfOk result (λ v. ArePlayed events.now lines.items v.items) }
+    requires player { IsNewPlayer house.now player }
+    ensures { IfOk result (HavePlayed house.now events.now lines.items) }
 {
     let mut player = player;
-    let counts = play_lines(rt, alloc, house, events, lines)?;
-    play_chain(rt, alloc, house, events, &mut player)?;
-    Ok(counts)
+    match play_lines(rt, alloc, house, events, lines) {
+        Ok(lines) => match play_chain(rt, alloc, house, events, &mut player) {
+            Ok(()) => Ok(PlayedEvents { lines, player }),
+            Err(error) => {
+                drop(lines);
+                drop(player);
+                Err(error)
+            }
+        },
+        Err(error) => {
+            drop(player);
+            Err(error)
+        }
+    }
 }
 
 // The same, beside the workers and the watcher of B. The error is that memory ran out, or that a thread could not be started.
@@ -124,11 +124,12 @@ fn play_beside_b<R: Threads + Wait + Sync, G: Gate + Sync>(
     staff: Vec<Member>,
     lines: Vec<Line>,
     player: Player,
-) -> Result<Vec<Counts>, AllocError>
+) -> Result<(PlayedEvents, Vec<Served>), AllocError>
     requires staff { All (IsMember house.now.b house.now.board) staff.items }
     requires lines { All (IsLine house.now) lines.items }
-    requires player { IsPlayer house.now player }
-    ensures { IfOk result (λ v. ArePlayed events.now lines.items v.items) }
+    requires player { IsNewPlayer house.now player }
+    ensures played { IfOk result (λ r. HavePlayed house.now events.now lines.items r.0) }
+    ensures staff { IfOk result (λ r. HaveServed house.now.b (length staff.items) r.1.items) }
 {
     beside(
         rt,
@@ -137,11 +138,11 @@ fn play_beside_b<R: Threads + Wait + Sync, G: Gate + Sync>(
         &house.b,
         gate,
         staff,
-        move || -> Result<Vec<Counts>, AllocError>
-            requires { All (IsLine house.now) lines.items × IsPlayer house.now player }
-            ensures { IfOk result (λ v. ArePlayed events.entry.now lines.items v.items) }
+        move || -> Result<PlayedEvents, AllocError>
+            requires { All (IsLine house.now) lines.items × IsNewPlayer house.now player }
+            ensures { IfOk result (HavePlayed house.entry.now events.entry.now lines.items) }
         { play_events(rt, alloc, house, events, lines, player) },
-    )?
+    )
 }
 
 // Runs all threads until each has ended. The error is that memory ran out, or that a thread could not be started.
@@ -152,9 +153,9 @@ fn run_crew<R: Threads + Wait + Sync, G: Gate + Sync>(
     events: &[Event],
     gate: &G,
     crew: Crew,
-) -> Result<Vec<Counts>, AllocError>
+) -> Result<Returned, AllocError>
     requires { IsCrew house.now crew }
-    ensures { IfOk result (λ v. ArePlayed events.now crew.lines.items v.items) }
+    ensures { IfOk result (HasReturned house.now events.now crew) }
 {
     let Crew {
         staff_a,
@@ -162,19 +163,27 @@ fn run_crew<R: Threads + Wait + Sync, G: Gate + Sync>(
         lines,
         player,
     } = crew;
-    beside(
+    match beside(
         rt,
         alloc,
         house,
         &house.a,
         gate,
         staff_a,
-        move || -> Result<Vec<Counts>, AllocError>
+        move || -> Result<(PlayedEvents, Vec<Served>), AllocError>
             requires { All (IsMember house.now.b house.now.board) staff_b.items
-                × All (IsLine house.now) lines.items × IsPlayer house.now player }
-            ensures { IfOk result (λ v. ArePlayed events.entry.now lines.items v.items) }
+                × All (IsLine house.now) lines.items × IsNewPlayer house.now player }
+            ensures { IfOk result (λ r. HavePlayed house.entry.now events.entry.now
+                lines.items r.0 × HaveServed house.entry.now.b (length staff_b.items) r.1.items) }
         { play_beside_b(rt, alloc, house, events, gate, staff_b, lines, player) },
-    )?
+    ) {
+        Ok(((played, staff_b), staff_a)) => Ok(Returned {
+            played,
+            staff_a,
+            staff_b,
+        }),
+        Err(error) => Err(error),
+    }
 }
 
 // Equips all threads of a house, and runs them. The error is that memory ran out, or that a thread could not be started.
@@ -190,7 +199,7 @@ fn run_house<R: Threads + Wait + Sync, G: Gate + Sync>(
     a: Stock,
     b: Stock,
     places: Vec<board::Seat>,
-) -> Result<Vec<Counts>, AllocError>
+) -> Result<Returned, AllocError>
     requires few { (channels ≤ 8) × (workers ≤ 16) }
     requires a { IsStock house.now.a closers.now.a a
         × (channels + workers + 2 ≤ length a.seats.items) }
@@ -198,50 +207,110 @@ fn run_house<R: Threads + Wait + Sync, G: Gate + Sync>(
         × (channels + workers + 2 ≤ length b.seats.items) }
     requires places { All (board_seats.IsSeatOf house.now.board) places.items
         × (2 * workers + 3 ≤ length places.items) }
-    ensures { IfOk result (λ v. AreAllPlayed (opening_in closers.now.a)
-        (opening_in closers.now.b) channels events.now v.items) }
+    ensures { IfOk result
+        (IsPlayedOut house.now closers.now channels workers events.now) }
 {
     let crew = crew_of(alloc, house, closers, a, b, places, channels, workers)?;
     run_crew(rt, alloc, house, events, gate, crew)
 }
 
-// ---- the whole
+// ---- the end
 
-// What the sides leave whose threads have ended. The only error is that a watcher gave up, since memory ran out.
-fn report_of<R: Wait>(
-    rt: &R,
-    house: House,
-    closers: Closers,
-    channels: Vec<Counts>,
-) -> Result<Report, AllocError>
+// The book of a side whose threads have ended. The seat that closes the desk makes no further call. That the book's claims were accepted is a clause of its entries.
+fn closed<R: Wait>(rt: &R, office: Office, closer: Seat) -> Book
+    requires { IsSeatOf office.desk closer }
+    ensures left { IsLeft (opening_in closer) result }
+    ensures closed { IsClosedBy closer result }
+{
+    let mut closer = closer;
+    let Office { desk, .. } = office;
+    let book = desk.close(rt, &mut closer);
+    let _entries = book.entries();
+    book
+}
+
+// The two books and the height, once all seats are home to those that close the desks.
+fn report_with<R: Wait>(rt: &R, house: House, closers: Closers, channels: Vec<Counts>) -> Report
     requires a { IsSeatOf house.a.desk closers.a }
     requires b { IsSeatOf house.b.desk closers.b }
-    ensures a { IfOk result (λ r. IsLeft (last_in closers.a) r.a) }
-    ensures b { IfOk result (λ r. IsLeft (last_in closers.b) r.b) }
-    ensures channels { IfOk result (λ r. r.channels.items ≡ channels.items) }
+    ensures a { IsLeft (opening_in closers.a) result.a × IsClosedBy closers.a result.a }
+    ensures b { IsLeft (opening_in closers.b) result.b × IsClosedBy closers.b result.b }
+    ensures channels { result.channels.items ≡ channels.items }
 {
-    if house.stage.has_failed() {
-        drop(house);
-        drop(closers);
-        drop(channels);
-        return Err(AllocError);
-    }
     let House { a, b, stage, .. } = house;
     let Closers {
         a: closer_a,
         b: closer_b,
     } = closers;
     let height = stage.into_height();
-    Ok(Report {
+    Report {
         a: closed(rt, a, closer_a),
         b: closed(rt, b, closer_b),
         height,
         channels,
-    })
+    }
+}
+
+// What the sides leave, to whose closing seats all threads give their seats back.
+fn report_home<R: Wait>(
+    rt: &R,
+    house: House,
+    closers: Closers,
+    returned: Returned,
+    channels: Vec<Counts>,
+) -> Report
+    requires a { IsSeatOf house.a.desk closers.a }
+    requires b { IsSeatOf house.b.desk closers.b }
+    requires lines { All (IsLonePair house) returned.played.lines.items }
+    requires player { IsHandedBack house returned.played.player }
+    requires staff_a { All (HasServed house.a) returned.staff_a.items }
+    requires staff_b { All (HasServed house.b) returned.staff_b.items }
+    ensures a { IsSettled house.a closers.a (seats_a returned) result.a }
+    ensures b { IsSettled house.b closers.b (seats_b returned) result.b }
+    ensures channels { result.channels.items ≡ channels.items }
+{
+    let mut closers = closers;
+    all_home(&house, &mut closers, returned);
+    report_with(rt, house, closers, channels)
+}
+
+// The same with the counts that the channels' threads give back. The only error is that memory ran out, here or in a watcher.
+fn report_of<R: Wait>(
+    rt: &R,
+    alloc: Global,
+    house: House,
+    closers: Closers,
+    returned: Returned,
+) -> Result<Report, AllocError>
+    requires a { IsSeatOf house.a.desk closers.a }
+    requires b { IsSeatOf house.b.desk closers.b }
+    requires lines { All (IsLonePair house) returned.played.lines.items }
+    requires player { IsHandedBack house returned.played.player }
+    requires staff_a { All (HasServed house.a) returned.staff_a.items }
+    requires staff_b { All (HasServed house.b) returned.staff_b.items }
+    ensures a { IfOk result (λ r. IsSettled house.a closers.a (seats_a returned) r.a) }
+    ensures b { IfOk result (λ r. IsSettled house.b closers.b (seats_b returned) r.b) }
+    ensures channels { IfOk result (λ r. map (λ p. p.counts) returned.played.lines.items
+        ≡ r.channels.items) }
+{
+    if house.stage.has_failed() {
+        drop(house);
+        drop(closers);
+        drop(returned);
+        return Err(AllocError);
+    }
+    match counts_of(alloc, &returned.played.lines) {
+        Ok(counts) => Ok(report_home(rt, house, closers, returned, counts)),
+        Err(error) => {
+            drop(house);
+            drop(closers);
+            drop(returned);
+            Err(error)
+        }
+    }
 }
 
 // Runs a node whose sides are opened. The error is that memory ran out, or that a thread could not be started.
-#[tactic(auto, using(crate::proofs::Reported::all_kept))]
 fn run_sides<R: Threads + Wait + Sync, G: Gate + Sync>(
     rt: &R,
     alloc: Global,
@@ -254,12 +323,9 @@ fn run_sides<R: Threads + Wait + Sync, G: Gate + Sync>(
     chain: Index,
 ) -> Result<Report, AllocError>
     requires few { (channels ≤ 8) × (workers ≤ 16) }
-    requires a { AreReady a × (channels + workers + 2 ≤ length a.stock.seats.items) }
-    requires b { AreReady b × (channels + workers + 2 ≤ length b.stock.seats.items) }
-    ensures a { IfOk result (λ r. IsLeft (last_in a.closer) r.a) }
-    ensures b { IfOk result (λ r. IsLeft (last_in b.closer) r.b) }
-    ensures played { IfOk result (λ r. AreAllPlayed (opening_in a.closer) (opening_in b.closer)
-        channels events.now r.channels.items) }
+    requires a { IsOpened (opening_in a.closer) (channels + workers + 3) a }
+    requires b { IsOpened (opening_in b.closer) (channels + workers + 3) b }
+    ensures { IfOk result (IsRun (opening_in a.closer) (opening_in b.closer) channels events.now) }
 {
     match Board::new(alloc, 2 * workers + 3) {
         Ok((board, places)) => {
@@ -287,7 +353,7 @@ fn run_sides<R: Threads + Wait + Sync, G: Gate + Sync>(
                 rt, alloc, &house, &closers, events, channels, workers, gate, stock_a, stock_b,
                 places,
             ) {
-                Ok(counts) => report_of(rt, house, closers, counts),
+                Ok(returned) => report_of(rt, alloc, house, closers, returned),
                 Err(error) => {
                     drop(house);
                     drop(closers);
@@ -312,6 +378,7 @@ fn run_sides<R: Threads + Wait + Sync, G: Gate + Sync>(
 ///
 /// The error is that memory ran out, or that a thread could not be started. All threads have ended when it returns. A worker that is refused memory tries its job again, and a
 /// thread that puts a job puts it again, without a bound: while memory stays refused there, the call does not return.
+#[tactic(auto, using(crate::proofs::Reported::as_opened))]
 pub fn run_node<R: Threads + Wait + Sync, G: Gate + Sync>(
     rt: &R,
     alloc: Global,

@@ -1,6 +1,7 @@
 //! The threads of a side's workers and watcher.
 
-ghost use Rattle.std.specs.Prelude.{All, IfOk};
+ghost use Rattle.std.specs.Prelude.{◌≡◌, ◌≤◌, [], All, Ok, IfOk, length};
+ghost use Rattle.std.specs.Vec.{vec_capacity};
 ghost use Rattle.running.specs.Crews.{IsMember, HasServed};
 
 use crate::houses::{House, Office};
@@ -11,7 +12,7 @@ use node::{Done, Gate, Hands};
 use std::alloc::{AllocError, Global};
 use std::sync::Wait;
 use std::thread;
-use std::thread::Threads;
+use std::thread::{Promise, PromisedHandle, Threads};
 
 /// What the thread of a worker or of a watcher has of its own.
 #[derive(Drop)]
@@ -27,7 +28,18 @@ pub(crate) enum Served {
     Watched(Seat),
 }
 
+// What the result of such a thread keeps, at a side.
+#[derive(Drop)]
+struct Serving<'a>(&'a Office);
+
+impl<'a> Promise<Served> for Serving<'a> {
+    ghost use Rattle.running.specs.Crews.{HasServed};
+
+    ghost kept_by = { λ serving served. HasServed serving.0.now served };
+}
+
 // Works, or watches.
+#[tactic(auto, using(crate::proofs::Serving::watched))]
 fn serve<R: Wait, G: Gate>(
     rt: &R,
     alloc: Global,
@@ -37,7 +49,7 @@ fn serve<R: Wait, G: Gate>(
     mine: Member,
 ) -> Served
     requires { IsMember office.now house.now.board mine }
-    ensures { HasServed office.now mine result }
+    ensures { HasServed office.now result }
 {
     match mine {
         Member::Works(worker) => {
@@ -48,7 +60,29 @@ fn serve<R: Wait, G: Gate>(
     }
 }
 
-/// Runs the workers and the watcher of a side beside `f`, and then until each of them has ended. The error is that one could not be started; then `f` is not called.
+// What these threads give back, once each has ended. The list has room for it.
+fn joined<R: Threads>(
+    rt: &R,
+    office: &Office,
+    threads: Vec<PromisedHandle<Served, Serving<'_>>>,
+    served: Vec<Served>,
+) -> Vec<Served>
+    requires threads { All (λ t. t.promise.0.now ≡ office.now) threads.items }
+    requires room { length threads.items ≤ vec_capacity served }
+    requires none { served.items ≡ [] }
+    ensures each { All (HasServed office.now) result.items }
+    ensures many { length result.items ≡ length threads.entry.items }
+{
+    let _office = office;
+    let mut served = served;
+    for thread in threads {
+        served.push_reserved(thread.join(rt));
+    }
+    served
+}
+
+/// Runs the workers and the watcher of a side beside `f`, and then until each of them has ended. Gives back what `f` and they do. The error is that of `f`, or that memory ran out, or that one
+/// of them could not be started; then `f` is not called.
 pub(crate) fn beside<R, G, T, F>(
     rt: &R,
     alloc: Global,
@@ -57,39 +91,57 @@ pub(crate) fn beside<R, G, T, F>(
     gate: &G,
     staff: Vec<Member>,
     f: F,
-) -> Result<T, AllocError>
+) -> Result<(T, Vec<Served>), AllocError>
 where
     R: Threads + Wait + Sync,
     G: Gate + Sync,
     T: Drop,
-    F: FnOnce() -> T,
+    F: FnOnce() -> Result<T, AllocError>,
     requires staff { All (IsMember office.now house.now.board) staff.items }
     requires callable { F.pre f }
-    ensures { IfOk result (F.post f) }
+    ensures value { IfOk result (λ r. F.post f (Ok r.0)) }
+    ensures each { IfOk result (λ r. All (HasServed office.now) r.1.items) }
+    ensures many { IfOk result (λ r. length r.1.items ≡ length staff.items) }
 {
     thread::scope(
         thread::scope_env(),
         rt,
-        move |scope| -> Result<T, AllocError>
+        move |scope| -> Result<(T, Vec<Served>), AllocError>
             requires { All (IsMember office.now house.now.board) staff.items × F.pre f }
-            ensures { IfOk result (F.post f) }
+            ensures { IfOk result (λ r. F.post f (Ok r.0)
+                × All (HasServed office.entry.now) r.1.items
+                × (length r.1.items ≡ length staff.items)) }
         {
+            let many = staff.len();
+            let mut threads = Vec::with_capacity(alloc, many)?;
+            let served = Vec::with_capacity(alloc, many)?;
             for mine in staff {
-                if scope
-                    .spawn(
-                        move || -> Served
-                            requires { IsMember office.now house.now.board mine }
-                        { serve(rt, alloc, house, office, gate, mine) },
-                    )
-                    .is_err()
-                {
-                    house.stage.end(rt);
-                    return Err(AllocError);
+                match scope.spawn_with(
+                    Serving(office),
+                    move || -> Served
+                        requires { IsMember office.now house.now.board mine }
+                        ensures { HasServed office.entry.now result }
+                    { serve(rt, alloc, house, office, gate, mine) },
+                ) {
+                    Ok(thread) => threads.push_reserved(thread),
+                    Err(_) => {
+                        house.stage.end(rt);
+                        return Err(AllocError);
+                    }
                 }
             }
+            let is_each_started = threads.len() == many;
+            prove!(is_each_started);
             let value = f();
             house.stage.end(rt);
-            Ok(value)
+            let served = joined(rt, office, threads, served);
+            match value {
+                Ok(value) => Ok((value, served)),
+                Err(error) => {
+                    drop(served);
+                    Err(error)
+                }
+            }
         },
     )
 }

@@ -1,6 +1,7 @@
 //! The threads of workers.
 
 ghost use Rattle.std.specs.Prelude.{IfSome};
+ghost use Rattle.desk.specs.Seats.{IsSeatOf};
 ghost use Rattle.node.specs.Work.{IsWork};
 ghost use Rattle.running.specs.Crews.{IsWorker};
 
@@ -55,6 +56,7 @@ pub(crate) fn work<R: Wait, G: Gate>(
     mine: Worker,
 ) -> (Done, Hands)
     requires { IsWorker office.now house.now.board mine }
+    ensures seat { IsSeatOf office.now.desk result.1.seat }
     ensures work { IsWork office.now.payments.items mine.hands result.1 result.0 }
     ensures stopped { IfSome result.0.stopped (G.stops gate.now) }
 {

@@ -17,5 +17,5 @@ loop-index-preserved g c =
           (omega arith) refl is.channel is.plays refl was.plays;
     }
 
-pub returns : goal.returns
-returns g c = all_played c.args.events.now c.loop-index.index c.args.line.now c.loop-index.line c.loop-index.counts (omega arith) c.loop-index.invariant.plays
+pub returns-clause-plays : goal.returns-clause-plays
+returns-clause-plays g c = all_played c.args.events.now c.loop-index.index c.args.line.now c.loop-index.line c.loop-index.counts (omega arith) c.loop-index.invariant.plays

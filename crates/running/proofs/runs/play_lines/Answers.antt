@@ -1,25 +1,45 @@
-use Rattle.std.proofs.Common.{◌≡◌, ℕ, ◌<◌, List, length, map, get_or, Result, Ok, sym, ap, ◌∙◌, subst, arith}
+use Rattle.std.proofs.Common.{◌≡◌, ℕ, ◌<◌, List, All, length, map, get_or, Result, Ok, sym, ap, ◌∙◌, subst, arith}
 use Rattle.std.specs.declared.alloc.AllocError.{AllocError}
 use Rattle.std.specs.Prelude.{IfOk}
 use Rattle.std.proofs.lemmas.Result.{IfOk-weaker}
 use Rattle.std.proofs.lemmas.List.{length-map}
 use Rattle.running.specs.declared.lines.Line.{Line}
-use Rattle.running.specs.declared.counts.Counts.{Counts}
+use Rattle.running.specs.declared.lines.PlayedLine.{PlayedLine}
 use Rattle.running.specs.Playing.{IsPlayed, ArePlayed}
-use Rattle.running.proofs.Playing.{played_each}
+use Rattle.running.specs.Homes.{IsLonePair}
+use Rattle.running.proofs.Playing.{played_each, lone_each}
 use Rattle.running.proofs.runs.play_lines.Goals as goal
 
-pub returns : goal.returns
-returns g c =
+pub returns-clause-played : goal.returns-clause-played
+returns-clause-played g c =
     let events = c.args.events.now in
+    let house = c.args.house.now in
     let lines = c.args.lines.items in
     let played = c.in_ok-played.played.items in
-    let each : (i : ℕ) (d : Result Counts AllocError) (l : Line) → i < length lines → IfOk (get_or played i d) (IsPlayed events (get_or lines i l))
+    let each : (i : ℕ) (d : Result PlayedLine AllocError) (l : Line) → i < length lines → IfOk (get_or played i d) (IsPlayed events (get_or lines i l))
     = λ i d l low.
     let one = (c.in_ok-played.ensures.each i d low).1 in
-    subst (λ (x : Line). IfOk (get_or played i d) (IsPlayed events x)) (sym (one.job_is l)) one.call.met in
+    subst (λ (x : Line). IfOk (get_or played i d) (IsPlayed events x)) (sym (one.job_is l))
+    (IfOk-weaker (get_or played i d) (λ p. IsPlayed events one.job p × IsLonePair house p) (IsPlayed events one.job) (λ p both. both.0) one.call.met) in
     let many : length played ≡ length lines = omega (arith, c.in_ok-played.ensures.len, c.in_ok-played.played.ok.0, c.args.lines.ok.0) in
-    IfOk-weaker c.counts_in.result (λ v. map Ok v.items ≡ played) (λ v. ArePlayed events lines v.items)
+    IfOk-weaker c.lines_in.result (λ v. map Ok v.items ≡ played) (λ v. ArePlayed events lines v.items)
     (λ v is. played_each events lines v.items (sym (length-map v.items Ok) ∙ ap length is ∙ many)
-    (λ i d l low. subst (λ (rs : List (Result Counts AllocError)). IfOk (get_or rs i d) (IsPlayed events (get_or lines i l))) (sym is) (each i d l low)))
-    c.counts_in.ensures
+    (λ i d l low. subst (λ (rs : List (Result PlayedLine AllocError)). IfOk (get_or rs i d) (IsPlayed events (get_or lines i l))) (sym is) (each i d l low)))
+    c.lines_in.ensures
+
+pub returns-clause-seats : goal.returns-clause-seats
+returns-clause-seats g c =
+    let events = c.args.events.now in
+    let house = c.args.house.now in
+    let lines = c.args.lines.items in
+    let played = c.in_ok-played.played.items in
+    let many : length played ≡ length lines = omega (arith, c.in_ok-played.ensures.len, c.in_ok-played.played.ok.0, c.args.lines.ok.0) in
+    let each : (i : ℕ) (d : Result PlayedLine AllocError) → i < length played → IfOk (get_or played i d) (IsLonePair house)
+    = λ i d low.
+    let one = (c.in_ok-played.ensures.each i d (omega (arith, low, many))).1 in
+    IfOk-weaker (get_or played i d) (λ p. IsPlayed events one.job p × IsLonePair house p) (IsLonePair house) (λ p both. both.1) one.call.met in
+    IfOk-weaker c.lines_in.result (λ v. map Ok v.items ≡ played) (λ v. All (IsLonePair house) v.items)
+    (λ v is. lone_each house v.items
+    (λ i d low. subst (λ (rs : List (Result PlayedLine AllocError)). IfOk (get_or rs i d) (IsLonePair house)) (sym is)
+    (each i d (let long : length v.items ≡ length played = sym (length-map v.items Ok) ∙ ap length is in omega (arith, low, long)))))
+    c.lines_in.ensures

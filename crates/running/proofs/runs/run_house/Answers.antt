@@ -1,11 +1,20 @@
+use Rattle.std.proofs.Common.{ℕ, subst}
 use Rattle.std.proofs.lemmas.Result.{IfOk-weaker}
-use Rattle.desk.specs.Seats.{opening_in}
-use Rattle.running.specs.Playing.{ArePlayed, AreAllPlayed}
+use Rattle.running.specs.Homes.{HaveServed, HasReturned}
+use Rattle.running.specs.Reports.{IsPlayedOut}
 use Rattle.running.proofs.runs.run_house.Goals as goal
 
 pub returns : goal.returns
 returns g c =
-    let lines = c.in_ok-crew.crew.lines.items in
-    let closers = c.args.closers.now in
-    IfOk-weaker c.run_crew.result (λ v. ArePlayed c.args.events.now lines v.items) (λ v. AreAllPlayed (opening_in closers.a) (opening_in closers.b) c.args.channels c.args.events.now v.items)
-    (λ v is. record { lines = lines; numbers = c.in_ok-crew.ensures.channels; first = c.in_ok-crew.ensures.first; played = is }) c.run_crew.ensures
+    let house = c.args.house.now in
+    let crew = c.in_ok-crew.crew in
+    let is = c.in_ok-crew.ensures in
+    IfOk-weaker c.run_crew.result (HasReturned house c.args.events.now crew) (IsPlayedOut house c.args.closers.now c.args.channels c.args.workers c.args.events.now)
+    (λ r back. record {
+      played = record { lines = crew.lines.items; numbers = is.channels; first = is.first; each = back.played.each };
+      lines = back.played.seats;
+      player = back.played.player;
+      staff_a = subst (λ (n : ℕ). HaveServed house.a n r.staff_a.items) is.many_a back.staff_a;
+      staff_b = subst (λ (n : ℕ). HaveServed house.b n r.staff_b.items) is.many_b back.staff_b;
+    })
+    c.run_crew.ensures

@@ -1,0 +1,83 @@
+-- A channel's thread steps, signs, revokes and closes, and makes no other call.
+use Rattle.std.proofs.Common.{◌≡◌, ℕ, Bool, true, false, List, [], All, Option, Some, None, sym, subst}
+use Rattle.std.specs.Prelude.{slice_get}
+use Rattle.std.proofs.lemmas.List.Elements.{All-nil, All-cons, All-head, All-tail, All-push}
+use Rattle.channel.specs.declared.messages.Message.{Message}
+use Rattle.channel.specs.declared.messages.Message.TheVariants.{Step as StepMessage, RevokeAndAck}
+use Rattle.channel.specs.Tokens.{peer_tokens}
+use Rattle.terms.specs.declared.sides.Side.{Side}
+use Rattle.terms.specs.declared.sides.Side.TheVariants as sides
+use Rattle.scenario.specs.declared.events.Event.{Event}
+use Rattle.book.specs.declared.calls.Entry.{Entry}
+use Rattle.book.specs.declared.calls.Call.{Call}
+use Rattle.book.specs.declared.calls.Call.TheVariants.{Step as Stepping, Sign as Signing, Close as Closing}
+use Rattle.book.specs.declared.calls.Step.TheVariants.{Own}
+use Rattle.book.specs.Replies.{Reply, is_accepted, reply_of, extended}
+use Rattle.desk.specs.Histories.{History}
+use Rattle.desk.specs.declared.desk.Seat.{Seat}
+use Rattle.desk.specs.Seats.{number_in, calls_in}
+use Rattle.side.specs.Acts.{call_of}
+use Rattle.running.specs.declared.acts.Act.{Act}
+use Rattle.running.specs.declared.acts.Act.TheVariants.{Update, Sign, Deliver, Close}
+use Rattle.running.specs.declared.ends.End.{End}
+use Rattle.running.specs.declared.lines.Line.{Line}
+use Rattle.running.specs.declared.lines.PlayedLine.{PlayedLine}
+use Rattle.running.specs.declared.lines.Turn.{Turn}
+use Rattle.running.specs.declared.counts.Counts.{Counts}
+use Rattle.running.specs.Events.{turn_in}
+use Rattle.running.specs.Acting.{IsOwnReply, IsMade, IsDelivered, IsActed, IsTurnOf, Plays}
+use Rattle.running.specs.Playing.{PlaysAll, IsPlayed, ArePlayed, IsFirstLine}
+use Rattle.running.specs.Reports.{IsTurns, AreTurns, MakesTurns}
+
+more_turns : (b : Bool) (h : History) (n : ℕ) (call : Call) → IsTurns call → AreTurns h → AreTurns (extended b h n call)
+more_turns true h n call is all = All-push (λ (e : Entry). IsTurns e.call) h (record { seat = n; call = call }) all is
+more_turns false h n call is all = all
+
+own_turns : (call : Call) (s t : Seat) (reply : Reply) → IsTurns call → IsOwnReply call s t reply → AreTurns (calls_in s) → AreTurns (calls_in t)
+own_turns call s t reply turns is all = subst AreTurns (sym is.calls) (more_turns (is_accepted (reply_of peer_tokens is.history call)) (calls_in s) (number_in s) call turns all)
+
+message_turns : (channel : ℕ) (message : Message) → IsTurns (call_of channel message)
+message_turns channel (StepMessage step) = tt
+message_turns channel (RevokeAndAck revocation) = tt
+
+made_turns : (call : Call) (e f : End) (inbox newer : List Message) (done : Bool) → IsTurns call → IsMade call e f inbox newer done → AreTurns (calls_in e.seat) → AreTurns (calls_in f.seat)
+made_turns call e f inbox newer done turns is all = own_turns call e.seat f.seat is.sent.reply turns is.sent.answered all
+
+delivered_turns : (channel : ℕ) (m : Option Message) (e f : End) (inbox newer : List Message) (done : Bool) → IsDelivered channel m e f inbox newer done → AreTurns (calls_in e.seat) → AreTurns (calls_in f.seat)
+delivered_turns channel None e f inbox newer done is all = subst (λ (x : End). AreTurns (calls_in x.seat)) (sym is.same) all
+delivered_turns channel (Some message) e f inbox newer done is all = own_turns (call_of channel message) e.seat f.seat is.reply (message_turns channel message) is.answered all
+
+acted_turns : (channel : ℕ) (act : Act) (e f : End) (inbox newer : List Message) (done : Bool) → IsActed channel act e f inbox newer done → AreTurns (calls_in e.seat) → AreTurns (calls_in f.seat)
+acted_turns channel (Update u) e f inbox newer done is all = made_turns (Stepping channel (Own u)) e f inbox newer done tt is all
+acted_turns channel Sign e f inbox newer done is all = made_turns (Signing channel) e f inbox newer done tt is all
+acted_turns channel Deliver e f inbox newer done is all = delivered_turns channel (slice_get e.inbox.items 0) e f inbox newer done is all
+acted_turns channel Close e f inbox newer done is all = made_turns (Closing channel) e f inbox newer done tt is all
+
+abbrev LineTurns : Line → Type 0
+LineTurns l = AreTurns (calls_in l.a.seat) × AreTurns (calls_in l.b.seat)
+
+turn_turns : (side : Side) (act : Act) (l m : Line) (done : Bool) → IsTurnOf side act l m done → LineTurns l → LineTurns m
+turn_turns sides.A act l m done is all = (acted_turns l.channel act l.a m.a l.b.inbox.items m.b.inbox.items done is.acted all.0, subst (λ (s : Seat). AreTurns (calls_in s)) (sym is.seat) all.1)
+turn_turns sides.B act l m done is all = (subst (λ (s : Seat). AreTurns (calls_in s)) (sym is.seat) all.0, acted_turns l.channel act l.b m.b l.a.inbox.items m.a.inbox.items done is.acted all.1)
+
+plays_turns : (t : Option Turn) (l m : Line) (k : Counts) → Plays t l m k → LineTurns l → LineTurns m
+plays_turns None l m k is all = subst LineTurns (sym is.0) all
+plays_turns (Some turn) l m k (done, turned, is) all = turn_turns turn.side turn.act l m done turned all
+
+all_turns_made : (es : List Event) (l m : Line) (k : Counts) → PlaysAll es l m k → LineTurns l → LineTurns m
+all_turns_made es l m k (PlaysAll.none_left line) all = all
+all_turns_made es l m k (PlaysAll.played e rest first between last counts more same one others) all =
+    all_turns_made rest between last more others (plays_turns (turn_in first.channel e) first between counts one all)
+
+none_made : (s : Seat) → calls_in s ≡ [] → AreTurns (calls_in s)
+none_made s none = subst AreTurns (sym none) (All-nil (λ (e : Entry). IsTurns e.call))
+
+line_makes : (a b : History) (events : List Event) (l : Line) (p : PlayedLine) → IsFirstLine a b l → IsPlayed events l p → MakesTurns p
+line_makes a b events l p first is =
+    let all = all_turns_made events l is.after p.counts is.all (none_made l.a.seat first.a_first.calls, none_made l.b.seat first.b_first.calls) in
+    (subst (λ (s : Seat). AreTurns (calls_in s)) (sym is.a) all.0, subst (λ (s : Seat). AreTurns (calls_in s)) (sym is.b) all.1)
+
+pub each_makes : (a b : History) (events : List Event) (lines : List Line) (played : List PlayedLine) → All (IsFirstLine a b) lines → ArePlayed events lines played → All MakesTurns played
+each_makes a b events lines played first ArePlayed.no_more = All-nil MakesTurns
+each_makes a b events lines played first (ArePlayed.one_more l ls p ps is others) =
+    All-cons MakesTurns p ps (line_makes a b events l p (All-head (IsFirstLine a b) l ls first) is) (each_makes a b events ls ps (All-tail (IsFirstLine a b) l ls first) others)
