@@ -147,7 +147,7 @@ class Channel:
 
     def told(self, index):
         return {
-            "channel": index, "funding": self.funding, "side": self.side, "opener": self.terms["opener"], "capacity": self.terms["capacity"],
+            "channel": index, "funding": self.funding, "explorer": bytes.fromhex(self.funding.split(":")[0])[::-1].hex(), "side": self.side, "opener": self.terms["opener"], "capacity": self.terms["capacity"],
             "peer_delay": self.terms["delay"][self.index(1)],
             **({} if self.closed is None else {"closed": self.closed}),
             "ours": self.commitment(len(self.ours) - 1, self.ours[-1]),

@@ -4,10 +4,11 @@
   bench/traces.py            compares crates/trace/stdin and crates/trace/stdout with it; status 1 where they differ
   bench/traces.py --write    writes them
 
-A page shows a listing as './enforce paths HEX' with its output. The opcodes, what pushes look like, sentences and weights are computed here by rules of this file's own, from
-BIP 141, 144 and 65, 68, 112 and docs/TRACE_SCRIPT.md.
+A page shows a listing as './enforce paths HEX' with its output, notes too. The opcodes, what pushes and scripts look like, programs, sentences, weights, what a witness has and who can take what it
+spends are computed here by rules of this file's own, from BIP 16, 141, 144, 174, 341 and 65, 68, 112 and docs/TRACE_SCRIPT.md.
 """
 import glob
+import hashlib
 import json
 import os
 import re
@@ -55,11 +56,37 @@ LISTED = {
     "01000000": [],
     "63" * 3 + "68" * 3: None,
 }
+ANYONE = "anyone can spend by path 0: no signature of a key that the script fixes is asked for"
+FINDER = "whoever sees such a witness can spend too by path {}: what has a given hash is asked for, and no signature of a key that the script fixes"
+NONE = "no witness satisfies the script by the rules of this profile: each branch ends as in consensus"
+# what enforce notes of the scripts above
+NOTES = {
+    **{it: [ANYONE] for it in [*SIZES, NUMBERS, FEW_KEYS, "", "0181", "01ff75", "02ff0075", "4b" + "00" * 75 + "75"]},
+    HASHED: [FINDER.format("0")],
+    TRUE: [FINDER.format("0, 1")],
+    BYTES: [ANYONE],
+    MANY_KEYS: ["the script has 182 counted opcodes: with the keys of the CHECKMULTISIGs on a path there are more than 201"],
+    "6351": ["the IF or NOTIF at opcode 0 has no ENDIF"],
+    "5193": ["byte 1 is 93, OP_ADD in Bitcoin, which is not in the table", "pushed before it: the number 1 at byte 0"],
+    "5102ff": ["the push at byte 1 wants 2 bytes, and 1 follow", "pushed before it: the number 1 at byte 0"],
+    "0g": ["byte 1 of the text is g, which is no hexadecimal digit"],
+    "00": [NONE],
+    "01000000": [NONE],
+    "67": ["the ELSE at opcode 0 has no IF"],
+    "68": ["the ENDIF at opcode 0 has no IF"],
+    "5167": ["the ELSE at opcode 1 has no IF"],
+    "63676768": ["the ELSE at opcode 2 is the second one of the IF or NOTIF at opcode 0: consensus takes it, and it can be written as a further IF"],
+    "51758282": ["opcode 3 is OP_SIZE: no rule decides it on what stands on the stack there, so the listing gives up: the script may be sound"],
+    "7675" * 101: ["the script has 202 counted opcodes, and at most 201 are allowed"],
+    "51" * 1001: ["a path needs more than 1000 entries on the stack: no run of it is clean"],
+    "636768" * 7: ["a 65th path begins, and at most 64 are listed"],
+    "51" * 10001: ["the script has 10001 bytes, and at most 10000 are allowed (BIP 141)"],
+}
 
 
 def shown():
-    """The scripts of the pages, each with its listing: the lines of its paths, or the refusal."""
-    found = {}
+    """The scripts of the pages, each with its listing: the lines of its paths, or the refusal; and the notes on each."""
+    found, noted = {}, {}
     for name in ["README.md", *sorted(glob.glob("docs/*.md"))]:
         with open(name, encoding="utf-8") as file:
             text = file.read()
@@ -68,11 +95,13 @@ def shown():
                 command, _, printed = part.partition("\n")
                 call = re.fullmatch(r"\./enforce paths ([0-9A-Za-z]+)(?:; echo .*)?", command)
                 lines = printed.splitlines()
+                if call:
+                    noted[call[1]] = [line[6:] for line in lines if line.startswith("note: ")]
                 if call and lines and lines[0].startswith("refused "):
                     found[call[1]] = lines[0][8:]
                 elif call and lines and lines[0].startswith("paths "):
                     found[call[1]] = [line for line in lines[1:] if line.startswith(("path ", "  "))]
-    return found
+    return found, noted
 
 
 def opcodes(script):
@@ -193,6 +222,55 @@ def weight(arity, facts, script, signature):
     return total
 
 
+def looks(script):
+    """What bytes look like that are no witness script."""
+    if script.startswith(b"psbt\xff"):
+        return "PSBT"
+    version, rest = script[:4], script[4:]
+    if len(script) >= 60 and version in (b"\1\0\0\0", b"\2\0\0\0", b"\3\0\0\0") and (rest[0] or rest[1] == 1):
+        return "transaction"
+    for name, pattern in (("P2PKH", "76a914(..){20}88ac"), ("P2SH", "a914(..){20}87"), ("P2PK", "4104(..){64}ac"), ("P2WPKH", "0014(..){20}"), ("P2WSH", "0020(..){32}"), ("P2TR", "5120(..){32}")):
+        if re.fullmatch(pattern, script.hex()):
+            return name
+    if 4 <= len(script) <= 42 and script[0] in (0, *range(0x51, 0x61)) and script[1] == len(script) - 2:
+        return "program"
+    return None
+
+
+def item_of(slot, facts):
+    """What the witness has in a slot, by the first fact that says it."""
+    mine = [it for it in facts if slot in it["slots"]]
+    held = {it["kind"]: it for it in reversed(mine) if it["holds"]}
+    if "is" in held:
+        return held["is"]["value"] or "<empty>"
+    signed = next((it for it in mine if it["holds"] and it["kind"] in ("token", "assigned")), None)
+    if signed:
+        keys = signed["keys"]
+        key = keys[signed["slots"].index(slot)] if len(keys) == len(signed["slots"]) else f"one of {len(keys)} keys"
+        return f"<signature of the key in slot {key}>" if isinstance(key, int) else f"<signature of {key}>"
+    if "hash" in held:
+        return f"<{'key with' if 'key' in held else 'preimage of'} HASH160 {held['hash']['value']}>"
+    if "key" in held:
+        return "<key>"
+    sizes = [it["value"] for it in mine if it["holds"] and it["kind"] == "size" and it["value"]]
+    if sizes:
+        return f"<{sizes[0]} byte{'s' * (sizes[0] != 1)}>"
+    if "truth" in held:
+        return "<true item>" if any(not it["holds"] and (it["kind"], it["value"]) in (("size", 1), ("is", "01")) for it in mine) else "01"
+    return "<item>" if any(not it["holds"] and (it["kind"], it["value"]) in (("size", 0), ("is", "")) for it in mine) else "<empty>"
+
+
+def taker(facts):
+    """Who can take what a path spends."""
+    fixed = {it["slots"][0] for it in facts if it["holds"] and it["kind"] in ("hash", "is")}
+    for it in facts:
+        if it["holds"] and it["kind"] in ("token", "assigned"):
+            free = sum(isinstance(key, int) and key not in fixed for key in it["keys"])
+            if free < len(it["slots"]):
+                return "signer"
+    return "finder" if any(it["holds"] and it["kind"] == "hash" for it in facts) else "anyone"
+
+
 def path_objects(lines, script):
     """The paths as trace has them."""
     paths = []
@@ -200,12 +278,16 @@ def path_objects(lines, script):
         if line.startswith("path "):
             words = line.split()
             lock, age = (None if it == "-" else int(it) for it in (words[9], words[11]))
-            paths.append({"arity": int(words[3]), "counted": int(words[5]), "height": int(words[7]), "lock": lock, "age": age, "weight": 0, "token_weight": 0, "facts": []})
+            paths.append({"arity": int(words[3]), "counted": int(words[5]), "height": int(words[7]), "lock": lock, "age": age, "weight": 0, "token_weight": 0, "witness": [], "taker": "", "hashed_key": False, "facts": []})
         else:
             paths[-1]["facts"].append(fact_object(line))
     for path in paths:
         path["weight"] = weight(path["arity"], path["facts"], script, 73)
         path["token_weight"] = weight(path["arity"], path["facts"], script, 66)
+        path["witness"] = [*(item_of(slot, path["facts"]) for slot in reversed(range(path["arity"]))), "<script>"]
+        path["taker"] = taker(path["facts"])
+        hashed, keys = ([it["slots"] for it in path["facts"] if it["holds"] and it["kind"] == kind] for kind in ("hash", "key"))
+        path["hashed_key"] = any(it in hashed for it in keys)
     return paths
 
 
@@ -237,26 +319,31 @@ def place(refusal, ops, size):
     return None
 
 
-def line_of(text, listing):
+def line_of(text, listing, notes):
     """The line that trace prints for a script."""
     if listing == "BadHex":
-        told = {"bytes": None, "opcodes": [], "refused": "BadHex", "byte": None}
+        told = {"bytes": None, "looks": None, "program": None, "opcodes": [], "refused": "BadHex", "byte": None}
     else:
         script = bytes.fromhex(text)
         ops = [] if listing == "TooLong" else opcodes(script)
-        told = {"bytes": len(script), "opcodes": opcode_objects(ops)}
+        program = "0020" + hashlib.sha256(script).hexdigest()
+        told = {"bytes": len(script), "looks": looks(script), "program": program, "opcodes": opcode_objects(ops)}
         if isinstance(listing, str):
             told.update(refused=listing, byte=place(listing, ops, len(script)))
         else:
             told["paths"] = path_objects(listing, len(script))
+    if notes:
+        told["notes"] = notes
     return json.dumps(told, separators=(",", ":")) + "\n"
 
 
 def main(words):
     os.chdir(TOP)
-    rows = {**shown(), **{it: REFUSED[it] if it in REFUSED else LISTED[it] for it in MORE if REFUSED.get(it) or LISTED.get(it) is not None}}
+    listed, noted = shown()
+    noted.update(NOTES)
+    rows = {**listed, **{it: REFUSED[it] if it in REFUSED else LISTED[it] for it in MORE if REFUSED.get(it) or LISTED.get(it) is not None}}
     given = "".join(f"{text}\n" for text in rows)
-    wanted = "".join(line_of(text, listing) for text, listing in rows.items())
+    wanted = "".join(line_of(text, listing, noted[text]) for text, listing in rows.items())
     differs = 0
     for name, text in (("crates/trace/stdin", given), ("crates/trace/stdout", wanted)):
         if "--write" in words:

@@ -2,9 +2,11 @@
 //!
 //! [`notes_of`] makes a text from the words of a call, its status and the input that was read. It says where a script or a scenario is at fault, what bytes and texts look
 //! like that are no witness script, which branches ended by a rule that is stricter than consensus, which paths no witness meets, and what endangers money. It is a pure
-//! function, proved not to panic. What it says is tested, not proved. [`Kept`] is a reader that keeps what passes through it.
+//! function, proved not to panic. What it says is tested, not proved. [`scenario_notes`] is the part of it that reads a scenario. [`Kept`] is a reader that keeps what passes
+//! through it.
 //!
 //! `script_notes` makes the notes on scripts, messages and wrong words. `enforce` writes the notes on standard error, after all that `enforce_words` printed. They change no status.
+//! `trace` has them in what it tells.
 //!
 //! ```rust
 //! let notes = notes_of(alloc, words, 1, Some(&[]))?; // of `paths 51b3`
@@ -19,8 +21,8 @@ mod proposals;
 mod readers;
 mod scenarios;
 
-use crate::scenarios::scenario_notes;
 pub use readers::Kept;
+pub use scenarios::scenario_notes;
 use script_notes::call_notes;
 use std::alloc::{AllocError, Global};
 

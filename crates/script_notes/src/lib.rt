@@ -5,7 +5,7 @@
 //! keeps a message from being hexadecimal, and what helps after wrong words. Both are pure functions, proved not to panic. What they say is tested, not proved; what `warnings` decides is
 //! proved.
 //!
-//! `paths` lists what it speaks of. `enforce_notes` makes the notes on scenarios beside these, and `enforce_scripts` writes them where there are none.
+//! `paths` lists what it speaks of. `enforce_notes` makes the notes on scenarios beside these, `enforce_scripts` writes them where there are none, and `trace` has them in what it tells.
 //!
 //! ```rust
 //! let notes = notes(alloc, "51b3")?;
@@ -31,3 +31,4 @@ mod unknowns;
 
 pub use calls::call_notes;
 pub use scripts::notes;
+pub use signatures::is_der;

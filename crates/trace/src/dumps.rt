@@ -1,14 +1,14 @@
 //! The word `dump` of the program `trace`: it loads a book's dump, and writes what the book has as JSON, channel by channel.
 //!
-//! [`run`] loads the dump in the input, the JSON text that `Book::dump` writes. It writes one JSON object a line. Each channel has its commitments and
-//! the HTLCs in them, and what this side can claim if the peer closes now, or broadcasts a revoked commitment. The last line is the book's. [`run`]
-//! returns a status of at most 1. What is loaded, which commitments stand and what can be claimed is exact: `load_dump`, `commitment`, `claims_of`.
+//! [`run_words`] loads the dump in the input, the JSON text that `Book::dump` writes. It writes one JSON object a line. Each channel has its commitments and
+//! the HTLCs in them, and what this side can claim if the peer closes now, or broadcasts a revoked commitment. The last line is the book's. It
+//! returns a status of at most 2. What is loaded, which commitments stand and what can be claimed is exact: `load_dump`, `commitment`, `claims_of`.
 //! The layout of the lines is tested, not proved.
 //!
 //! `book` loads the dump, `channel` has the commitments, and `commit` the amounts of their outputs. The program `trace` passes its streams.
 //!
 //! ```rust
-//! let status = run(alloc, &mut input, &mut out);
+//! let status = run_words(alloc, words, &mut input, &mut out, &mut err);
 //! ```
 //!
 //! Tested by `bench/dumps.py`, which finds anew what it has to write, and by the calls of `bench/answers.py`.
@@ -22,7 +22,7 @@ mod telling;
 
 use crate::dumps::telling::tell_book;
 use crate::input::{InputError, read_all};
-use crate::replies::{refuse_memory, write_refusal, write_told};
+use crate::replies::{refuse_memory, refuse_words, write_refusal, write_told};
 use book::Book;
 use book_dump::errors::LoadError;
 use loading::load_dump;
@@ -31,9 +31,31 @@ use std::alloc::Global;
 use std::io::{Read, Write};
 use std::mem;
 
-/// Writes the lines of the dump in the input, and returns the status: 0 when all are written, 1 for a refused dump, a failed write, or if memory ran out. All lines
-/// are made before the first byte is written. A refusal is written with its number: that of the book's, or for input that can't be read one after them.
-pub fn run(alloc: Global, input: &mut dyn Read, out: &mut dyn Write) -> u8
+// The note after wrong words.
+const HELP: &str =
+    "note: dump takes no more words, and reads the dump of a book from standard input: trace dump <FILE\n";
+
+/// Runs the word `dump` on the words after it, of which there has to be none, and returns its status: 0 when all lines of the dump in the input are written, 1 for a refused dump, a failed
+/// write, or if memory ran out, 2 for wrong words, which are detected before any input is read. All lines are made before the first byte is written. A refusal is written with its number: that
+/// of the book's, or for input that can't be read one after them.
+pub fn run_words(
+    alloc: Global,
+    words: &[String],
+    input: &mut dyn Read,
+    out: &mut dyn Write,
+    err: &mut dyn Write,
+) -> u8
+    ensures { result ≤ 2 }
+{
+    if words.is_empty() {
+        run(alloc, input, out)
+    } else {
+        refuse_words(err, HELP)
+    }
+}
+
+// Writes the lines of the dump in the input, and returns the status.
+fn run(alloc: Global, input: &mut dyn Read, out: &mut dyn Write) -> u8
     ensures { result ≤ 1 }
 {
     match read_all(alloc, input) {

@@ -9,6 +9,7 @@ mod dumps;
 mod formats;
 mod input;
 mod names;
+mod notes;
 mod replies;
 mod scenarios;
 mod scripts;
@@ -20,6 +21,9 @@ use std::alloc::Global;
 use std::env;
 use std::io::{self, Read, Write};
 use std::process::ExitCode;
+
+// The note after words of which the first is none.
+const HELP: &str = "note: trace --help says which words there are\n";
 
 /// The words after the program's name.
 fn words(rt: &HostRuntime) -> io::Result<Vec<String>> {
@@ -38,7 +42,7 @@ fn run(
         Ok(words) => run_words(alloc, words.as_slice(), input, out, err),
         Err(error) => match error.kind() {
             io::ErrorKind::OutOfMemory => refuse_memory(out),
-            _ => refuse_words(err),
+            _ => refuse_words(err, HELP),
         },
     }
 }
@@ -52,19 +56,19 @@ fn run_words(
     err: &mut dyn Write,
 ) -> u8 {
     let Some((word, rest)) = words.split_first() else {
-        return refuse_words(err);
+        return refuse_words(err, HELP);
     };
     let word = word.as_str();
-    if word == "scenario" && rest.is_empty() {
-        scenarios::run(alloc, input, out)
-    } else if word == "dump" && rest.is_empty() {
-        dumps::run(alloc, input, out)
+    if word == "scenario" {
+        scenarios::run_words(alloc, rest, input, out, err)
+    } else if word == "dump" {
+        dumps::run_words(alloc, rest, input, out, err)
     } else if word == "witness" {
         witnesses::run_words(alloc, rest, input, out, err)
     } else if word == "script" {
         scripts::run_words(alloc, rest, input, out, err)
     } else {
-        refuse_words(err)
+        refuse_words(err, HELP)
     }
 }
 

@@ -1,7 +1,7 @@
-//! The names of the sides.
+//! The names of the sides, and of transactions.
 
 use page::Piece;
-use page::Piece::Text;
+use page::Piece::{Hash, Text};
 use terms::Side;
 
 /// The name of a side.
@@ -10,4 +10,11 @@ pub fn side_name(side: Side) -> Piece {
         Side::A => Text("A"),
         Side::B => Text("B"),
     }
+}
+
+/// A transaction's id as explorers and nodes show it: its bytes in the opposite order.
+pub fn explorer_id(txid: &[u8; 32]) -> Piece {
+    let mut id = *txid;
+    id.reverse();
+    Hash(id)
 }

@@ -2,6 +2,8 @@
 
 ghost use Rattle.std.specs.Prelude.{◌≡◌, ◌≤◌, ◌⊎◌};
 
+use crate::formats::Form;
+use crate::notes::tell_notes;
 use page::Page;
 use page::Piece::Count;
 use std::alloc::Global;
@@ -9,13 +11,16 @@ use std::fmt::Display;
 use std::io::Write;
 
 /// The line that is printed for wrong words.
-pub const USAGE: &str = "usage: trace scenario | dump | script [--text] [HEX] | witness [--text]\n";
+pub const USAGE: &str =
+    "usage: trace scenario [--strict | --dump A|B] | dump | script [--text] [HEX] | witness [--text]\n";
 
-/// Handles wrong words.
-pub fn refuse_words(err: &mut dyn Write) -> u8
+/// Handles wrong words: writes the usage, and after it a note that helps. Where the note can't be written, nothing else changes.
+pub fn refuse_words(err: &mut dyn Write, help: &str) -> u8
     ensures { result ≤ 2 }
 {
-    written(err, USAGE, 2)
+    let status = written(err, USAGE, 2);
+    let _ = err.write_all(help.as_bytes());
+    status
 }
 
 /// Reports that memory ran out.
@@ -48,6 +53,24 @@ pub fn write_told(out: &mut dyn Write, line: &mut Page, status: u8) -> u8
     };
     line.clear();
     status
+}
+
+/// Writes that an input is refused: an object on a line, with notes, of which there may be none. Returns the status.
+pub fn write_noted<D: Display + Drop>(
+    alloc: Global,
+    out: &mut dyn Write,
+    refusal: D,
+    notes: &str,
+) -> u8
+    ensures { result ≤ 1 }
+{
+    let mut line = Page::new(alloc);
+    line.push(r#"{"refused":""#);
+    line.show(&refusal);
+    line.push("\"");
+    tell_notes(&mut line, Form::Json, notes);
+    line.push("}\n");
+    write_told(out, &mut line, 1)
 }
 
 /// Writes that an input is refused: an object on a line, with the number of the refusal if it has one. Returns the status.

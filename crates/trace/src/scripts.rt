@@ -24,6 +24,7 @@ mod pages;
 mod places;
 mod reading;
 mod sentences;
+mod templates;
 mod weights;
 
 use crate::formats::Form;
@@ -34,6 +35,10 @@ pub use names::opcode_name;
 pub use places::byte_of;
 use std::alloc::Global;
 use std::io::{Read, Write};
+
+// The note after wrong words.
+const HELP: &str =
+    "note: script takes one script in hexadecimal, after --text if that is wished, or reads scripts from standard input, one a line: trace script --text HEX\n";
 
 /// Runs the word `script` on the words after it and returns its status: 0 when all scripts are listed, 1 for a refused script, refused input or a failed
 /// write, 2 for wrong words, which are detected before any input is read. All text about a script is made before its first byte is written.
@@ -52,7 +57,7 @@ pub fn run_words(
             Ok(bytes) => tell_text(alloc, bytes.as_slice(), form, out),
             Err(refusal) => refuse_input(alloc, form, refusal, out),
         },
-        [text] => told(alloc, text.as_str(), form, out),
-        _ => refuse_words(err),
+        [text] => told(alloc, text.as_str(), None, form, out),
+        _ => refuse_words(err, HELP),
     }
 }

@@ -16,6 +16,7 @@
 
 mod causes;
 mod errors;
+mod hints;
 mod reading;
 mod telling;
 mod words;

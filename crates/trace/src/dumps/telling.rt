@@ -2,7 +2,7 @@
 
 use crate::dumps::claims::{Alone, Claimable, Close, OutputName, Way, claims_of, hashes_of};
 use crate::dumps::standing::{Source, closed_with, commitment, htlcs, is_new, stands};
-use crate::names::side_name;
+use crate::names::{explorer_id, side_name};
 use book::Book;
 use channel::{Channel, CommitmentState};
 use commit::{Amounts, commitment_amounts};
@@ -187,11 +187,12 @@ fn tell_terms(line: &mut Page, book: &Book, index: u64, channel: &Channel) {
     let (terms, side) = (channel.terms(), channel.side());
     let txid = terms.funding.txid;
     line.write(
-        r#"{"channel":%,"funding":"%:%","side":"%","opener":"%","capacity":%,"peer_delay":%"#,
+        r#"{"channel":%,"funding":"%:%","explorer":"%","side":"%","opener":"%","capacity":%,"peer_delay":%"#,
         &[
             Count(index),
             Hash(txid),
             Count(u64::from(terms.funding.index)),
+            explorer_id(&txid),
             side_name(side),
             side_name(terms.opener),
             Count(terms.capacity_sat),

@@ -1,6 +1,6 @@
 //! The transactions of new blocks, and the kinds of their outputs.
 
-use crate::names::side_name;
+use crate::names::{explorer_id, side_name};
 use crate::scenarios::closing::tell_commitment;
 use crate::scenarios::coins::{Change, Coin, Kind, Told};
 use crate::scenarios::outputs::{tell_output, tell_spends};
@@ -107,8 +107,8 @@ fn tell_tx(
     let tx = confirmed.tx();
     let txid = *confirmed.id();
     line.element(
-        r#"{"height":%,"txid":"%","spends":["#,
-        &[Count(height), Hash(txid)],
+        r#"{"height":%,"txid":"%","explorer":"%","spends":["#,
+        &[Count(height), Hash(txid), explorer_id(&txid)],
     );
     tell_spends(line, tx);
     let mut worth = 0u64;

@@ -1,6 +1,6 @@
 //! The line that opens a trace.
 
-use crate::names::side_name;
+use crate::names::{explorer_id, side_name};
 use crate::scenarios::coins::{Coin, Kind, Told};
 use page::Page;
 use page::Piece::{Count, Hash};
@@ -12,10 +12,11 @@ fn tell_channel(line: &mut Page, told: &mut Told, channel: u64, terms: &Terms) {
     let (a, b) = (&terms.a, &terms.b);
     let txid = terms.funding.txid;
     line.element(
-        r#"{"funding":"%:%","capacity":%,"opener":"%","feerate":%,"dust":[%,%],"delay":[%,%],"minimum":[%,%],"start":[%,%]}"#,
+        r#"{"funding":"%:%","explorer":"%","capacity":%,"opener":"%","feerate":%,"dust":[%,%],"delay":[%,%],"minimum":[%,%],"start":[%,%]}"#,
         &[
             Hash(txid),
             Count(u64::from(terms.funding.index)),
+            explorer_id(&txid),
             Count(terms.capacity_sat),
             side_name(terms.opener),
             Count(u64::from(terms.feerate_per_kw)),

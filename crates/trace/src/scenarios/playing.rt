@@ -111,7 +111,9 @@ impl Told {
         line.push(r#","answer":""#);
         line.show(outcome);
         line.write(r#"","height":%"#, &[Count(world.chain().height())]);
-        if !matches!(outcome, Outcome::Refused(_)) {
+        if matches!(outcome, Outcome::Refused(_)) {
+            self.has_refused = true;
+        } else {
             self.tell_changes(alloc, line, world, before, event, outcome);
         }
         line.push("}\n");

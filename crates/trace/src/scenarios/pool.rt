@@ -1,5 +1,6 @@
 //! The transactions that wait for a block.
 
+use crate::names::explorer_id;
 use crate::scenarios::coins::Told;
 use crate::scenarios::outputs::tell_spends;
 use page::Page;
@@ -16,7 +17,10 @@ impl Told {
         line.push(r#","joined":["#);
         for tx in pool.iter().skip(self.waiting.len()) {
             let id = txid(tx);
-            line.element(r#"{"txid":"%","spends":["#, &[Hash(id)]);
+            line.element(
+                r#"{"txid":"%","explorer":"%","spends":["#,
+                &[Hash(id), explorer_id(&id)],
+            );
             tell_spends(line, tx);
             line.push("]}");
             if self.waiting.push(id).is_err() {

@@ -1,10 +1,12 @@
 // Paths as text for people.
 
 use crate::scripts::sentences::{Role, Sentence};
+use crate::scripts::templates::tell_witness;
 use crate::scripts::weights::{SIGNATURE_SIZE, TOKEN_SIZE, witness_weight};
+use digest::sha256;
 use facts::Stated;
 use page::Page;
-use page::Piece::{Count, Sum};
+use page::Piece::{Count, Hash, Sum, Text};
 use paths::Path;
 
 // Writes the sentences of one role after a label, a line each, or another line if there are none.
@@ -27,17 +29,28 @@ fn tell_role(line: &mut Page, facts: &[Stated], role: &str, label: &str, otherwi
 fn tell_path(line: &mut Page, path: &Path, number: usize, size: usize) {
     let facts = path.facts.values();
     line.write(
-        "path %: % items, % weight units (% with tokens)\n",
+        "path %: % item%, % weight units (% with tokens)\n",
         &[
             Count(number as u64),
             Count(path.arity as u64),
+            Text(if path.arity == 1 { "" } else { "s" }),
             Sum(witness_weight(facts, path.arity, size, SIGNATURE_SIZE)),
             Sum(witness_weight(facts, path.arity, size, TOKEN_SIZE)),
         ],
     );
+    line.push("  witness");
+    tell_witness(line, facts, path.arity, " ", "");
+    line.push("\n");
     tell_role(line, facts, "who", "  who   ", "  who   anyone\n");
     tell_role(line, facts, "with", "  with  ", "");
     tell_role(line, facts, "when", "  when  ", "  when  at once\n");
+}
+
+/// Writes the program of an output to a script with these bytes (P2WSH, BIP 141), a line.
+pub fn tell_program(line: &mut Page, bytes: Option<&[u8]>) {
+    if let Some(bytes) = bytes {
+        line.write("program 0020%\n", &[Hash(sha256(bytes))]);
+    }
 }
 
 /// Writes the paths through a script of this number of bytes, each with its number.

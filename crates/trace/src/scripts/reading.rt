@@ -2,6 +2,7 @@
 
 use crate::formats::Form;
 use crate::input::InputError;
+use crate::notes::tell_notes;
 use crate::scripts::names::branches;
 use crate::scripts::opcodes::tell_op;
 use crate::scripts::places::place;
@@ -11,11 +12,30 @@ use page::{Page, Piece};
 use paths::{CheckError, Path, check};
 use script::limits::MAX_SCRIPT_SIZE;
 use script::{Op, ParseError, Script};
+use script_notes::notes;
 use std::alloc::Global;
 use std::fmt::Display;
 
-/// Explains a script in hexadecimal: its opcodes, then its paths, or why it is refused. Returns whether its paths are listed.
+// A text without blanks at its ends, and without `0x` at its front.
+fn trimmed(text: &str) -> &str {
+    let text = text.trim();
+    text.strip_prefix("0x").unwrap_or(text)
+}
+
+/// Explains a script in hexadecimal, which may stand between blanks and begin with `0x`: its opcodes, then its paths, or why it is refused, and at last the notes of `enforce` on it. Returns
+/// whether its paths are listed.
 pub fn tell(alloc: Global, line: &mut Page, form: Form, text: &str) -> bool {
+    let text = trimmed(text);
+    let is_listed = tell_text(alloc, line, form, text);
+    match notes(alloc, text) {
+        Ok(notes) => end(line, form, notes.as_str()),
+        Err(_) => line.fail(),
+    }
+    is_listed
+}
+
+// Explains a script in hexadecimal, without notes.
+fn tell_text(alloc: Global, line: &mut Page, form: Form, text: &str) -> bool {
     match hex::decode(alloc, text) {
         Ok(bytes) => tell_bytes(alloc, line, form, bytes.as_slice()),
         Err(FromHexError::OutOfMemory) => {
@@ -52,8 +72,8 @@ fn tell_part(alloc: Global, line: &mut Page, form: Form, bytes: &[u8], error: Pa
     };
     match Script::parse(alloc, &bytes[..read.min(bytes.len())]) {
         Ok(part) => {
-            let (size, fault) = (bytes.len() as u64, fault as u64);
-            refuse(line, form, Some(size), part.ops(), error, Some(fault));
+            let fault = Some(fault as u64);
+            refuse(line, form, Some(bytes), part.ops(), error, fault);
         }
         Err(_) => line.fail(),
     }
@@ -81,8 +101,8 @@ fn tell_script(alloc: Global, line: &mut Page, form: Form, script: &Script) -> b
 fn tell_unlisted(alloc: Global, line: &mut Page, form: Form, script: &Script, error: CheckError) {
     match place(alloc, script.ops(), &error) {
         Ok(byte) => {
-            let size = script.bytes().len() as u64;
-            refuse(line, form, Some(size), script.ops(), error, byte);
+            let bytes = Some(script.bytes());
+            refuse(line, form, bytes, script.ops(), error, byte);
         }
         Err(_) => line.fail(),
     }
@@ -91,17 +111,17 @@ fn tell_unlisted(alloc: Global, line: &mut Page, form: Form, script: &Script, er
 // Explains a script that is listed.
 fn tell_listed(line: &mut Page, form: Form, script: &Script, paths: &[Path]) {
     let size = script.bytes().len();
-    begin(line, form, Some(size as u64), script.ops());
+    begin(line, form, Some(script.bytes()), script.ops());
     match form {
         Form::Json => json::tell_paths(line, paths, size),
         Form::Text => pages::tell_paths(line, paths, size),
     }
 }
 
-// Writes what comes first of each script: its number of bytes, and its opcodes.
-fn begin(line: &mut Page, form: Form, bytes: Option<u64>, ops: &[Op]) {
+// Writes what comes first of each script: what its bytes are, and its opcodes.
+fn begin(line: &mut Page, form: Form, bytes: Option<&[u8]>, ops: &[Op]) {
     if let Form::Json = form {
-        line.write(r#"{"bytes":%,"opcodes":["#, &[Piece::or_null(bytes)]);
+        json::tell_bytes(line, bytes);
     }
     let (mut byte, mut ifs) = (0usize, 0usize);
     for op in ops {
@@ -110,16 +130,25 @@ fn begin(line: &mut Page, form: Form, bytes: Option<u64>, ops: &[Op]) {
         byte = byte.saturating_add(op.payload_len()).saturating_add(1);
         ifs = after;
     }
-    if let Form::Json = form {
-        line.push("]");
+    match form {
+        Form::Json => line.push("]"),
+        Form::Text => pages::tell_program(line, bytes),
     }
 }
 
-/// Explains a refusal: the script's number of bytes, the opcodes that were read, the reason, and the byte at which it is refused.
+/// Writes what comes last of each script: the notes on it.
+pub fn end(line: &mut Page, form: Form, notes: &str) {
+    tell_notes(line, form, notes);
+    if let Form::Json = form {
+        line.push("}\n");
+    }
+}
+
+/// Explains a refusal: the script's bytes, the opcodes that were read, the reason, and the byte at which it is refused.
 pub fn refuse<D: Display + Drop>(
     line: &mut Page,
     form: Form,
-    bytes: Option<u64>,
+    bytes: Option<&[u8]>,
     ops: &[Op],
     refusal: D,
     byte: Option<u64>,
@@ -131,7 +160,7 @@ pub fn refuse<D: Display + Drop>(
     });
     line.show(&refusal);
     match (form, byte) {
-        (Form::Json, _) => line.write("\",\"byte\":%}\n", &[Piece::or_null(byte)]),
+        (Form::Json, _) => line.write(r#"","byte":%"#, &[Piece::or_null(byte)]),
         (Form::Text, Some(byte)) => line.write(" at byte %\n", &[Piece::Count(byte)]),
         (Form::Text, None) => line.push("\n"),
     }

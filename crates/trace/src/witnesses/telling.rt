@@ -1,9 +1,11 @@
 // Writes the verdict on an input.
 
 use crate::formats::Form;
+use crate::notes::tell_notes;
 use crate::scripts::{byte_of, opcode_name};
 use crate::verdict::{Clean, Fault, Stopped, Verdict};
 use crate::witnesses::causes::cause_sentence;
+use crate::witnesses::hints::stopped_note;
 use chain::ProgramFault;
 use lists::ByteString;
 use page::Piece::{Count, Hash, Text};
@@ -95,11 +97,13 @@ fn tell_stopped(line: &mut Page, form: Form, stopped: &Stopped) {
     if let Some(stack) = &stopped.stack {
         tell_stack(line, form, stack.values());
     }
-    let after = match form {
-        Form::Json => "],\"digest\":\"%\"}\n",
-        Form::Text => "  digest  %\n",
+    let (after, end) = match form {
+        Form::Json => ("],\"digest\":\"%\"", "}\n"),
+        Form::Text => ("  digest  %\n", ""),
     };
     line.write(after, &[Hash(digest)]);
+    tell_notes(line, form, stopped_note(stopped));
+    line.push(end);
 }
 
 // Writes why no script runs.

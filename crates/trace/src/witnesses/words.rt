@@ -4,9 +4,11 @@ ghost use Rattle.std.specs.Prelude.{◌≡◌, ◌≤◌, Some, slice_get};
 
 use crate::formats::Form;
 use crate::input::{InputError, read_all};
+use crate::notes::tell_notes;
 use crate::replies::{refuse_memory, refuse_words, write_told};
 use crate::verdict::{Verdict, judge};
 use crate::witnesses::errors::SpentError;
+use crate::witnesses::hints::refused_note;
 use crate::witnesses::reading::{read_outputs, read_tx};
 use crate::witnesses::telling::tell_verdict;
 use page::Page;
@@ -15,6 +17,10 @@ use sighash::SighashCache;
 use std::alloc::Global;
 use std::io::{Read, Write};
 use tx::{Tx, TxIn, TxOut};
+
+// The note after wrong words.
+const HELP: &str =
+    "note: witness reads a transaction and the outputs that it spends from standard input, and takes --text or no word: trace witness --text <FILE\n";
 
 /// Runs the word `witness` on the words after it and returns its status: 0 when each input runs clean, 1 for an input that does not, refused text or a failed
 /// write, 2 for wrong words, which are detected before any input is read. The verdict on an input is written before the next input is judged.
@@ -29,11 +35,11 @@ pub fn run_words(
 {
     let (form, rest) = Form::read(words);
     if !rest.is_empty() {
-        return refuse_words(err);
+        return refuse_words(err, HELP);
     }
     match read_all(alloc, input) {
         Ok(bytes) => tell_bytes(alloc, form, bytes.as_slice(), out),
-        Err(error) => refuse(alloc, form, &SpentError::Input(error), out),
+        Err(error) => refuse(alloc, form, "", &SpentError::Input(error), out),
     }
 }
 
@@ -42,11 +48,11 @@ fn tell_bytes(alloc: Global, form: Form, bytes: &[u8], out: &mut dyn Write) -> u
     ensures { result ≤ 1 }
 {
     let Ok(text) = str::from_utf8(bytes) else {
-        return refuse(alloc, form, &SpentError::Input(InputError::BadHex), out);
+        return refuse(alloc, form, "", &SpentError::Input(InputError::BadHex), out);
     };
     match read_tx(alloc, text) {
         Ok(tx) => tell_tx(alloc, form, text, &tx, out),
-        Err(error) => refuse(alloc, form, &error, out),
+        Err(error) => refuse(alloc, form, text, &error, out),
     }
 }
 
@@ -57,17 +63,17 @@ fn tell_tx(alloc: Global, form: Form, text: &str, tx: &Tx, out: &mut dyn Write) 
     let mut outputs = Vec::new(alloc);
     match read_outputs(alloc, &mut outputs, text, tx.inputs().len()) {
         Ok(()) => tell_inputs(alloc, form, tx, outputs.as_slice(), out),
-        Err(error) => refuse(alloc, form, &error, out),
+        Err(error) => refuse(alloc, form, text, &error, out),
     }
 }
 
-// Reports that a text is refused.
-fn refuse(alloc: Global, form: Form, error: &SpentError, out: &mut dyn Write) -> u8
+// Reports that a text is refused, with the note on it.
+fn refuse(alloc: Global, form: Form, text: &str, error: &SpentError, out: &mut dyn Write) -> u8
     ensures { result ≤ 1 }
 {
-    let (before, after) = match form {
-        Form::Json => (r#"{"refused":""#, "\"}\n"),
-        Form::Text => ("refused ", "\n"),
+    let (before, after, end) = match form {
+        Form::Json => (r#"{"refused":""#, "\"", "}\n"),
+        Form::Text => ("refused ", "\n", ""),
     };
     let mut line = Page::new(alloc);
     line.push(before);
@@ -79,6 +85,8 @@ fn refuse(alloc: Global, form: Form, error: &SpentError, out: &mut dyn Write) ->
         SpentError::BadLine(number) => line.write("BadLine %", &[Count(*number as u64)]),
     }
     line.push(after);
+    tell_notes(&mut line, form, refused_note(alloc, text, error));
+    line.push(end);
     write_told(out, &mut line, 1)
 }
 
