@@ -105,9 +105,13 @@ no_shorter false h seat call = omega arith
 
 module _ (x y : Seat) (reply : Reply) where
   -- yes: IsOwnReply
-  own_reply : (h : History) → IsHistoryFor (number_in x) (calls_in x) (last_in x) h → reply ≡ reply_of peer_tokens h (Signing 1) → calls_in y ≡ calls_after (calls_in x) h (number_in x) (Signing 1)
+  own_reply : (h : History) → number_in y ≡ number_in x → IsHistoryFor (number_in x) (calls_in x) (last_in x) h → reply ≡ reply_of peer_tokens h (Signing 1) → calls_in y ≡ calls_after (calls_in x) h (number_in x) (Signing 1)
       → last_in y ≡ history_after peer_tokens h (number_in x) (Signing 1) → IsOwnReply (Signing 1) x y reply
-  own_reply h f r c l = record { history = h; found = f; reply_is = r; calls = c; last = l }
+  own_reply h n f r c l = record { history = h; number = n; found = f; reply_is = r; calls = c; last = l }
+
+  -- no: IsOwnReply
+  another_seat : (call : Call) → number_in x ≡ 4 → number_in y ≡ 5 → IsOwnReply call x y reply → ⊥
+  another_seat call e f o = let g = o.number in omega (arith, e, f, g)
 
   -- no: IsOwnReply
   forgets : (call : Call) → length (last_in x) ≡ 1 → last_in y ≡ [] → IsOwnReply call x y reply → ⊥
