@@ -1,12 +1,15 @@
 """The declarations of the library for C, in C, Rust and Python, as they are drawn from the sources of crates/enforce_c.
 
-Of each file of src/, in the order of the `mod` lines with lib.rs's own items last: the public constants, the structs that are laid out as in C, and the exports. The doc comments go along.
+Of each file of src/, in the order of the `mod` lines with lib.rs's own items last: the public constants, the structs that are laid out as in C, and the exports. The doc comments go along, and
+with each export its clause, and the file that defines the word of it.
 """
+import glob
 import os
 import re
 
 TOP = os.path.dirname(os.path.dirname(os.path.abspath(__file__)))
 SOURCES = f"{TOP}/crates/enforce_c/src"
+SPECS = "crates/enforce_c/specs"
 FILES = {
     "bindings/c/enforce.h": "header",
     "bindings/rust/src/raw.rs": "rust",
@@ -26,7 +29,7 @@ DOC = r"((?:[ \t]*///[^\n]*\n)*)"
 CONSTANT = re.compile(DOC + r"pub const (\w+): u32 = (\w+);\n")
 STRUCT = re.compile(DOC + r"#\[repr\(C\)\]\n(?:#\[[^\n]*\]\n)*pub struct (\w+) \{\n(.*?)^\}\n", re.M | re.S)
 FIELD = re.compile(DOC + r"    pub (\w+): ([^,]+),\n")
-EXPORT = re.compile(DOC + r"#\[unsafe\(no_mangle\)\]\n(?:#\[[^\n]*\]\n)*pub extern \"C\" fn (\w+)\(([^)]*)\)(?: -> (\w+))?", re.S)
+EXPORT = re.compile(DOC + r"#\[unsafe\(no_mangle\)\]\n(?:#\[[^\n]*\]\n)*pub extern \"C\" fn (\w+)\(([^)]*)\)(?: -> (\w+))?\n    ensures \{ (.*?) \}\n\{\n", re.S)
 ARRAY = re.compile(r"\[(\w+); (\d+)\]")
 
 
@@ -37,6 +40,13 @@ def stop(what):
 def said(doc):
     """A doc comment as one line of text."""
     return " ".join(line.strip().removeprefix("///").strip() for line in doc.splitlines())
+
+
+def clause(text):
+    """A clause as one line of text, with the file that defines its word."""
+    line = " ".join(text.split())
+    found = [file for file in sorted(glob.glob(f"{TOP}/{SPECS}/*.antt")) if re.search(rf"^abbrev pub {line.split()[0]} :", open(file, encoding="utf-8").read(), re.M)]
+    return f"{line} ({SPECS}/{os.path.basename(found[0])})" if found else line
 
 
 def c_name(name):
@@ -77,7 +87,7 @@ class Declared:
         for it in EXPORT.finditer(text):
             params = [tuple(part.strip().split(": ", 1)) for part in it[3].split(",\n") for part in part.split(", ") if part.strip().strip(",")]
             params = [(param.strip(), kind.strip().rstrip(",")) for param, kind in params]
-            self.exports.append((it[2], [it2 for it2 in params if it2[1] != "Global"], it[4], said(it[1])))
+            self.exports.append((it[2], [it2 for it2 in params if it2[1] != "Global"], it[4], said(it[1]), clause(it[5])))
 
     def layout(self, fields):
         """The size of a struct and the offset of each field, by the rules of C."""
@@ -126,10 +136,15 @@ def c_type(kind, structs):
 def header(told):
     names = [name for name, _, _ in told.structs]
     lines = [
-        f"/* enforce.h: the ways through a script, the scripts of BOLT 3, and claims, proved, for programs in C. {NOTE}",
+        f"/* enforce.h: the ways through a script, the scripts of BOLT 3, and the unsigned spend of claims, proved, for programs in C. {NOTE}",
         "",
-        "   Nothing here signs, and nothing checks a signature. An accepted claim can't fail with tokens, or with valid signatures where its path",
-        "   measures none. docs/BINDINGS.md says what is proved of each call and what its caller owes:",
+        "     uint8_t script[] = {0x63, 0x51, 0x67, 0x52, 0x68}, bytes[64]; // IF 1 ELSE 2 ENDIF",
+        "     enforce_path_row paths[64] = {0}; enforce_fact_row facts[64] = {0}; enforce_answer answer = {0};",
+        "     enforce_script_list(script, 5, paths, 64, facts, 64, bytes, 64, &answer); // ENFORCE_DONE, and answer.paths is 2",
+        "",
+        "   Nothing here signs, and nothing checks a signature. An accepted claim can't fail with tokens, or with valid signatures where none is",
+        "   measured: enforce_unsigned_spend refuses the others. What is proved of a call stands at it as a clause of the source: a name has .old before the call and",
+        "   .new after it, and result is the status. docs/BINDINGS.md says the same in words, and what a caller owes:",
         "   pointers that are valid for their lengths, outputs that are initialised, and outputs that overlap nothing else. */",
         "#ifndef ENFORCE_H",
         "#define ENFORCE_H",
@@ -155,9 +170,9 @@ def header(told):
             shown = f"    {c_type(array[1], names)} {field}[{array[2]}];" if array else f"    {c_type(kind, names)} {field};"
             lines.append(f"{shown} /* {text} */" if text else shown)
         lines += [f"}} {c_name(name)};", ""]
-    for name, params, result, doc in told.exports:
+    for name, params, result, doc, proved in told.exports:
         words = ", ".join(c_parameter(param, kind, names) for param, kind in params) or "void"
-        lines += [f"/* {doc} */", f"{c_type(result, names) if result else 'void'} {name}({words});", ""]
+        lines += [f"/* {doc}", "", f"   Proved: {proved} */", f"{c_type(result, names) if result else 'void'} {name}({words});", ""]
     lines += ["/* The word for a status. */", "static inline const char *enforce_name(uint32_t status) {", "    switch (status) {"]
     lines += [f'    case ENFORCE_{name}: return "{status_word(name)}";' for name, _, _ in told.statuses()]
     lines += ['    default: return "Unknown";', "    }", "}", "", "#ifdef __cplusplus", "}", "#endif", ""]
@@ -204,9 +219,9 @@ def rust(told):
         lines += [f"    assert!(core::mem::offset_of!({name}, {field[0]}) == {at});" for field, at in zip(fields, offsets)]
         lines += ["};", ""]
     lines.append('unsafe extern "C" {')
-    for name, params, result, doc in told.exports:
+    for name, params, result, doc, proved in told.exports:
         words = ", ".join(word for param, kind in params for word in rust_parameters(param, kind))
-        lines += [f"    /// {doc}", f"    pub fn {name}({words}){f' -> {result}' if result else ''};"]
+        lines += [f"    /// {doc}", "    ///", f"    /// Proved: `{proved}`", f"    pub fn {name}({words}){f' -> {result}' if result else ''};"]
     lines += ["}", "", "/// The word for a status.", "pub fn name(status: u32) -> &'static str {", "    match status {"]
     lines += [f'        {name} => "{status_word(name)}",' for name, _, _ in told.statuses()]
     lines += ['        _ => "Unknown",', "    }", "}", ""]
@@ -253,8 +268,9 @@ def python(told):
         size, offsets = told.sizes[name]
         lines.append(f"    {name}: ({size}, [{', '.join(map(str, offsets))}]),")
     lines += ["}", "", "", "def declare(library):", '    """Gives the exports of a loaded library their types."""']
-    for name, params, result, _ in told.exports:
+    for name, params, result, _, proved in told.exports:
         words = ", ".join(word for _, kind in params for word in python_parameters(kind, names))
+        lines.append(f"    # proved: {proved}")
         lines.append(f"    library.{name}.argtypes = [{words}]")
         lines.append(f"    library.{name}.restype = {python_type(result, names) if result else None}")
     lines += ["    for struct, (size, offsets) in LAYOUTS.items():"]

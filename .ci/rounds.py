@@ -145,7 +145,7 @@ def bodies(texts, folder):
 
 
 def rounds_of(changed):
-    """Edits in rounds, none of which has two edits of one function. changed has what `bodies` says of each."""
+    """Edits in rounds. No round has two edits of one function. changed has what `bodies` says of each."""
     rounds = []
     for edit, functions in changed.items():
         free = [it for it in rounds if not any(functions.keys() & changed[other].keys() for other in it)]

@@ -1,9 +1,14 @@
-"""What callers of the library for C ask of claims, and what the answers have to be. It is worked out here from what others signed, and no program of this repository is asked.
+"""What callers of the library for C ask of claims and of spends, and what the answers have to be. It is worked out here from what others signed, and no program of this repository is asked.
 
 The HTLC transactions of BOLT 3's appendix C and the transactions of real/tests/rows.jsonl, which Electrum built and signed, are taken apart: each input is a claim by the path that its witness takes, with a
-signature's slot for each item that the record has as a valid signature. A claim asks for the sequence and the lock time that BIPs 65, 68 and 112 want of its path.
+signature's slot for each item that the record has as a valid signature. The transaction is then made again by real/transaction.py, with the sequences and the lock time that BOLT 3 has for the claims, with the
+empty item in the place of each signature, and with the digests of BIP 143. Where the claims ask for the sequence and the lock time that the signed one has, it is the signed transaction, whose signatures are over
+these digests.
+
+The plans that the pages show are taken apart alike, and each of their digests is worked out again. The penalties of the dumps in examples/ wait for nothing (BOLT 5).
 """
 import copy
+import glob
 import json
 import os
 import sys
@@ -12,17 +17,33 @@ sys.dont_write_bytecode = True
 TOP = os.path.dirname(os.path.dirname(os.path.abspath(__file__)))
 sys.path.insert(0, f"{TOP}/real")
 import bolt3
+import plan as plans
 import scripts
 import signatures
 from curve import Recorded
-from transaction import Digests, Output, read_transaction, sha256
+from transaction import Digests, Input, Output, Transaction, read_transaction, sha256
 
 ROWS, RECORD = f"{TOP}/real/tests/rows.jsonl", f"{TOP}/real/tests/record.json"
+PAGES, DUMPS = f"{TOP}/docs/*.md", f"{TOP}/examples/dumps/*.json"
 KEY = "02" + 32 * "11"
+MAX_MONEY = 2_100_000_000_000_000
+# BOLT 3: of these, the signed transaction has the sequence and the lock time that the script asks for
+AS_SIGNED = ("delayed", "success")
 
 
 def digits(data):
     return data.hex() or "-"
+
+
+def slot_of(key, item):
+    """The slot that an item fills, which a key signs or none does."""
+    if key is not None:
+        return f"s={key.hex()}"
+    return f"p={sha256(item).hex()}" if len(item) == 32 else f"e={digits(item)}"
+
+
+def sign_line(index, place, key, digest):
+    return f"sign {index} {place} {key.hex()} {digest.hex()}\n"
 
 
 class Claim:
@@ -48,7 +69,7 @@ class Signed:
         self.kind, self.given, self.spent = kind, given, spent
         is_key_hash = scripts.is_key_hash(spent.program)
         self.script = scripts.key_script(spent.program) if is_key_hash else given.witness[-1]
-        self.items = given.witness if is_key_hash else given.witness[:-1]
+        self.items, self.last = (given.witness, []) if is_key_hash else (given.witness[:-1], [self.script])
         self.keys = {}
         for place, item in enumerate(self.items):
             keys = signatures.candidate_keys(self.script, self.items) if signatures.is_strict_der(item) else []
@@ -56,10 +77,14 @@ class Signed:
         self.claim = Claim(self.script, spent.program, given.outpoint, spent.value, path, list(map(self.slot, reversed(range(len(self.items))))))
 
     def slot(self, place):
-        item = self.items[place]
-        if place in self.keys:
-            return f"s={self.keys[place].hex()}"
-        return f"p={sha256(item).hex()}" if len(item) == 32 else f"e={digits(item)}"
+        return slot_of(self.keys.get(place), self.items[place])
+
+    def blanks(self):
+        """The witness before anybody signs."""
+        return [b"" if place in self.keys else item for place, item in enumerate(self.items)] + self.last
+
+    def preimages(self):
+        return [it.hex() for place, it in enumerate(self.items) if len(it) == 32 and place not in self.keys]
 
 
 def needs(kind, signed, lock_time):
@@ -95,15 +120,91 @@ def taken_apart(curve):
         yield transaction, found
 
 
+def unsigned(transaction, inputs):
+    """The transaction before anybody signs, and the lines of the signatures that it lacks: by input, the top of the stack first."""
+    asked = [needs(it.kind, it, transaction.lock_time) for it in inputs]
+    made = [Input(it.given.outpoint, b"", sequence, it.blanks()) for it, (_, sequence) in zip(inputs, asked)]
+    whole = Transaction(2, made, transaction.outputs, max(height for height, _ in asked))
+    if all(it.kind in AS_SIGNED for it in inputs) and whole.stripped() != Transaction(2, transaction.inputs, transaction.outputs, transaction.lock_time).stripped():
+        raise SystemExit("library: the transaction that was signed is another one")
+    digests = Digests(whole)
+    lines = [
+        sign_line(index, place, it.keys[place], digests.of(index, it.script, it.spent.value))
+        for index, it in enumerate(inputs)
+        for place in sorted(it.keys, reverse=True)
+    ]
+    return whole, f"tx {whole.bytes().hex()}\n" + "".join(lines)
+
+
+def spend(claims, outputs, preimages):
+    shown = ";".join(f"{it.value}/{digits(it.program)}" for it in outputs)
+    return f"spend {';'.join(it.text() for it in claims) or '-'} {shown or '-'} {','.join(preimages) or '-'}"
+
+
 def taken():
-    """The claims of what was signed, and the first of each kind."""
+    """The claims and the spends of what was signed."""
     found, first = {}, {}
     for transaction, inputs in taken_apart(Recorded.read(RECORD)):
+        _, told = unsigned(transaction, inputs)
+        preimages = [preimage for it in inputs for preimage in it.preimages()]
+        found[spend([it.claim for it in inputs], transaction.outputs, preimages)] = told
         for it in inputs:
             height, sequence = needs(it.kind, it, transaction.lock_time)
             found[f"claim {it.claim.text()}"] = f"due {height} {sequence}\n"
-            first.setdefault(it.kind, it)
+            first.setdefault(it.kind, (it, transaction))
     return found, first
+
+
+def shown_plans():
+    """The plans that the pages show, each with the paths of its inputs."""
+    for page in sorted(glob.glob(PAGES)):
+        with open(page, encoding="utf-8") as file:
+            for line in file:
+                if line.startswith('{"transaction":') and '"inputs":' in line:
+                    yield plans.read_plan(line), [it["path"] for it in json.loads(line)["inputs"]]
+
+
+def planned(plan, paths):
+    """The claims of a plan, and what is made of them before anybody signs."""
+    whole, claims, lines = copy.deepcopy(plan.transaction), [], []
+    for index, (given, it, path) in enumerate(zip(whole.inputs, plan.inputs, paths)):
+        keys = {each.item: each.key for each in it.wanted}
+        items = it.witness if scripts.is_key_hash(it.output.program) else it.witness[:-1]
+        places = range(len(items))[::-1]
+        claims.append(Claim(it.script, it.output.program, given.outpoint, it.output.value, path, [slot_of(keys.get(place), items[place]) for place in places]))
+        given.witness = [item or b"" for item in it.witness]
+        lines += [sign_line(index, place, keys[place], each.digest) for place in places for each in it.wanted if each.item == place]
+    return claims, f"tx {whole.bytes().hex()}\n" + "".join(lines)
+
+
+def from_pages():
+    """The spends of the plans that the pages show, their claims, and those of dumps."""
+    found = {}
+    for plan, paths in shown_plans():
+        claims, told = planned(plan, paths)
+        found[spend(claims, plan.transaction.outputs, [item.hex() for it in plan.inputs for item in it.preimages()])] = told
+        for claim, given, it in zip(claims, plan.transaction.inputs, plan.inputs):
+            # of an HTLC's claims that by a preimage waits for no height
+            found[f"claim {claim.text()}"] = f"due {0 if it.preimages() else plan.transaction.lock_time} {given.sequence}\n"
+    for file in sorted(glob.glob(DUMPS)):
+        with open(file, encoding="utf-8") as text:
+            found.update({f"claim {claim_of(it).text()}": "due 0 0\n" for it in penalties(json.load(text))})
+    return found
+
+
+def penalties(value):
+    """The claims in a dump, wherever they stand."""
+    if isinstance(value, dict) and "slots" in value:
+        return [value]
+    parts = value.values() if isinstance(value, dict) else value if isinstance(value, list) else []
+    return [claim for part in parts for claim in penalties(part)]
+
+
+def claim_of(told):
+    """A claim as a dump has it."""
+    txid, index = told["outpoint"].split(":")
+    slots = [f"{kind[0]}={value or '-'}" for kind, value in told["slots"]]
+    return Claim(bytes.fromhex(told["script"]), bytes.fromhex(told["program"]), bytes.fromhex(txid) + int(index).to_bytes(4, "little"), told["value"], told["path"], slots)
 
 
 def changed(slots, at, slot):
@@ -112,7 +213,7 @@ def changed(slots, at, slot):
 
 def refused_claims(first):
     """Changed claims, each refused for the first of its faults."""
-    good = first["delayed"].claim
+    good = first["delayed"][0].claim
     slots = good.slots
     faults = [
         ({"path": 2}, "NoSuchPath"),
@@ -143,7 +244,46 @@ def refused_claims(first):
     return {f"claim {good.changed(**values).text()}": f"refused {word}\n" for values, word in faults}
 
 
+def lone(script, slots, path=0, value=1_000):
+    """A claim on an output with this script."""
+    script = bytes.fromhex(script)
+    return Claim(script, b"\x00\x20" + sha256(script), bytes(32) + (7).to_bytes(4, "little"), value, path, slots)
+
+
+def refused_spends(first):
+    """Spends that are refused for the first of their faults, and those on the other side of each bound."""
+    signed, transaction = first["success"]
+    claim, outputs, preimages = signed.claim, transaction.outputs, signed.preimages()
+    other = claim.changed(outpoint=bytes(36))
+    # SIZE 66 EQUALVERIFY KEY CHECKSIG measures the signature
+    measured = lone(f"8201428821{KEY}ac", [f"s={KEY}"])
+    program = outputs[0].program
+    most, over = Output(claim.value, program), Output(claim.value + 1, program)
+    faults = [
+        ([], outputs, preimages, "NoInputs"),
+        ([], [Output(MAX_MONEY + 1, program)], [], "NoInputs"),
+        ([claim, claim], outputs, preimages, "SameOutpoint"),
+        ([claim], [over], preimages, "OutputsExceed"),
+        ([claim], [most, Output(1, b"")], preimages, "OutputsExceed"),
+        ([claim, claim], [Output(2 * claim.value + 1, program)], preimages, "SameOutpoint"),
+        ([claim, other], [Output(2 * claim.value + 1, program)], preimages, "OutputsExceed"),
+        ([measured], [], [], "MeasuredSignature"),
+        ([claim, measured], [], [], "MeasuredSignature"),
+        ([claim], [over], [], "OutputsExceed"),
+        ([claim], outputs, [], "NoPreimage"),
+        ([claim], outputs, [32 * "07"], "NoPreimage"),
+        ([claim], [Output(MAX_MONEY + 1, program)], preimages, "ValueTooLarge"),
+        ([claim], [Output(MAX_MONEY + 1, bytes(10_001))], preimages, "ValueTooLarge"),
+        ([claim], [Output(MAX_MONEY, bytes(10_001))], preimages, "OverLimit"),
+        ([claim], [Output(MAX_MONEY, bytes(10_000))], preimages, "OutputsExceed"),
+        ([claim.changed(path=64)], [Output(MAX_MONEY + 1, program)], preimages, "ValueTooLarge"),
+        ([claim, other.changed(path=64)], [over], preimages, "NoSuchPath"),
+        ([claim.changed(slots=[]), other.changed(path=64)], outputs, preimages, "WrongArity"),
+    ]
+    return {spend(claims, given, shown): f"refused {word}\n" for claims, given, shown, word in faults}
+
+
 def asked():
     """Each line that callers read, with what they must print."""
     found, first = taken()
-    return {**found, **refused_claims(first)}
+    return {**found, **from_pages(), **refused_claims(first), **refused_spends(first)}

@@ -1,7 +1,12 @@
-/* enforce.h: the ways through a script, the scripts of BOLT 3, and claims, proved, for programs in C. Drawn from crates/enforce_c/src by `.ci/library --write`: do not edit.
+/* enforce.h: the ways through a script, the scripts of BOLT 3, and the unsigned spend of claims, proved, for programs in C. Drawn from crates/enforce_c/src by `.ci/library --write`: do not edit.
 
-   Nothing here signs, and nothing checks a signature. An accepted claim can't fail with tokens, or with valid signatures where its path
-   measures none. docs/BINDINGS.md says what is proved of each call and what its caller owes:
+     uint8_t script[] = {0x63, 0x51, 0x67, 0x52, 0x68}, bytes[64]; // IF 1 ELSE 2 ENDIF
+     enforce_path_row paths[64] = {0}; enforce_fact_row facts[64] = {0}; enforce_answer answer = {0};
+     enforce_script_list(script, 5, paths, 64, facts, 64, bytes, 64, &answer); // ENFORCE_DONE, and answer.paths is 2
+
+   Nothing here signs, and nothing checks a signature. An accepted claim can't fail with tokens, or with valid signatures where none is
+   measured: enforce_unsigned_spend refuses the others. What is proved of a call stands at it as a clause of the source: a name has .old before the call and
+   .new after it, and result is the status. docs/BINDINGS.md says the same in words, and what a caller owes:
    pointers that are valid for their lengths, outputs that are initialised, and outputs that overlap nothing else. */
 #ifndef ENFORCE_H
 #define ENFORCE_H
@@ -64,6 +69,15 @@ enum {
     ENFORCE_NO_SUCH_FORM = 0x401, /* There is no form of this kind. */
     ENFORCE_NOT_A_KEY = 0x402, /* Bytes that are to be a key do not have the form of one. */
     ENFORCE_NOT_A_HEIGHT = 0x403, /* The expiry is 500,000,000 or more, which is a time and not a height. */
+    ENFORCE_FIXED_TRANSACTION = 0x501, /* A claim has a fixed transaction. No claim of these calls has one. */
+    ENFORCE_SAME_OUTPOINT = 0x502, /* Two claims spend the same outpoint. */
+    ENFORCE_OUTPUTS_EXCEED = 0x503, /* The outputs are worth more than the claimed outputs together. */
+    ENFORCE_MEASURED_SIGNATURE = 0x504, /* The path of a claim asks for the length, the hash or the bytes of a signature. */
+    ENFORCE_NO_PREIMAGE = 0x505, /* No preimage is given for the hash of a slot. */
+    ENFORCE_NO_INPUTS = 0x604, /* There is no claim, so that the transaction has no input. */
+    ENFORCE_NO_WITNESS = 0x605, /* No witness of the transaction has an item. */
+    ENFORCE_VALUE_TOO_LARGE = 0x606, /* The value of an output is above 21,000,000 bitcoins. */
+    ENFORCE_OVER_LIMIT = 0x608, /* There are more than 4,000 claims or outputs, or the script of an output has more than 10,000 bytes. */
     ENFORCE_OUT_OF_RANGE = 0x701, /* A row refers to bytes or to rows that are not there. */
     ENFORCE_NO_SUCH_SLOT = 0x702, /* There is no slot of this kind. */
     ENFORCE_ITEM_TOO_LONG = 0x703, /* The bytes of a slot are more than 520. */
@@ -146,23 +160,67 @@ typedef struct {
     size_t number;
 } enforce_answer;
 
-/* The library's `ABI`, to be compared with that of the declarations once, at the start. */
+/* An output of a transaction. */
+typedef struct {
+    uint64_t value; /* What it is worth, in satoshis; at most 21,000,000 bitcoins. */
+    size_t script_at; /* Where its script begins among the bytes that the call is given. */
+    size_t script_length; /* How many bytes the script has, at most 10,000. */
+} enforce_output_row;
+
+/* A preimage. */
+typedef struct {
+    uint8_t bytes[32];
+} enforce_preimage_row;
+
+/* A signature that a transaction lacks. */
+typedef struct {
+    size_t input; /* The index of the input. */
+    size_t item; /* The index of its item in the input's witness, the deepest item of the stack first (BIP 141). */
+    uint8_t key[33]; /* The key that signs. */
+    uint8_t digest[32]; /* What it signs: the digest of the input with hash type ALL (BIP 143). After the signature in the item comes the byte 01. */
+} enforce_signature_row;
+
+/* What a call that makes a transaction tells beside its status, of which each call writes the whole: the bytes and rows that there are, whether or not they were written, and the number that a refusal carries. */
+typedef struct {
+    size_t bytes;
+    size_t signatures;
+    size_t number;
+} enforce_spend_answer;
+
+/* The library's `ABI`, to be compared with that of the declarations once, at the start.
+
+   Proved: result ≡ ABI */
 uint32_t enforce_abi(void);
 
-/* Lists every way to spend an output with this script by the rules of the machine here, which are stricter than consensus, and nothing else: rows of paths, rows of their facts, and the facts' bytes. The statuses of refusals are those of families 1 and 2, and `TOO_SMALL` if one of the three buffers is too short. */
+/* Lists every way to spend an output with this script by the rules of the machine here, which are stricter than consensus, and nothing else: rows of paths, rows of their facts, and the facts' bytes. The statuses of refusals are those of families 1 and 2, and `TOO_SMALL` if one of the three buffers is too short.
+
+   Proved: AnswersListing script.now (record { paths = paths.old; facts = facts.old; bytes = bytes.old }) (record { status = result; answer = answer.new; rows = record { paths = paths.new; facts = facts.new; bytes = bytes.new } }) (crates/enforce_c/specs/Listed.antt) */
 uint32_t enforce_script_list(const uint8_t *script, size_t script_length, enforce_path_row *paths, size_t paths_length, enforce_fact_row *facts, size_t facts_length, uint8_t *bytes, size_t bytes_length, enforce_answer *answer);
 
-/* Writes the text of `enforce paths` on this script, in ASCII, without notes. Its length is the answer's `bytes`. The statuses of refusals are those of families 1 and 2, and `TOO_SMALL`. */
+/* Writes the text of `enforce paths` on this script, in ASCII, without notes. Its length is the answer's `bytes`. The statuses of refusals are those of families 1 and 2, and `TOO_SMALL`.
+
+   Proved: AnswersText script.now text.old (record { status = result; answer = answer.new; bytes = text.new }) (crates/enforce_c/specs/Listed.antt) */
 uint32_t enforce_script_text(const uint8_t *script, size_t script_length, uint8_t *text, size_t text_length, enforce_answer *answer);
 
-/* Writes the program that an output with this script has (BIP 141, P2WSH), 34 bytes: 00, 20 and the script's SHA-256 in the hash's own byte order. */
+/* Writes the program that an output with this script has (BIP 141, P2WSH), 34 bytes: 00, 20 and the script's SHA-256 in the hash's own byte order.
+
+   Proved: program.new ≡ script_hash_program script.now */
 void enforce_script_program(const uint8_t *script, size_t script_length, uint8_t (*program)[34]);
 
-/* Writes the script of a form. Its length is the answer's `bytes`. The statuses of refusals are those of family 4, in the order of their numbers, and `TOO_SMALL`. */
+/* Writes the script of a form. Its length is the answer's `bytes`. The statuses of refusals are those of family 4, in the order of their numbers, and `TOO_SMALL`.
+
+   Proved: AnswersForm form.now script.old (record { status = result; answer = answer.new; bytes = script.new }) (crates/enforce_c/specs/FormScripts.antt) */
 uint32_t enforce_form_script(const enforce_form *form, uint8_t *script, size_t script_length, enforce_answer *answer);
 
-/* Accepts a claim by one path of its script, in an open transaction: any of version 2 whose lock time is a height, below 500,000,000, and not below the one that is written. Writes when the claim is due. Whatever fills the slots as their rows say spends the output. The statuses of refusals are those of families 1, 2, 3 and 7, and `NOT_A_KEY`, in this order: what the rows refer to is there, slot by slot, the script, its listing, the claim. */
+/* Accepts a claim by one path of its script, in an open transaction: any of version 2 whose lock time is a height, below 500,000,000, and not below the one that is written. Writes when the claim is due. Whatever fills the slots as their rows say spends the output. The statuses of refusals are those of families 1, 2, 3 and 7, and `NOT_A_KEY`, in this order: what the rows refer to is there, slot by slot, the script, its listing, the claim.
+
+   Proved: AnswersClaim claim.now slots.now bytes.now due.old (record { status = result; answer = answer.new; due = due.new }) (crates/enforce_c/specs/Claimed.antt) */
 uint32_t enforce_claim(const enforce_claim_row *claim, const enforce_slot_row *slots, size_t slots_length, const uint8_t *bytes, size_t bytes_length, enforce_due *due, enforce_answer *answer);
+
+/* Writes the transaction that spends the outputs of claims, in which nothing is signed, and the signatures that it lacks. It has version 2, the claims' inputs in their order with their sequences, and these outputs. Its lock time is the greatest height that a claim needs. The empty item stands in the place of each signature, and after a signature in its item comes the byte 01 (SIGHASH_ALL). The statuses of refusals are `NO_INPUTS` and `OVER_LIMIT` by the numbers of rows, then those of each output and of each claim in their order, then family 5, then `NO_WITNESS`; and `TOO_SMALL` if one of the two buffers is too short.
+
+   Proved: AnswersSpend (record { claims = claims.now; slots = slots.now; outputs = outputs.now; bytes = bytes.now }) (preimages_in preimages.now) (record { bytes = tx.old; signatures = signatures.old }) (record { status = result; answer = answer.new; lists = record { bytes = tx.new; signatures = signatures.new } }) (crates/enforce_c/specs/Spent.antt) */
+uint32_t enforce_unsigned_spend(const enforce_claim_row *claims, size_t claims_length, const enforce_slot_row *slots, size_t slots_length, const enforce_output_row *outputs, size_t outputs_length, const enforce_preimage_row *preimages, size_t preimages_length, const uint8_t *bytes, size_t bytes_length, uint8_t *tx, size_t tx_length, enforce_signature_row *signatures, size_t signatures_length, enforce_spend_answer *answer);
 
 /* The word for a status. */
 static inline const char *enforce_name(uint32_t status) {
@@ -187,6 +245,15 @@ static inline const char *enforce_name(uint32_t status) {
     case ENFORCE_NO_SUCH_FORM: return "NoSuchForm";
     case ENFORCE_NOT_A_KEY: return "NotAKey";
     case ENFORCE_NOT_A_HEIGHT: return "NotAHeight";
+    case ENFORCE_FIXED_TRANSACTION: return "FixedTransaction";
+    case ENFORCE_SAME_OUTPOINT: return "SameOutpoint";
+    case ENFORCE_OUTPUTS_EXCEED: return "OutputsExceed";
+    case ENFORCE_MEASURED_SIGNATURE: return "MeasuredSignature";
+    case ENFORCE_NO_PREIMAGE: return "NoPreimage";
+    case ENFORCE_NO_INPUTS: return "NoInputs";
+    case ENFORCE_NO_WITNESS: return "NoWitness";
+    case ENFORCE_VALUE_TOO_LARGE: return "ValueTooLarge";
+    case ENFORCE_OVER_LIMIT: return "OverLimit";
     case ENFORCE_OUT_OF_RANGE: return "OutOfRange";
     case ENFORCE_NO_SUCH_SLOT: return "NoSuchSlot";
     case ENFORCE_ITEM_TOO_LONG: return "ItemTooLong";
@@ -251,6 +318,21 @@ _Static_assert(offsetof(enforce_answer, paths) == 0, "the layout of enforce_answ
 _Static_assert(offsetof(enforce_answer, facts) == 8, "the layout of enforce_answer");
 _Static_assert(offsetof(enforce_answer, bytes) == 16, "the layout of enforce_answer");
 _Static_assert(offsetof(enforce_answer, number) == 24, "the layout of enforce_answer");
+_Static_assert(sizeof(enforce_output_row) == 24, "the layout of enforce_output_row");
+_Static_assert(offsetof(enforce_output_row, value) == 0, "the layout of enforce_output_row");
+_Static_assert(offsetof(enforce_output_row, script_at) == 8, "the layout of enforce_output_row");
+_Static_assert(offsetof(enforce_output_row, script_length) == 16, "the layout of enforce_output_row");
+_Static_assert(sizeof(enforce_preimage_row) == 32, "the layout of enforce_preimage_row");
+_Static_assert(offsetof(enforce_preimage_row, bytes) == 0, "the layout of enforce_preimage_row");
+_Static_assert(sizeof(enforce_signature_row) == 88, "the layout of enforce_signature_row");
+_Static_assert(offsetof(enforce_signature_row, input) == 0, "the layout of enforce_signature_row");
+_Static_assert(offsetof(enforce_signature_row, item) == 8, "the layout of enforce_signature_row");
+_Static_assert(offsetof(enforce_signature_row, key) == 16, "the layout of enforce_signature_row");
+_Static_assert(offsetof(enforce_signature_row, digest) == 49, "the layout of enforce_signature_row");
+_Static_assert(sizeof(enforce_spend_answer) == 24, "the layout of enforce_spend_answer");
+_Static_assert(offsetof(enforce_spend_answer, bytes) == 0, "the layout of enforce_spend_answer");
+_Static_assert(offsetof(enforce_spend_answer, signatures) == 8, "the layout of enforce_spend_answer");
+_Static_assert(offsetof(enforce_spend_answer, number) == 16, "the layout of enforce_spend_answer");
 #endif
 
 #endif

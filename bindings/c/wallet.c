@@ -21,12 +21,11 @@ static size_t read_hex(const char *from, uint8_t *bytes, size_t room) {
 /* Whether these are the bytes of the form's script. */
 static bool is_form(const uint8_t *script, size_t length, const enforce_form *form) {
     uint8_t wanted[256];
-    enforce_answer answer;
+    enforce_answer answer = {0};
     uint32_t status = enforce_form_script(form, wanted, sizeof wanted, &answer);
     return status == ENFORCE_DONE && answer.bytes == length && !memcmp(wanted, script, length);
 }
 
-/* Prints who can spend an output with this script, in short. */
 /* Whether a path has a relative lock in units of 512 seconds (BIP 68, bit 22), which stands among its facts alone. */
 static int is_timed(const enforce_fact_row *facts, size_t count) {
     for (size_t k = 0; k < count; k++)
@@ -34,11 +33,12 @@ static int is_timed(const enforce_fact_row *facts, size_t count) {
     return 0;
 }
 
+/* Prints who can spend an output with this script, in short. */
 static int tell(const uint8_t *script, size_t length) {
     static enforce_path_row paths[64];
     static enforce_fact_row facts[4096];
     static uint8_t bytes[65536];
-    enforce_answer answer;
+    enforce_answer answer = {0};
     uint32_t status = enforce_script_list(script, length, paths, 64, facts, 4096, bytes, sizeof bytes, &answer);
     if (status != ENFORCE_DONE) {
         printf("not listed: %s %zu\n", enforce_name(status), answer.number);

@@ -1,4 +1,4 @@
-// Package enforce has the ways through a version 0 witness script (BIP 141), the scripts of BOLT 3, and claims, by a library that is proved.
+// Package enforce has the ways through a version 0 witness script (BIP 141), the scripts of BOLT 3, and the unsigned spend of claims, by a library that is proved.
 //
 //	paths, err := enforce.Paths([]byte{0x63, 0x51, 0x67, 0x52, 0x68}) // IF 1 ELSE 2 ENDIF
 //	fmt.Println(len(paths), err)                                      // 2 <nil>

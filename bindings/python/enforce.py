@@ -1,4 +1,4 @@
-"""The ways through a version 0 witness script (BIP 141), the scripts of BOLT 3, and claims, by a library that is proved.
+"""The ways through a version 0 witness script (BIP 141), the scripts of BOLT 3, and the unsigned spend of claims, by a library that is proved.
 
 Nothing here signs, and nothing checks a signature. The keys are the caller's, and none is derived.
 
@@ -12,7 +12,7 @@ and the classes here, and ctypes are trusted.
 import ctypes
 import os
 from dataclasses import dataclass
-from typing import List, Optional, Tuple, Union
+from typing import List, Optional, Sequence, Tuple, Union
 
 import enforce_raw as raw
 
@@ -73,7 +73,7 @@ _KINDS = {
 
 
 def _number(value: int, bits: int, name: str) -> int:
-    """The number, if it has at most so many bits. ctypes takes the low bits of a greater one."""
+    """The number, if it has at most this number of bits. ctypes takes the low bits of a greater one."""
     if not 0 <= value < 1 << bits:
         raise ValueError(f"{name} has at most {bits} bits")
     return value
@@ -213,6 +213,24 @@ class Due:
     sequence: int
 
 
+@dataclass(frozen=True)
+class MissingSignature:
+    """A signature that a transaction lacks: the item at this place of this input's witness, by this key over this digest (BIP 143, SIGHASH_ALL)."""
+
+    input: int
+    item: int
+    key: bytes
+    digest: bytes
+
+
+@dataclass(frozen=True)
+class UnsignedSpend:
+    """A transaction (BIP 144) with the empty item in the place of each signature, and the signatures that it lacks."""
+
+    tx: bytes
+    signatures: Tuple[MissingSignature, ...]
+
+
 def _fill(field, value: bytes, name: str):
     if len(value) != len(field):
         raise ValueError(f"{name} has {len(field)} bytes")
@@ -220,7 +238,7 @@ def _fill(field, value: bytes, name: str):
 
 
 class _Given:
-    """The rows of claims, and the bytes that they refer to."""
+    """Rows of claims and of outputs, and the bytes that they refer to."""
 
     def __init__(self):
         self.bytes, self.slots = bytearray(), []
@@ -252,6 +270,10 @@ class _Given:
         self.slots += map(self.slot, claim.slots)
         return row
 
+    def output(self, value: int, script: bytes):
+        at, length = self.put(script)
+        return raw.OutputRow(value=_number(value, 64, "value"), script_at=at, script_length=length)
+
     def rows(self):
         """The rows of slots and the bytes, as two pairs of a call's arguments."""
         return _rows(raw.SlotRow, self.slots) + (_given(bytes(self.bytes)), len(self.bytes))
@@ -261,11 +283,17 @@ def _rows(kind, rows):
     return (kind * len(rows))(*rows), len(rows)
 
 
+def _preimage(data: bytes):
+    row = raw.PreimageRow()
+    _fill(row.bytes, data, "a preimage")
+    return row
+
+
 def accept(claim: Claim) -> Due:
     """Accepts a claim by one path of its script, and says when it is due. Raises Refused.
 
     Proved of enforce_claim: whatever fills the slots as they say spends the output, in a transaction of version 2 with this sequence, whose lock time is a height (below 500,000,000) and not below this one.
-    Signatures are tokens there; a path that measures none of them takes a valid signature as well.
+    Signatures are tokens there; a path that measures none of them takes a valid signature as well (unsigned_spend refuses the others).
     """
     given, due, answer = _Given(), raw.Due(), raw.Answer()
     row = given.claim(claim)
@@ -273,3 +301,26 @@ def accept(claim: Claim) -> Due:
     if status != raw.DONE:
         raise Refused(status, answer.number)
     return Due(due.height, due.sequence)
+
+
+def unsigned_spend(claims: Sequence[Claim], outputs: Sequence[Tuple[int, bytes]], preimages: Sequence[bytes] = ()) -> UnsignedSpend:
+    """The transaction that spends the outputs of claims, in which nothing is signed, and the signatures that it lacks. An output is a value in satoshis and a script. Raises Refused.
+
+    Proved of enforce_unsigned_spend: with the token of each missing signature in its place, each input runs clean. Put the signature by the key over the digest, and the byte 01 after it, in its place.
+    """
+    given, answer = _Given(), raw.SpendAnswer()
+    rows = _rows(raw.ClaimRow, [given.claim(it) for it in claims]), _rows(raw.OutputRow, [given.output(*it) for it in outputs])
+    secrets = _rows(raw.PreimageRow, [_preimage(it) for it in preimages])
+    size, count = 1024, 16
+    while True:
+        tx, signatures = (ctypes.c_uint8 * size)(), (raw.SignatureRow * count)()
+        slots, slots_length, data, data_length = given.rows()
+        status = _library.enforce_unsigned_spend(
+            *rows[0], slots, slots_length, *rows[1], *secrets, data, data_length, tx, size, signatures, count, ctypes.byref(answer)
+        )
+        if status == raw.DONE:
+            found = tuple(MissingSignature(it.input, it.item, bytes(it.key), bytes(it.digest)) for it in signatures[: answer.signatures])
+            return UnsignedSpend(bytes(tx[: answer.bytes]), found)
+        if status != raw.TOO_SMALL:
+            raise Refused(status, answer.number)
+        size, count = answer.bytes, answer.signatures

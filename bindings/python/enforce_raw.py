@@ -84,6 +84,24 @@ NO_SUCH_FORM = 0x401
 NOT_A_KEY = 0x402
 # The expiry is 500,000,000 or more, which is a time and not a height.
 NOT_A_HEIGHT = 0x403
+# A claim has a fixed transaction. No claim of these calls has one.
+FIXED_TRANSACTION = 0x501
+# Two claims spend the same outpoint.
+SAME_OUTPOINT = 0x502
+# The outputs are worth more than the claimed outputs together.
+OUTPUTS_EXCEED = 0x503
+# The path of a claim asks for the length, the hash or the bytes of a signature.
+MEASURED_SIGNATURE = 0x504
+# No preimage is given for the hash of a slot.
+NO_PREIMAGE = 0x505
+# There is no claim, so that the transaction has no input.
+NO_INPUTS = 0x604
+# No witness of the transaction has an item.
+NO_WITNESS = 0x605
+# The value of an output is above 21,000,000 bitcoins.
+VALUE_TOO_LARGE = 0x606
+# There are more than 4,000 claims or outputs, or the script of an output has more than 10,000 bytes.
+OVER_LIMIT = 0x608
 # A row refers to bytes or to rows that are not there.
 OUT_OF_RANGE = 0x701
 # There is no slot of this kind.
@@ -115,6 +133,15 @@ NAMES = {
     NO_SUCH_FORM: "NoSuchForm",
     NOT_A_KEY: "NotAKey",
     NOT_A_HEIGHT: "NotAHeight",
+    FIXED_TRANSACTION: "FixedTransaction",
+    SAME_OUTPOINT: "SameOutpoint",
+    OUTPUTS_EXCEED: "OutputsExceed",
+    MEASURED_SIGNATURE: "MeasuredSignature",
+    NO_PREIMAGE: "NoPreimage",
+    NO_INPUTS: "NoInputs",
+    NO_WITNESS: "NoWitness",
+    VALUE_TOO_LARGE: "ValueTooLarge",
+    OVER_LIMIT: "OverLimit",
     OUT_OF_RANGE: "OutOfRange",
     NO_SUCH_SLOT: "NoSuchSlot",
     ITEM_TOO_LONG: "ItemTooLong",
@@ -215,6 +242,45 @@ class Answer(Structure):
     ]
 
 
+class OutputRow(Structure):
+    """An output of a transaction."""
+
+    _fields_ = [
+        ("value", c_uint64),
+        ("script_at", c_size_t),
+        ("script_length", c_size_t),
+    ]
+
+
+class PreimageRow(Structure):
+    """A preimage."""
+
+    _fields_ = [
+        ("bytes", c_uint8 * 32),
+    ]
+
+
+class SignatureRow(Structure):
+    """A signature that a transaction lacks."""
+
+    _fields_ = [
+        ("input", c_size_t),
+        ("item", c_size_t),
+        ("key", c_uint8 * 33),
+        ("digest", c_uint8 * 32),
+    ]
+
+
+class SpendAnswer(Structure):
+    """What a call that makes a transaction tells beside its status, of which each call writes the whole: the bytes and rows that there are, whether or not they were written, and the number that a refusal carries."""
+
+    _fields_ = [
+        ("bytes", c_size_t),
+        ("signatures", c_size_t),
+        ("number", c_size_t),
+    ]
+
+
 LAYOUTS = {
     SlotRow: (88, [0, 4, 37, 72, 80]),
     ClaimRow: (104, [0, 32, 40, 48, 56, 64, 72, 80, 88, 96]),
@@ -223,23 +289,36 @@ LAYOUTS = {
     PathRow: (56, [0, 8, 16, 24, 32, 40, 48, 52, 53]),
     FactRow: (48, [0, 4, 5, 8, 16, 24, 32, 40]),
     Answer: (32, [0, 8, 16, 24]),
+    OutputRow: (24, [0, 8, 16]),
+    PreimageRow: (32, [0]),
+    SignatureRow: (88, [0, 8, 16, 49]),
+    SpendAnswer: (24, [0, 8, 16]),
 }
 
 
 def declare(library):
     """Gives the exports of a loaded library their types."""
+    # proved: result ≡ ABI
     library.enforce_abi.argtypes = []
     library.enforce_abi.restype = c_uint32
+    # proved: AnswersListing script.now (record { paths = paths.old; facts = facts.old; bytes = bytes.old }) (record { status = result; answer = answer.new; rows = record { paths = paths.new; facts = facts.new; bytes = bytes.new } }) (crates/enforce_c/specs/Listed.antt)
     library.enforce_script_list.argtypes = [POINTER(c_uint8), c_size_t, POINTER(PathRow), c_size_t, POINTER(FactRow), c_size_t, POINTER(c_uint8), c_size_t, POINTER(Answer)]
     library.enforce_script_list.restype = c_uint32
+    # proved: AnswersText script.now text.old (record { status = result; answer = answer.new; bytes = text.new }) (crates/enforce_c/specs/Listed.antt)
     library.enforce_script_text.argtypes = [POINTER(c_uint8), c_size_t, POINTER(c_uint8), c_size_t, POINTER(Answer)]
     library.enforce_script_text.restype = c_uint32
+    # proved: program.new ≡ script_hash_program script.now
     library.enforce_script_program.argtypes = [POINTER(c_uint8), c_size_t, POINTER(c_uint8 * 34)]
     library.enforce_script_program.restype = None
+    # proved: AnswersForm form.now script.old (record { status = result; answer = answer.new; bytes = script.new }) (crates/enforce_c/specs/FormScripts.antt)
     library.enforce_form_script.argtypes = [POINTER(Form), POINTER(c_uint8), c_size_t, POINTER(Answer)]
     library.enforce_form_script.restype = c_uint32
+    # proved: AnswersClaim claim.now slots.now bytes.now due.old (record { status = result; answer = answer.new; due = due.new }) (crates/enforce_c/specs/Claimed.antt)
     library.enforce_claim.argtypes = [POINTER(ClaimRow), POINTER(SlotRow), c_size_t, POINTER(c_uint8), c_size_t, POINTER(Due), POINTER(Answer)]
     library.enforce_claim.restype = c_uint32
+    # proved: AnswersSpend (record { claims = claims.now; slots = slots.now; outputs = outputs.now; bytes = bytes.now }) (preimages_in preimages.now) (record { bytes = tx.old; signatures = signatures.old }) (record { status = result; answer = answer.new; lists = record { bytes = tx.new; signatures = signatures.new } }) (crates/enforce_c/specs/Spent.antt)
+    library.enforce_unsigned_spend.argtypes = [POINTER(ClaimRow), c_size_t, POINTER(SlotRow), c_size_t, POINTER(OutputRow), c_size_t, POINTER(PreimageRow), c_size_t, POINTER(c_uint8), c_size_t, POINTER(c_uint8), c_size_t, POINTER(SignatureRow), c_size_t, POINTER(SpendAnswer)]
+    library.enforce_unsigned_spend.restype = c_uint32
     for struct, (size, offsets) in LAYOUTS.items():
         if sizeof(struct) != size or [getattr(struct, field[0]).offset for field in struct._fields_] != offsets:
             raise ImportError(f"the layout of {struct.__name__} is not the library's")

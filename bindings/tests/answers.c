@@ -5,6 +5,7 @@
      program HEX                                         the program of a script
      form KIND KEY OTHER LOCAL PAYMENT_HASH EXPIRY DELAY the script of a form
      claim CLAIM                                         when a claim is due
+     spend CLAIM;.. VALUE/SCRIPT;.. PREIMAGE,..          the transaction of claims, and the signatures that it lacks
 
    A CLAIM is SCRIPT/PROGRAM/TXID/INDEX/VALUE/PATH/SLOT,.. and a slot is s=KEY, p=HASH or e=ITEM. What is empty is a hyphen.
 
@@ -20,8 +21,8 @@
 #include <stdlib.h>
 #include <string.h>
 
-enum { PATHS = 64, FACTS = 4096, BYTES = 65536, THREADS = 4, FILL = 0x5a };
-enum { CLAIMS = 8, SLOTS = 64 };
+enum { PATHS = 64, FACTS = 4096, BYTES = 65536, SIGNATURES = 64, THREADS = 4, FILL = 0x5a };
+enum { CLAIMS = 8, SLOTS = 64, OUTPUTS = 8, PREIMAGES = 8 };
 
 #ifdef REFUSING
 extern _Thread_local long refused_number, asked;
@@ -33,10 +34,11 @@ static _Thread_local long refused_number, asked;
 typedef struct {
     enforce_path_row paths[PATHS];
     enforce_fact_row facts[FACTS];
+    enforce_signature_row signatures[SIGNATURES];
     uint8_t bytes[BYTES];
     enforce_due due;
     enforce_answer answer;
-    size_t rows; /* of facts */
+    size_t rows; /* of facts or of signatures */
     uint32_t status;
 } state;
 
@@ -158,19 +160,33 @@ typedef struct {
     enforce_form form;
     enforce_claim_row claims[CLAIMS];
     enforce_slot_row slots[SLOTS];
-    size_t claims_length, slots_length;
+    enforce_output_row outputs[OUTPUTS];
+    enforce_preimage_row preimages[PREIMAGES];
+    size_t claims_length, slots_length, outputs_length, preimages_length;
 } request;
 
 static bool is_named(const request *r, const char *name) { return !strcmp(r->name, name); }
 
-/* Makes a call with so much room: paths, rows of facts, bytes. */
+static uint32_t call_spend(const request *r, state *s, size_t signatures, size_t bytes) {
+    enforce_spend_answer answer;
+    memset(&answer, FILL, sizeof answer);
+    uint32_t status = enforce_unsigned_spend(r->claims, r->claims_length, r->slots, r->slots_length, r->outputs, r->outputs_length, r->preimages, r->preimages_length, r->bytes, r->length, s->bytes, bytes,
+                                             s->signatures, signatures, &answer);
+    s->answer = (enforce_answer){.bytes = answer.bytes, .number = answer.number};
+    s->rows = answer.signatures;
+    return status;
+}
+
+/* Makes a call with so much room: paths, rows of facts or of signatures, bytes. */
 static void call(const request *r, state *s, size_t paths, size_t rows, size_t bytes) {
     memset(s, FILL, sizeof *s);
     for (size_t i = 0; i < PATHS; i++) s->paths[i].has_lock = s->paths[i].has_age = false;
     for (size_t i = 0; i < FACTS; i++) s->facts[i].holds = s->facts[i].key_is_slot = false;
     s->rows = 0;
     asked = 0;
-    if (is_named(r, "claim")) {
+    if (is_named(r, "spend")) {
+        s->status = call_spend(r, s, rows, bytes);
+    } else if (is_named(r, "claim")) {
         s->status = enforce_claim(r->claims, r->slots, r->slots_length, r->bytes, r->length, &s->due, &s->answer);
     } else if (is_named(r, "list")) {
         s->status = enforce_script_list(r->bytes, r->length, s->paths, paths, s->facts, rows, s->bytes, bytes, &s->answer);
@@ -182,6 +198,8 @@ static void call(const request *r, state *s, size_t paths, size_t rows, size_t b
     }
 }
 
+static size_t most_rows(const request *r) { return is_named(r, "spend") ? SIGNATURES : FACTS; }
+
 static bool is_filled(const void *start, size_t length) {
     const uint8_t *bytes = start;
     for (size_t i = 0; i < length; i++)
@@ -191,7 +209,7 @@ static bool is_filled(const void *start, size_t length) {
 
 /* Nothing but the status and the answer was written. */
 static bool is_left(const state *s) {
-    if (!is_filled(s->bytes, sizeof s->bytes) || !is_filled(&s->due, sizeof s->due)) return false;
+    if (!is_filled(s->bytes, sizeof s->bytes) || !is_filled(s->signatures, sizeof s->signatures) || !is_filled(&s->due, sizeof s->due)) return false;
     for (size_t i = 0; i < PATHS; i++)
         if (s->paths[i].arity != s->paths[PATHS - 1].arity || (uint8_t)s->paths[i].arity != FILL || s->paths[i].has_lock) return false;
     for (size_t i = 0; i < FACTS; i++)
@@ -209,12 +227,18 @@ static bool is_same_fact(const enforce_fact_row *a, const enforce_fact_row *b) {
         && a->bytes_length == b->bytes_length;
 }
 
+static bool is_same_signature(const enforce_signature_row *a, const enforce_signature_row *b) {
+    return a->input == b->input && a->item == b->item && !memcmp(a->key, b->key, sizeof a->key) && !memcmp(a->digest, b->digest, sizeof a->digest);
+}
+
 /* The same bytes and rows, field by field: the padding of a row may be anything. */
 static bool are_same(const state *a, const state *b) {
     for (size_t i = 0; i < PATHS; i++)
         if (!is_same_path(&a->paths[i], &b->paths[i])) return false;
     for (size_t i = 0; i < FACTS; i++)
         if (!is_same_fact(&a->facts[i], &b->facts[i])) return false;
+    for (size_t i = 0; i < SIGNATURES; i++)
+        if (!is_same_signature(&a->signatures[i], &b->signatures[i])) return false;
     return a->due.height == b->due.height && a->due.sequence == b->due.sequence && !memcmp(a->bytes, b->bytes, BYTES);
 }
 
@@ -239,12 +263,12 @@ static void call_again(work *w, const request *r, const state *s, state *other) 
 
 /* The call with a changed row is refused so, and writes nothing but its answer. */
 static void call_changed(work *w, const request *changed, state *other, uint32_t status) {
-    call(changed, other, PATHS, FACTS, BYTES);
+    call(changed, other, PATHS, most_rows(changed), BYTES);
     if (other->status != status || !is_left(other) || other->rows || other->answer.bytes || other->answer.number) w->wrong++;
     w->short_calls++;
 }
 
-/* A number by which a range of so many from an index is not there, among so many. */
+/* A number by which a range of this length from an index is not there, in a list of this length. */
 static void put_out(work *w, const request *r, request *changed, state *other, size_t *field, size_t least) {
     const size_t beyond[] = {least, least + 1, SIZE_MAX - 1, SIZE_MAX};
     for (size_t i = 0; i < sizeof beyond / sizeof *beyond; i++) {
@@ -282,7 +306,7 @@ static void change_rows(work *w, const request *r, state *other) {
 /* Refuses each allocation in turn: the call says so, and writes nothing else. */
 static void refuse_each(work *w, const request *r, state *other) {
     for (refused_number = 1;; refused_number++) {
-        call(r, other, PATHS, FACTS, BYTES);
+        call(r, other, PATHS, most_rows(r), BYTES);
         if (asked < refused_number) break;
         if (other->status != ENFORCE_NO_MEMORY || !is_left(other) || other->answer.paths || other->rows || other->answer.bytes || other->answer.number) w->wrong++;
         w->refused++;
@@ -336,6 +360,26 @@ static void read_claim(request *r, char *text) {
     c->slots = r->slots_length - c->first_slot;
 }
 
+static void read_output(request *r, char *text) {
+    char *rest;
+    enforce_output_row *output = &r->outputs[r->outputs_length++];
+    if (r->outputs_length > OUTPUTS) fail("too many outputs");
+    output->value = strtoull(first_part(text, "/", &rest), NULL, 10);
+    output->script_at = put_bytes(r, word(&rest, "/"), &output->script_length);
+}
+
+static void read_preimage(request *r, char *text) {
+    if (r->preimages_length == PREIMAGES) fail("too many preimages");
+    read_hex(text, r->preimages[r->preimages_length++].bytes, 32);
+}
+
+/* Reads each part of a list. */
+static void read_each(request *r, char *list, const char *separator, void (*read)(request *, char *)) {
+    char *rest;
+    if (!strcmp(list, "-")) return;
+    for (char *it = first_part(list, separator, &rest); it; it = part(&rest, separator)) read(r, it);
+}
+
 static void read_form(request *r, char **rest) {
     const char *words[7];
     for (int i = 0; i < 7; i++)
@@ -347,6 +391,15 @@ static void read_form(request *r, char **rest) {
     r->form.delay_blocks = (uint16_t)strtoul(words[6], NULL, 10);
 }
 
+static void put_spend(text *to, const state *s) {
+    put(to, "tx "), put_hex(to, s->bytes, s->answer.bytes), put(to, "\n");
+    for (size_t i = 0; i < s->rows; i++) {
+        const enforce_signature_row *row = s->signatures + i;
+        put(to, "sign %zu %zu ", row->input, row->item), put_hex(to, row->key, sizeof row->key);
+        put(to, " "), put_hex(to, row->digest, sizeof row->digest), put(to, "\n");
+    }
+}
+
 static void tell(work *w, const request *r, state *s, state *other) {
     text *to = &w->told;
     if (is_named(r, "program")) {
@@ -356,11 +409,13 @@ static void tell(work *w, const request *r, state *s, state *other) {
         return;
     }
     if (w->refuses) refuse_each(w, r, other);
-    call(r, s, PATHS, FACTS, BYTES);
+    call(r, s, PATHS, most_rows(r), BYTES);
     if (s->status != ENFORCE_DONE) {
         put_status(to, s);
     } else if (is_named(r, "claim")) {
         put(to, "due %llu %u\n", (unsigned long long)s->due.height, s->due.sequence);
+    } else if (is_named(r, "spend")) {
+        put_spend(to, s);
     } else if (is_named(r, "list")) {
         put(to, "paths %zu\n", s->answer.paths);
         for (size_t k = 0; k < s->answer.paths; k++) put_path(to, s, k);
@@ -381,6 +436,11 @@ static void read_request(request *r, char *line) {
         read_form(r, &rest);
     } else if (is_named(r, "claim")) {
         read_claim(r, word(&rest, " "));
+    } else if (is_named(r, "spend")) {
+        char *claims = word(&rest, " "), *outputs = word(&rest, " "), *preimages = word(&rest, " ");
+        read_each(r, claims, ";", read_claim);
+        read_each(r, outputs, ";", read_output);
+        read_each(r, preimages, ",", read_preimage);
     } else {
         r->length = read_hex(word(&rest, " "), r->bytes, sizeof r->bytes);
     }

@@ -55,6 +55,16 @@ def claim(text):
     return enforce.Claim(data(txid), int(index), int(value), data(script), data(program), int(path), tuple(map(slot, parts(slots, ","))))
 
 
+def output(text):
+    value, script = text.split("/")
+    return int(value), data(script)
+
+
+def spend(claims, outputs, preimages):
+    found = enforce.unsigned_spend(list(map(claim, parts(claims, ";"))), list(map(output, parts(outputs, ";"))), list(map(data, parts(preimages, ","))))
+    return "\n".join([f"tx {found.tx.hex()}", *(f"sign {it.input} {it.item} {it.key.hex()} {it.digest.hex()}" for it in found.signatures)])
+
+
 def due(text):
     found = enforce.accept(claim(text))
     return f"due {found.height} {found.sequence}"
@@ -63,6 +73,8 @@ def due(text):
 def answer(name, *words):
     if name == "claim":
         return due(*words)
+    if name == "spend":
+        return spend(*words)
     if name == "form":
         keys = list(map(data, words[1:5]))
         return enforce.form_script(int(words[0]), *keys, int(words[5]), int(words[6])).hex()

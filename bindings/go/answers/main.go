@@ -118,6 +118,28 @@ func claim(text string) enforce.Claim {
 	return found
 }
 
+func spend(words []string) (string, error) {
+	var claims []enforce.Claim
+	var outputs []enforce.Output
+	var preimages [][32]byte
+	for _, it := range parts(words[0], ";") {
+		claims = append(claims, claim(it))
+	}
+	for _, it := range parts(words[1], ";") {
+		value, script, _ := strings.Cut(it, "/")
+		outputs = append(outputs, enforce.Output{Value: number(value), Script: data(script)})
+	}
+	for _, it := range parts(words[2], ",") {
+		preimages = append(preimages, hash(it))
+	}
+	tx, signatures, err := enforce.UnsignedSpend(claims, outputs, preimages)
+	text := fmt.Sprintf("tx %x\n", tx)
+	for _, it := range signatures {
+		text += fmt.Sprintf("sign %d %d %x %x\n", it.Input, it.Item, it.Key, it.Digest)
+	}
+	return text, err
+}
+
 func answer(words []string) (string, error) {
 	switch words[0] {
 	case "list":
@@ -130,6 +152,8 @@ func answer(words []string) (string, error) {
 		given := claim(words[1])
 		due, err := given.Accept()
 		return fmt.Sprintf("due %d %d\n", due.Height, due.Sequence), err
+	case "spend":
+		return spend(words[1:])
 	}
 	form := enforce.Form{Kind: uint32(number(words[1])), Key: key(words[2]), Other: key(words[3]), Local: key(words[4]), PaymentHash: hash(words[5]), ExpiryHeight: uint32(number(words[6])), DelayBlocks: uint16(number(words[7]))}
 	script, err := form.Script()

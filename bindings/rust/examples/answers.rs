@@ -1,5 +1,5 @@
 //! Makes the calls that standard input names, a line each, and prints what each answers, as `bindings/tests/answers.c` does.
-use enforce::{Claim, Fact, Form, KeySource, Path, Refused, Slot, Stated};
+use enforce::{Claim, Fact, Form, KeySource, Output, Path, Refused, Slot, Stated};
 use std::io::{self, BufRead};
 
 fn hex(bytes: &[u8]) -> String {
@@ -95,6 +95,17 @@ fn claim(text: &str) -> Claim {
     }
 }
 
+fn output(text: &str) -> Output {
+    let (value, script) = text.split_once('/').expect("an output has two parts");
+    Output { value: value.parse().expect("a value"), script: bytes(script) }
+}
+
+fn spend(claims: &str, outputs: &str, preimages: &str) -> Result<String, Refused> {
+    let found = enforce::unsigned_spend(&each(claims, ';', claim), &each(outputs, ';', output), &each(preimages, ',', array))?;
+    let lines = found.signatures.iter().map(|it| format!("sign {} {} {} {}\n", it.input, it.item, hex(&it.key), hex(&it.digest)));
+    Ok(format!("tx {}\n", hex(&found.tx)) + &lines.collect::<String>())
+}
+
 fn answer(line: &str) -> Result<String, Refused> {
     let words: Vec<&str> = line.split(' ').collect();
     match words[0] {
@@ -105,6 +116,7 @@ fn answer(line: &str) -> Result<String, Refused> {
         "text" => enforce::text(&bytes(words[1])),
         "program" => Ok(hex(&enforce::program(&bytes(words[1]))) + "\n"),
         "claim" => claim(words[1]).accept().map(|due| format!("due {} {}\n", due.height, due.sequence)),
+        "spend" => spend(words[1], words[2], words[3]),
         _ => match form(&words[1..]) {
             Some(form) => Ok(hex(&form.script()?) + "\n"),
             // no value of `Form` has another kind

@@ -1,4 +1,4 @@
-//! The ways through a version 0 witness script (BIP 141), the scripts of BOLT 3, and claims, by a library that is proved.
+//! The ways through a version 0 witness script (BIP 141), the scripts of BOLT 3, and the unsigned spend of claims, by a library that is proved.
 //!
 //! Nothing here signs, and nothing checks a signature. The keys are the caller's, and none is derived.
 //!
@@ -42,6 +42,19 @@ pub enum Refused {
     WrongProgram,
     NotAKey,
     NotAHeight,
+    SameOutpoint,
+    /// The outputs are worth more than the claimed outputs together.
+    OutputsExceed,
+    /// The path of a claim asks for the length, the hash or the bytes of a signature.
+    MeasuredSignature,
+    /// No preimage is given for the hash of a slot.
+    NoPreimage,
+    /// There is no claim.
+    NoInputs,
+    NoWitness,
+    ValueTooLarge,
+    /// There are more than 4,000 claims or outputs, or a script of an output has more than 10,000 bytes.
+    OverLimit,
     /// The bytes of a slot are more than 520.
     ItemTooLong,
     /// A status that these declarations do not have.
@@ -80,6 +93,14 @@ fn refused(status: u32, number: usize) -> Refused {
         raw::WRONG_PROGRAM => Refused::WrongProgram,
         raw::NOT_A_KEY => Refused::NotAKey,
         raw::NOT_A_HEIGHT => Refused::NotAHeight,
+        raw::SAME_OUTPOINT => Refused::SameOutpoint,
+        raw::OUTPUTS_EXCEED => Refused::OutputsExceed,
+        raw::MEASURED_SIGNATURE => Refused::MeasuredSignature,
+        raw::NO_PREIMAGE => Refused::NoPreimage,
+        raw::NO_INPUTS => Refused::NoInputs,
+        raw::NO_WITNESS => Refused::NoWitness,
+        raw::VALUE_TOO_LARGE => Refused::ValueTooLarge,
+        raw::OVER_LIMIT => Refused::OverLimit,
         raw::ITEM_TOO_LONG => Refused::ItemTooLong,
         other => Refused::Unknown(other),
     }
@@ -347,6 +368,32 @@ pub struct Due {
     pub sequence: u32,
 }
 
+/// An output of a transaction: its value in satoshis and its script.
+#[derive(Clone, Debug, PartialEq, Eq)]
+pub struct Output {
+    pub value: u64,
+    pub script: Vec<u8>,
+}
+
+/// A signature that a transaction lacks.
+#[derive(Clone, Copy, Debug, PartialEq, Eq)]
+pub struct MissingSignature {
+    /// The index of the input.
+    pub input: usize,
+    /// The index of its item in the input's witness, the deepest item of the stack first (BIP 141).
+    pub item: usize,
+    pub key: [u8; 33],
+    /// What it signs (BIP 143, SIGHASH_ALL).
+    pub digest: [u8; 32],
+}
+
+/// A transaction (BIP 144) with the empty item in the place of each signature, and the signatures that it lacks.
+#[derive(Clone, Debug, PartialEq, Eq)]
+pub struct UnsignedSpend {
+    pub tx: Vec<u8>,
+    pub signatures: Vec<MissingSignature>,
+}
+
 /// Rows of slots, and the bytes that rows refer to.
 #[derive(Default)]
 struct Given {
@@ -383,13 +430,18 @@ impl Given {
         let Claim { txid, index, value, path, .. } = *claim;
         raw::ClaimRow { txid, index, value, script_at, script_length, program_at, program_length, path, first_slot, slots: claim.slots.len() }
     }
+
+    fn output(&mut self, output: &Output) -> raw::OutputRow {
+        let (script_at, script_length) = self.put(&output.script);
+        raw::OutputRow { value: output.value, script_at, script_length }
+    }
 }
 
 impl Claim {
     /// Accepts the claim, and says when it is due.
     ///
     /// Proved (`enforce_claim`): whatever fills the slots as they say spends the output, in a transaction of version 2 with this sequence, whose lock time is a height (below 500,000,000) and
-    /// not below this one. Signatures are tokens there; a path that measures none of them takes a valid signature as well. A refusal is the first that
+    /// not below this one. Signatures are tokens there; a path that measures none of them takes a valid signature as well ([`unsigned_spend`] refuses the others). A refusal is the first that
     /// holds: of a slot, of the script's bytes, of its listing, of the claim.
     pub fn accept(&self) -> Result<Due, Refused> {
         let (mut given, mut due, mut answer) = (Given::default(), raw::Due { height: 0, sequence: 0 }, ANSWER);
@@ -400,6 +452,42 @@ impl Claim {
         match status {
             raw::DONE => Ok(Due { height: due.height, sequence: due.sequence }),
             other => Err(refused(other, answer.number)),
+        }
+    }
+}
+
+/// The transaction that spends the outputs of claims, in which nothing is signed, and the signatures that it lacks.
+///
+/// Proved (`enforce_unsigned_spend`): with the token of each missing signature in its place, each input runs clean. Put the signature by the key over the digest, and the byte 01 after
+/// it, in its place. A refusal is the first that holds: of the numbers of claims and outputs, of an output, of a claim, of the spend.
+pub fn unsigned_spend(claims: &[Claim], outputs: &[Output], preimages: &[[u8; 32]]) -> Result<UnsignedSpend, Refused> {
+    let mut given = Given::default();
+    let claims: Vec<_> = claims.iter().map(|it| given.claim(it)).collect();
+    let outputs: Vec<_> = outputs.iter().map(|it| given.output(it)).collect();
+    let preimages: Vec<_> = preimages.iter().map(|it| raw::PreimageRow { bytes: *it }).collect();
+    let blank = raw::SignatureRow { input: 0, item: 0, key: [0; 33], digest: [0; 32] };
+    let (mut tx, mut signatures) = (vec![0; 1024], vec![blank; 16]);
+    loop {
+        let mut answer = raw::SpendAnswer { bytes: 0, signatures: 0, number: 0 };
+        // SAFETY: each pointer is of a slice that lives over the call, with that slice's length, or of `answer`.
+        let status = unsafe {
+            raw::enforce_unsigned_spend(
+                claims.as_ptr(), claims.len(), given.slots.as_ptr(), given.slots.len(), outputs.as_ptr(), outputs.len(), preimages.as_ptr(), preimages.len(),
+                given.bytes.as_ptr(), given.bytes.len(), tx.as_mut_ptr(), tx.len(), signatures.as_mut_ptr(), signatures.len(), &mut answer,
+            )
+        };
+        match status {
+            raw::DONE => {
+                tx.truncate(answer.bytes);
+                let signatures = signatures[..answer.signatures].iter();
+                let signatures = signatures.map(|it| MissingSignature { input: it.input, item: it.item, key: it.key, digest: it.digest }).collect();
+                return Ok(UnsignedSpend { tx, signatures });
+            }
+            raw::TOO_SMALL => {
+                tx.resize(answer.bytes, 0);
+                signatures.resize(answer.signatures, blank);
+            }
+            other => return Err(refused(other, answer.number)),
         }
     }
 }

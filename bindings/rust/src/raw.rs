@@ -84,6 +84,24 @@ pub const NO_SUCH_FORM: u32 = 0x401;
 pub const NOT_A_KEY: u32 = 0x402;
 /// The expiry is 500,000,000 or more, which is a time and not a height.
 pub const NOT_A_HEIGHT: u32 = 0x403;
+/// A claim has a fixed transaction. No claim of these calls has one.
+pub const FIXED_TRANSACTION: u32 = 0x501;
+/// Two claims spend the same outpoint.
+pub const SAME_OUTPOINT: u32 = 0x502;
+/// The outputs are worth more than the claimed outputs together.
+pub const OUTPUTS_EXCEED: u32 = 0x503;
+/// The path of a claim asks for the length, the hash or the bytes of a signature.
+pub const MEASURED_SIGNATURE: u32 = 0x504;
+/// No preimage is given for the hash of a slot.
+pub const NO_PREIMAGE: u32 = 0x505;
+/// There is no claim, so that the transaction has no input.
+pub const NO_INPUTS: u32 = 0x604;
+/// No witness of the transaction has an item.
+pub const NO_WITNESS: u32 = 0x605;
+/// The value of an output is above 21,000,000 bitcoins.
+pub const VALUE_TOO_LARGE: u32 = 0x606;
+/// There are more than 4,000 claims or outputs, or the script of an output has more than 10,000 bytes.
+pub const OVER_LIMIT: u32 = 0x608;
 /// A row refers to bytes or to rows that are not there.
 pub const OUT_OF_RANGE: u32 = 0x701;
 /// There is no slot of this kind.
@@ -289,19 +307,104 @@ const _: () = {
     assert!(core::mem::offset_of!(Answer, number) == 24);
 };
 
+/// An output of a transaction.
+#[repr(C)]
+#[derive(Clone, Copy, Debug, PartialEq, Eq)]
+pub struct OutputRow {
+    /// What it is worth, in satoshis; at most 21,000,000 bitcoins.
+    pub value: u64,
+    /// Where its script begins among the bytes that the call is given.
+    pub script_at: usize,
+    /// How many bytes the script has, at most 10,000.
+    pub script_length: usize,
+}
+
+const _: () = {
+    assert!(size_of::<OutputRow>() == 24);
+    assert!(core::mem::offset_of!(OutputRow, value) == 0);
+    assert!(core::mem::offset_of!(OutputRow, script_at) == 8);
+    assert!(core::mem::offset_of!(OutputRow, script_length) == 16);
+};
+
+/// A preimage.
+#[repr(C)]
+#[derive(Clone, Copy, Debug, PartialEq, Eq)]
+pub struct PreimageRow {
+    pub bytes: [u8; 32],
+}
+
+const _: () = {
+    assert!(size_of::<PreimageRow>() == 32);
+    assert!(core::mem::offset_of!(PreimageRow, bytes) == 0);
+};
+
+/// A signature that a transaction lacks.
+#[repr(C)]
+#[derive(Clone, Copy, Debug, PartialEq, Eq)]
+pub struct SignatureRow {
+    /// The index of the input.
+    pub input: usize,
+    /// The index of its item in the input's witness, the deepest item of the stack first (BIP 141).
+    pub item: usize,
+    /// The key that signs.
+    pub key: [u8; 33],
+    /// What it signs: the digest of the input with hash type ALL (BIP 143). After the signature in the item comes the byte 01.
+    pub digest: [u8; 32],
+}
+
+const _: () = {
+    assert!(size_of::<SignatureRow>() == 88);
+    assert!(core::mem::offset_of!(SignatureRow, input) == 0);
+    assert!(core::mem::offset_of!(SignatureRow, item) == 8);
+    assert!(core::mem::offset_of!(SignatureRow, key) == 16);
+    assert!(core::mem::offset_of!(SignatureRow, digest) == 49);
+};
+
+/// What a call that makes a transaction tells beside its status, of which each call writes the whole: the bytes and rows that there are, whether or not they were written, and the number that a refusal carries.
+#[repr(C)]
+#[derive(Clone, Copy, Debug, PartialEq, Eq)]
+pub struct SpendAnswer {
+    pub bytes: usize,
+    pub signatures: usize,
+    pub number: usize,
+}
+
+const _: () = {
+    assert!(size_of::<SpendAnswer>() == 24);
+    assert!(core::mem::offset_of!(SpendAnswer, bytes) == 0);
+    assert!(core::mem::offset_of!(SpendAnswer, signatures) == 8);
+    assert!(core::mem::offset_of!(SpendAnswer, number) == 16);
+};
+
 unsafe extern "C" {
     /// The library's `ABI`, to be compared with that of the declarations once, at the start.
+    ///
+    /// Proved: `result ≡ ABI`
     pub fn enforce_abi() -> u32;
     /// Lists every way to spend an output with this script by the rules of the machine here, which are stricter than consensus, and nothing else: rows of paths, rows of their facts, and the facts' bytes. The statuses of refusals are those of families 1 and 2, and `TOO_SMALL` if one of the three buffers is too short.
+    ///
+    /// Proved: `AnswersListing script.now (record { paths = paths.old; facts = facts.old; bytes = bytes.old }) (record { status = result; answer = answer.new; rows = record { paths = paths.new; facts = facts.new; bytes = bytes.new } }) (crates/enforce_c/specs/Listed.antt)`
     pub fn enforce_script_list(script: *const u8, script_length: usize, paths: *mut PathRow, paths_length: usize, facts: *mut FactRow, facts_length: usize, bytes: *mut u8, bytes_length: usize, answer: *mut Answer) -> u32;
     /// Writes the text of `enforce paths` on this script, in ASCII, without notes. Its length is the answer's `bytes`. The statuses of refusals are those of families 1 and 2, and `TOO_SMALL`.
+    ///
+    /// Proved: `AnswersText script.now text.old (record { status = result; answer = answer.new; bytes = text.new }) (crates/enforce_c/specs/Listed.antt)`
     pub fn enforce_script_text(script: *const u8, script_length: usize, text: *mut u8, text_length: usize, answer: *mut Answer) -> u32;
     /// Writes the program that an output with this script has (BIP 141, P2WSH), 34 bytes: 00, 20 and the script's SHA-256 in the hash's own byte order.
+    ///
+    /// Proved: `program.new ≡ script_hash_program script.now`
     pub fn enforce_script_program(script: *const u8, script_length: usize, program: *mut [u8; 34]);
     /// Writes the script of a form. Its length is the answer's `bytes`. The statuses of refusals are those of family 4, in the order of their numbers, and `TOO_SMALL`.
+    ///
+    /// Proved: `AnswersForm form.now script.old (record { status = result; answer = answer.new; bytes = script.new }) (crates/enforce_c/specs/FormScripts.antt)`
     pub fn enforce_form_script(form: *const Form, script: *mut u8, script_length: usize, answer: *mut Answer) -> u32;
     /// Accepts a claim by one path of its script, in an open transaction: any of version 2 whose lock time is a height, below 500,000,000, and not below the one that is written. Writes when the claim is due. Whatever fills the slots as their rows say spends the output. The statuses of refusals are those of families 1, 2, 3 and 7, and `NOT_A_KEY`, in this order: what the rows refer to is there, slot by slot, the script, its listing, the claim.
+    ///
+    /// Proved: `AnswersClaim claim.now slots.now bytes.now due.old (record { status = result; answer = answer.new; due = due.new }) (crates/enforce_c/specs/Claimed.antt)`
     pub fn enforce_claim(claim: *const ClaimRow, slots: *const SlotRow, slots_length: usize, bytes: *const u8, bytes_length: usize, due: *mut Due, answer: *mut Answer) -> u32;
+    /// Writes the transaction that spends the outputs of claims, in which nothing is signed, and the signatures that it lacks. It has version 2, the claims' inputs in their order with their sequences, and these outputs. Its lock time is the greatest height that a claim needs. The empty item stands in the place of each signature, and after a signature in its item comes the byte 01 (SIGHASH_ALL). The statuses of refusals are `NO_INPUTS` and `OVER_LIMIT` by the numbers of rows, then those of each output and of each claim in their order, then family 5, then `NO_WITNESS`; and `TOO_SMALL` if one of the two buffers is too short.
+    ///
+    /// Proved: `AnswersSpend (record { claims = claims.now; slots = slots.now; outputs = outputs.now; bytes = bytes.now }) (preimages_in preimages.now) (record { bytes = tx.old; signatures = signatures.old }) (record { status = result; answer = answer.new; lists = record { bytes = tx.new; signatures = signatures.new } }) (crates/enforce_c/specs/Spent.antt)`
+    pub fn enforce_unsigned_spend(claims: *const ClaimRow, claims_length: usize, slots: *const SlotRow, slots_length: usize, outputs: *const OutputRow, outputs_length: usize, preimages: *const PreimageRow, preimages_length: usize, bytes: *const u8, bytes_length: usize, tx: *mut u8, tx_length: usize, signatures: *mut SignatureRow, signatures_length: usize, answer: *mut SpendAnswer) -> u32;
 }
 
 /// The word for a status.
@@ -327,6 +430,15 @@ pub fn name(status: u32) -> &'static str {
         NO_SUCH_FORM => "NoSuchForm",
         NOT_A_KEY => "NotAKey",
         NOT_A_HEIGHT => "NotAHeight",
+        FIXED_TRANSACTION => "FixedTransaction",
+        SAME_OUTPOINT => "SameOutpoint",
+        OUTPUTS_EXCEED => "OutputsExceed",
+        MEASURED_SIGNATURE => "MeasuredSignature",
+        NO_PREIMAGE => "NoPreimage",
+        NO_INPUTS => "NoInputs",
+        NO_WITNESS => "NoWitness",
+        VALUE_TOO_LARGE => "ValueTooLarge",
+        OVER_LIMIT => "OverLimit",
         OUT_OF_RANGE => "OutOfRange",
         NO_SUCH_SLOT => "NoSuchSlot",
         ITEM_TOO_LONG => "ItemTooLong",

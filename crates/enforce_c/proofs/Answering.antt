@@ -22,6 +22,8 @@ use Rattle.enforce_c.specs.declared.claim_rows.ClaimRow.{ClaimRow}
 use Rattle.enforce_c.specs.declared.claim_rows.SlotRow.{SlotRow}
 use Rattle.enforce_c.specs.declared.claim_rows.Due.{Due}
 use Rattle.enforce_c.specs.Claimed.{IsClaimed, due_of, AnswersClaim}
+use Rattle.enforce_c.specs.declared.spend_rows.SpendAnswer.{SpendAnswer}
+use Rattle.enforce_c.specs.Spent.{Asked, SpendLists, IsSpent, left_by_lists, spend_refused, LeftSpend, AnswersSpend}
 use Rattle.enforce_c.specs.FormScripts.{IsOf, IsSpeltForm, AnswersForm, form_of}
 
 pub is_listed : (bytes : List ℕ) (ops : List Op) (c : CheckedScript) → Spells ops bytes → IsListing ops (Ok c) → All (IsSound c.ops) c.paths → IsExhaustive c.ops c.paths → IsListed bytes c
@@ -63,6 +65,13 @@ claimed_due row rows bytes before due c s a claimed status answer is = (Ok c, cl
 pub refused_claim : (row : ClaimRow) (rows : List SlotRow) (bytes : List ℕ) (before : Due) (e : Refusal) (s : ℕ) (a : Answer) → IsClaimed row rows bytes (Err e) → s ≡ status_of e → a ≡ refused_with e
     → AnswersClaim row rows bytes before (record { status = s; answer = a; due = before })
 refused_claim row rows bytes before e s a refused status answer = (Err e, refused, rw (status, answer) refl)
+
+pub spent_lists : (a : Asked) (preimages : List (List ℕ)) (before s : SpendLists) (after : LeftSpend) → IsSpent a preimages (Ok s) → left_by_lists s before ≡ after → AnswersSpend a preimages before after
+spent_lists a preimages before s after spent left = (Ok s, spent, left)
+
+pub refused_spend : (a : Asked) (preimages : List (List ℕ)) (before : SpendLists) (e : Refusal) (s : ℕ) (n : SpendAnswer) → IsSpent a preimages (Err e) → s ≡ status_of e → n ≡ spend_refused e
+    → AnswersSpend a preimages before (record { status = s; answer = n; lists = before })
+refused_spend a preimages before e s n refused status answer = (Err e, refused, rw (status, answer) refl)
 
 pub is_text : (bytes : List ℕ) (c : CheckedScript) (paths : List Path) (text : List ℕ) → IsListed bytes c → paths ≡ c.paths → text ≡ listing_text paths → IsText bytes (Ok text)
 is_text bytes c paths text listed same told = (c, listed, rw (sym same) told)

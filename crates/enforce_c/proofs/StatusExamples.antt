@@ -3,9 +3,12 @@ use Rattle.std.proofs.Common.{◌≡◌, true, [], ◌∷◌, map, refl}
 use Rattle.script.specs.declared.parse.ParseError.TheVariants.{NoMemory as ParseMemory, BadOpcode, Truncated, TooLong}
 use Rattle.paths.specs.declared.errors.CheckError.TheVariants.{NoMemory as ListMemory, OpenBranch, TooManyOps, Undecided, TooManyPaths, TooTall}
 use Rattle.facts.specs.declared.symbols.FactOver.TheVariants.{Truth}
+use Rattle.tx.specs.declared.errors.FieldError.TheVariants.{NoInputs, ValueTooLarge, OverLimit}
+use Rattle.tx.specs.declared.errors.EncodeError.TheVariants.{NoMemory as EncodeMemory, NoWitness}
 use Rattle.claim.specs.declared.errors.AcceptError.TheVariants.{NoMemory as AcceptMemory, NoSuchPath, WrongArity, Unmet, Contradiction, WrongProgram, WrongShell}
-use Rattle.enforce_c.specs.declared.statuses.Refusal.TheVariants.{NoMemory, Parse, Check, NoSuchForm, NotAKey, NotAHeight, OutOfRange, NoSuchSlot, ItemTooLong, Accept}
-use Rattle.enforce_c.specs.Statuses.{parse_status, check_status, accept_status, status_of, parse_number, check_number, number_of}
+use Rattle.filling.specs.declared.errors.SpendError.TheVariants.{NoMemory as SpendMemory, FixedTransaction, SameOutpoint, OutputsExceed, MeasuredSignature, NoPreimage}
+use Rattle.enforce_c.specs.declared.statuses.Refusal.TheVariants.{NoMemory, Parse, Check, NoSuchForm, NotAKey, NotAHeight, OutOfRange, NoSuchSlot, ItemTooLong, Accept, Field, Spend, Encode}
+use Rattle.enforce_c.specs.Statuses.{parse_status, check_status, accept_status, spend_status, field_status, encode_status, status_of, parse_number, check_number, number_of}
 
 parse_statuses : map parse_status (ParseMemory ∷ BadOpcode 7 ∷ Truncated 8 ∷ TooLong ∷ []) ≡ 1 ∷ 257 ∷ 258 ∷ 259 ∷ []
 parse_statuses = refl
@@ -16,10 +19,20 @@ check_statuses = refl
 accept_statuses : map accept_status (AcceptMemory ∷ NoSuchPath ∷ WrongArity ∷ Unmet (record { fact = Truth 3; holds = true }) ∷ Contradiction ∷ WrongProgram ∷ WrongShell ∷ []) ≡ 1 ∷ 769 ∷ 770 ∷ 771 ∷ 772 ∷ 773 ∷ 774 ∷ []
 accept_statuses = refl
 
+spend_statuses : map spend_status (SpendMemory ∷ FixedTransaction ∷ SameOutpoint ∷ OutputsExceed ∷ MeasuredSignature ∷ NoPreimage ∷ []) ≡ 1 ∷ 1281 ∷ 1282 ∷ 1283 ∷ 1284 ∷ 1285 ∷ []
+spend_statuses = refl
+
+field_statuses : map field_status (NoInputs ∷ ValueTooLarge ∷ OverLimit ∷ []) ≡ 1540 ∷ 1542 ∷ 1544 ∷ []
+field_statuses = refl
+
+encode_statuses : map encode_status (EncodeMemory ∷ NoWitness ∷ []) ≡ 1 ∷ 1541 ∷ []
+encode_statuses = refl
+
 statuses : map status_of (NoMemory ∷ Parse (BadOpcode 7) ∷ Parse TooLong ∷ Check (Undecided 9) ∷ Check TooTall ∷ NoSuchForm ∷ NotAKey ∷ NotAHeight ∷ []) ≡ 1 ∷ 257 ∷ 259 ∷ 515 ∷ 517 ∷ 1025 ∷ 1026 ∷ 1027 ∷ []
 statuses = refl
 
-more_statuses : map status_of (OutOfRange ∷ NoSuchSlot ∷ ItemTooLong ∷ Accept NoSuchPath ∷ Accept WrongShell ∷ []) ≡ 1793 ∷ 1794 ∷ 1795 ∷ 769 ∷ 774 ∷ []
+more_statuses : map status_of (OutOfRange ∷ NoSuchSlot ∷ ItemTooLong ∷ Accept NoSuchPath ∷ Accept WrongShell ∷ Spend SameOutpoint ∷ Spend NoPreimage ∷ Field NoInputs ∷ Field OverLimit ∷ Encode EncodeMemory ∷ Encode NoWitness ∷ [])
+    ≡ 1793 ∷ 1794 ∷ 1795 ∷ 769 ∷ 774 ∷ 1282 ∷ 1285 ∷ 1540 ∷ 1544 ∷ 1 ∷ 1541 ∷ []
 more_statuses = refl
 
 parse_numbers : map parse_number (ParseMemory ∷ BadOpcode 7 ∷ BadOpcode 70 ∷ Truncated 8 ∷ Truncated 80 ∷ TooLong ∷ []) ≡ 0 ∷ 7 ∷ 70 ∷ 8 ∷ 80 ∷ 0 ∷ []
@@ -31,5 +44,5 @@ check_numbers = refl
 numbers : map number_of (NoMemory ∷ Parse (BadOpcode 7) ∷ Parse (Truncated 8) ∷ Check (Undecided 9) ∷ Check TooTall ∷ NoSuchForm ∷ NotAKey ∷ NotAHeight ∷ []) ≡ 0 ∷ 7 ∷ 8 ∷ 9 ∷ 0 ∷ 0 ∷ 0 ∷ 0 ∷ []
 numbers = refl
 
-more_numbers : map number_of (OutOfRange ∷ NoSuchSlot ∷ ItemTooLong ∷ Accept NoSuchPath ∷ []) ≡ 0 ∷ 0 ∷ 0 ∷ 0 ∷ []
+more_numbers : map number_of (OutOfRange ∷ NoSuchSlot ∷ ItemTooLong ∷ Accept NoSuchPath ∷ Spend NoPreimage ∷ Field OverLimit ∷ Encode NoWitness ∷ []) ≡ 0 ∷ 0 ∷ 0 ∷ 0 ∷ 0 ∷ 0 ∷ 0 ∷ []
 more_numbers = refl

@@ -5,3 +5,4 @@ pub mod Listed
 pub mod FormScripts
 pub mod Ranges
 pub mod Claimed
+pub mod Spent

@@ -4,10 +4,16 @@ use Rattle.script.specs.declared.parse.ParseError.{ParseError}
 use Rattle.script.specs.declared.parse.ParseError.TheVariants.{NoMemory as ParseMemory, BadOpcode, Truncated, TooLong}
 use Rattle.paths.specs.declared.errors.CheckError.{CheckError}
 use Rattle.paths.specs.declared.errors.CheckError.TheVariants.{NoMemory as ListMemory, OpenBranch, TooManyOps, Undecided, TooManyPaths, TooTall}
+use Rattle.tx.specs.declared.errors.FieldError.{FieldError}
+use Rattle.tx.specs.declared.errors.FieldError.TheVariants.{NoInputs, ValueTooLarge, OverLimit}
+use Rattle.tx.specs.declared.errors.EncodeError.{EncodeError}
+use Rattle.tx.specs.declared.errors.EncodeError.TheVariants.{NoMemory as EncodeMemory, NoWitness}
 use Rattle.claim.specs.declared.errors.AcceptError.{AcceptError}
 use Rattle.claim.specs.declared.errors.AcceptError.TheVariants.{NoMemory as AcceptMemory, NoSuchPath, WrongArity, Unmet, Contradiction, WrongProgram, WrongShell}
+use Rattle.filling.specs.declared.errors.SpendError.{SpendError}
+use Rattle.filling.specs.declared.errors.SpendError.TheVariants.{NoMemory as SpendMemory, FixedTransaction, SameOutpoint, OutputsExceed, MeasuredSignature, NoPreimage}
 use Rattle.enforce_c.specs.declared.statuses.Refusal.{Refusal}
-use Rattle.enforce_c.specs.declared.statuses.Refusal.TheVariants.{NoMemory, Parse, Check, NoSuchForm, NotAKey, NotAHeight, OutOfRange, NoSuchSlot, ItemTooLong, Accept}
+use Rattle.enforce_c.specs.declared.statuses.Refusal.TheVariants.{NoMemory, Parse, Check, NoSuchForm, NotAKey, NotAHeight, OutOfRange, NoSuchSlot, ItemTooLong, Accept, Field, Spend, Encode}
 
 -- of a script's bytes
 abbrev pub parse_status : ParseError → ℕ
@@ -35,6 +41,25 @@ accept_status Contradiction = 772
 accept_status WrongProgram = 773
 accept_status WrongShell = 774
 
+-- of a spend
+abbrev pub spend_status : SpendError → ℕ
+spend_status SpendMemory = 1
+spend_status FixedTransaction = 1281
+spend_status SameOutpoint = 1282
+spend_status OutputsExceed = 1283
+spend_status MeasuredSignature = 1284
+spend_status NoPreimage = 1285
+
+-- of the parts of a transaction, and of its bytes
+abbrev pub field_status : FieldError → ℕ
+field_status NoInputs = 1540
+field_status ValueTooLarge = 1542
+field_status OverLimit = 1544
+
+abbrev pub encode_status : EncodeError → ℕ
+encode_status EncodeMemory = 1
+encode_status NoWitness = 1541
+
 abbrev pub status_of : Refusal → ℕ
 status_of NoMemory = 1
 status_of (Parse e) = parse_status e
@@ -43,6 +68,9 @@ status_of NoSuchForm = 1025
 status_of NotAKey = 1026
 status_of NotAHeight = 1027
 status_of (Accept e) = accept_status e
+status_of (Spend e) = spend_status e
+status_of (Field e) = field_status e
+status_of (Encode e) = encode_status e
 status_of OutOfRange = 1793
 status_of NoSuchSlot = 1794
 status_of ItemTooLong = 1795

@@ -4,10 +4,13 @@ ghost use Rattle.std.specs.Prelude.{◌≡◌, []};
 ghost use Rattle.enforce_c.specs.Statuses.{status_of};
 ghost use Rattle.enforce_c.specs.Answers.{left_by_rows, left_by_bytes, bytes_answer, refused_with};
 ghost use Rattle.enforce_c.specs.Claimed.{due_of};
+ghost use Rattle.enforce_c.specs.Spent.{left_by_lists, spend_refused};
 
 use crate::buffers::put;
 use crate::claim_rows::Due;
 use crate::rows::{Answer, FactRow, PathRow};
+use crate::spend_rows::{SignatureRow, SpendAnswer};
+use crate::spending::Spending;
 use crate::statuses::{DONE, Refusal, TOO_SMALL};
 use crate::telling::Rows;
 use claim::Claim;
@@ -88,6 +91,43 @@ pub(crate) fn refuse(refusal: &Refusal, answer: &mut Answer) -> u32
         paths: 0,
         facts: 0,
         bytes: 0,
+        number: refusal.number(),
+    };
+    refusal.status()
+}
+
+/// Writes the bytes of a transaction and the rows of its signatures if there is room for them, and how many there are. Gives the status.
+pub(crate) fn write_spend(
+    spending: &Spending,
+    bytes: &mut [u8],
+    signatures: &mut [SignatureRow],
+    answer: &mut SpendAnswer,
+) -> u32
+    ensures { left_by_lists spending.now (record { bytes = bytes.old; signatures = signatures.old })
+        ≡ record { status = result; answer = answer.new; lists = record { bytes = bytes.new; signatures = signatures.new } } }
+{
+    *answer = SpendAnswer {
+        bytes: spending.bytes.len(),
+        signatures: spending.signatures.len(),
+        number: 0,
+    };
+    if spending.bytes.len() <= bytes.len() && spending.signatures.len() <= signatures.len() {
+        put(bytes, spending.bytes.as_slice());
+        put(signatures, spending.signatures.as_slice());
+        DONE
+    } else {
+        TOO_SMALL
+    }
+}
+
+/// Writes the answer of a refused spend. Gives its status.
+pub(crate) fn refuse_spend(refusal: &Refusal, answer: &mut SpendAnswer) -> u32
+    ensures status { result ≡ status_of refusal.now }
+    ensures answer { answer.new ≡ spend_refused refusal.now }
+{
+    *answer = SpendAnswer {
+        bytes: 0,
+        signatures: 0,
         number: refusal.number(),
     };
     refusal.status()

@@ -1,4 +1,4 @@
-//! The ways through a script, the scripts of BOLT 3, and claims, for programs in C, as a static library.
+//! The ways through a script, the scripts of BOLT 3, and the unsigned spend of claims, for programs in C, as a static library.
 //!
 //! Each export writes only to what it is given by a pointer that is not const, keeps no pointer, and may be called
 //! from several threads at once. No export has a `requires`: whatever bytes and lengths a caller gives, it is
@@ -6,8 +6,8 @@
 //! A buffer that is too short is left as it was, and the [`Answer`] says how long it has to be.
 //!
 //! `paths` lists the ways through a script, and `script_words` has the text of a listing. `forms` has the scripts of BOLT 3, and
-//! `sighash` the program of a script. `claim` accepts claims. Signatures are not among the arguments: an accepted claim can't
-//! fail with tokens, or with valid signatures where its path measures none. No crate depends on this one.
+//! `sighash` the program of a script. `claim` accepts claims, and `filling` makes their spend. Signatures are not among the arguments:
+//! an accepted claim can't fail with tokens, or with valid signatures where none is measured. No crate depends on this one.
 //! `docs/BINDINGS.md` has the header, and callers in C and in other languages.
 //!
 //! ```text
@@ -23,6 +23,7 @@ ghost use Rattle.sighash.specs.Programs.{script_hash_program};
 ghost use Rattle.enforce_c.specs.Listed.{AnswersListing, AnswersText};
 ghost use Rattle.enforce_c.specs.FormScripts.{AnswersForm};
 ghost use Rattle.enforce_c.specs.Claimed.{AnswersClaim};
+ghost use Rattle.enforce_c.specs.Spent.{AnswersSpend, preimages_in};
 
 mod answers;
 mod buffers;
@@ -32,19 +33,23 @@ mod forms_of_c;
 mod listing;
 mod ranges;
 mod rows;
+mod spend_rows;
+mod spending;
 mod statuses;
 mod telling;
 
-use crate::answers::{refuse, write_bytes, write_due, write_rows};
+use crate::answers::{refuse, refuse_spend, write_bytes, write_due, write_rows, write_spend};
 use crate::claims_of_c::claimed;
 use crate::forms_of_c::form_bytes;
 use crate::listing::{text_of, told};
+use crate::spending::spent;
 pub use claim_rows::{ClaimRow, Due, SLOT_EXACT, SLOT_PREIMAGE, SLOT_SIGNATURE, SlotRow};
 use digest::sha256;
 pub use forms_of_c::{
     FORM_FUNDING, FORM_KEY_HASH, FORM_OFFERED, FORM_RECEIVED, FORM_TO_LOCAL, Form,
 };
 pub use rows::{Answer, FactRow, PathRow};
+pub use spend_rows::{OutputRow, PreimageRow, SignatureRow, SpendAnswer};
 pub use statuses::DONE;
 use std::alloc::Global;
 
@@ -146,5 +151,32 @@ pub extern "C" fn enforce_claim(
     match claimed(alloc, claim, slots, bytes) {
         Ok(claim) => write_due(&claim, due, answer),
         Err(refusal) => refuse(&refusal, answer),
+    }
+}
+
+/// Writes the transaction that spends the outputs of claims, in which nothing is signed, and the signatures that it lacks. It has version 2, the claims' inputs in their order with their sequences, and these outputs.
+/// Its lock time is the greatest height that a claim needs. The empty item stands in the place of each signature, and after a signature in its item comes the byte 01 (SIGHASH_ALL). The statuses of refusals are
+/// `NO_INPUTS` and `OVER_LIMIT` by the numbers of rows, then those of each output and of each claim in their order, then family 5, then `NO_WITNESS`; and `TOO_SMALL` if one of the two buffers is too short.
+#[unsafe(no_mangle)]
+#[tactic(auto, using(crate::proofs::Answering::spent_lists, crate::proofs::Answering::refused_spend))]
+pub extern "C" fn enforce_unsigned_spend(
+    alloc: Global,
+    claims: &[ClaimRow],
+    slots: &[SlotRow],
+    outputs: &[OutputRow],
+    preimages: &[PreimageRow],
+    bytes: &[u8],
+    tx: &mut [u8],
+    signatures: &mut [SignatureRow],
+    answer: &mut SpendAnswer,
+) -> u32
+    ensures { AnswersSpend
+        (record { claims = claims.now; slots = slots.now; outputs = outputs.now; bytes = bytes.now }) (preimages_in preimages.now)
+        (record { bytes = tx.old; signatures = signatures.old })
+        (record { status = result; answer = answer.new; lists = record { bytes = tx.new; signatures = signatures.new } }) }
+{
+    match spent(alloc, claims, slots, outputs, preimages, bytes) {
+        Ok(spending) => write_spend(&spending, tx, signatures, answer),
+        Err(refusal) => refuse_spend(&refusal, answer),
     }
 }

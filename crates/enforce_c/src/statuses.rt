@@ -1,13 +1,15 @@
 // Why a call gives nothing: the statuses.
 
 ghost use Rattle.std.specs.Prelude.{◌≡◌, ◌<◌};
-ghost use Rattle.enforce_c.specs.Statuses.{parse_status, check_status, accept_status, status_of, number_of};
+ghost use Rattle.enforce_c.specs.Statuses.{parse_status, check_status, accept_status, spend_status, field_status, encode_status, status_of, number_of};
 ghost use Rattle.enforce_c.specs.declared.statuses.Refusal.TheVariants.{NoMemory};
 
 use claim::AcceptError;
+use filling::SpendError;
 use paths::CheckError;
 use script::ParseError;
 use std::alloc::{AllocError, AllocFailed};
+use tx::{EncodeError, FieldError};
 
 /// The call did what it is for.
 pub const DONE: u32 = 0x000;
@@ -49,6 +51,24 @@ pub const NO_SUCH_FORM: u32 = 0x401;
 pub const NOT_A_KEY: u32 = 0x402;
 /// The expiry is 500,000,000 or more, which is a time and not a height.
 pub const NOT_A_HEIGHT: u32 = 0x403;
+/// A claim has a fixed transaction. No claim of these calls has one.
+pub const FIXED_TRANSACTION: u32 = 0x501;
+/// Two claims spend the same outpoint.
+pub const SAME_OUTPOINT: u32 = 0x502;
+/// The outputs are worth more than the claimed outputs together.
+pub const OUTPUTS_EXCEED: u32 = 0x503;
+/// The path of a claim asks for the length, the hash or the bytes of a signature.
+pub const MEASURED_SIGNATURE: u32 = 0x504;
+/// No preimage is given for the hash of a slot.
+pub const NO_PREIMAGE: u32 = 0x505;
+/// There is no claim, so that the transaction has no input.
+pub const NO_INPUTS: u32 = 0x604;
+/// No witness of the transaction has an item.
+pub const NO_WITNESS: u32 = 0x605;
+/// The value of an output is above 21,000,000 bitcoins.
+pub const VALUE_TOO_LARGE: u32 = 0x606;
+/// There are more than 4,000 claims or outputs, or the script of an output has more than 10,000 bytes.
+pub const OVER_LIMIT: u32 = 0x608;
 /// A row refers to bytes or to rows that are not there.
 pub const OUT_OF_RANGE: u32 = 0x701;
 /// There is no slot of this kind.
@@ -69,6 +89,9 @@ pub enum Refusal {
     NoSuchSlot,
     ItemTooLong,
     Accept(AcceptError),
+    Field(FieldError),
+    Spend(SpendError),
+    Encode(EncodeError),
 }
 
 // The status of a refused claim.
@@ -84,6 +107,44 @@ fn accept_status(error: &AcceptError) -> u32
         AcceptError::Contradiction => CONTRADICTION,
         AcceptError::WrongProgram => WRONG_PROGRAM,
         AcceptError::WrongShell => WRONG_SHELL,
+    }
+}
+
+// The status of a refused spend.
+fn spend_status(error: &SpendError) -> u32
+    ensures value { result ≡ spend_status error.now }
+    ensures refused { DONE < result }
+{
+    match error {
+        SpendError::NoMemory => NO_MEMORY,
+        SpendError::FixedTransaction => FIXED_TRANSACTION,
+        SpendError::SameOutpoint => SAME_OUTPOINT,
+        SpendError::OutputsExceed => OUTPUTS_EXCEED,
+        SpendError::MeasuredSignature => MEASURED_SIGNATURE,
+        SpendError::NoPreimage => NO_PREIMAGE,
+    }
+}
+
+// The status of a part that a transaction can't have.
+fn field_status(error: &FieldError) -> u32
+    ensures value { result ≡ field_status error.now }
+    ensures refused { DONE < result }
+{
+    match error {
+        FieldError::NoInputs => NO_INPUTS,
+        FieldError::ValueTooLarge => VALUE_TOO_LARGE,
+        FieldError::OverLimit => OVER_LIMIT,
+    }
+}
+
+// The status of a transaction that is not encoded.
+fn encode_status(error: &EncodeError) -> u32
+    ensures value { result ≡ encode_status error.now }
+    ensures refused { DONE < result }
+{
+    match error {
+        EncodeError::NoMemory => NO_MEMORY,
+        EncodeError::NoWitness => NO_WITNESS,
     }
 }
 
@@ -132,6 +193,9 @@ impl Refusal {
             Refusal::NoSuchSlot => NO_SUCH_SLOT,
             Refusal::ItemTooLong => ITEM_TOO_LONG,
             Refusal::Accept(error) => accept_status(error),
+            Refusal::Field(error) => field_status(error),
+            Refusal::Spend(error) => spend_status(error),
+            Refusal::Encode(error) => encode_status(error),
         }
     }
 
