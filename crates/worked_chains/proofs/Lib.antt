@@ -2,3 +2,11 @@ mod Tests
 mod PremiseExamples
 mod RevokedCloseExamples
 mod ZeroExamples
+mod Marks
+mod Spends
+mod Checks
+mod Recorded
+mod Tables
+mod ClosedExamples
+mod OwnCloseExamples
+mod TokenTheftExamples

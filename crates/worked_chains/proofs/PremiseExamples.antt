@@ -1,16 +1,13 @@
 -- The premises of the laws on one node against everybody, on small witnesses, heights and channels, on both sides of each bound.
-use Rattle.std.proofs.Common.{◌≡◌, ℕ, ◌+◌, ◌^◌, Bool, true, false, List, [], ◌∷◌, length, replicate, Some, None, refl}
-use Rattle.std.specs.Str.{bytes_eq}
+use Rattle.std.proofs.Common.{◌≡◌, ℕ, ◌+◌, ◌^◌, Bool, true, false, List, [], ◌∷◌, map, length, replicate, Some, None, refl}
 use Rattle.script.specs.Token.{token_of}
-use Rattle.tx.specs.declared.input.OutPoint.{OutPoint}
 use Rattle.tx.specs.declared.input.TxIn.{TxIn}
-use Rattle.tx.specs.Fields.{Transaction}
 use Rattle.commit.specs.Order.{output_cmp, in_order}
 use Rattle.commit.specs.Outputs.{outputs_of}
 use Rattle.commit.specs.Commitments.{commitment_of, htlcs_from}
 use Rattle.penalty.specs.Claimable.{claims_by}
 use Rattle.safety.specs.Holdings.{Holding}
-use Rattle.safety.specs.Given.{given_in}
+use Rattle.safety.specs.Given.{GivenToken, given_in}
 use Rattle.safety.specs.Premises.{locks_in, keys_in, shows_given, shows_none}
 use Rattle.safety.specs.Ledgers.{keeps_locks}
 use Rattle.safety.proofs.WorkedChannels.{first_terms, second_terms, first_opened, first_newest, first_own, second_opened, second_own, sweep, state, holding}
@@ -124,6 +121,15 @@ first = holding (state first_terms 1 false (replicate 32 0x50 ∷ []) (first_own
 tokens : length (given_in first) ≡ 5
 unfolding htlcs_from commitment_of outputs_of in_order output_cmp
 tokens = refl
+
+-- what each is over: the capacity, the value of an HTLC, that of to_remote; and the index of the output that it spends
+values : map (λ (z : GivenToken). z.over.value) (given_in first) ≡ 100000 ∷ 100000 ∷ 10000 ∷ 12000 ∷ 58932 ∷ []
+unfolding htlcs_from commitment_of outputs_of in_order output_cmp
+values = refl
+
+indices : map (λ (z : GivenToken). z.over.input.outpoint.index) (given_in first) ≡ 0 ∷ 0 ∷ 0 ∷ 1 ∷ 3 ∷ []
+unfolding htlcs_from commitment_of outputs_of in_order output_cmp
+indices = refl
 
 -- with a close one more
 with_close : length (given_in (holding (state second_terms 0 false [] (second_own ∷ []) (second_opened ∷ [])) [] (Some 0))) ≡ 3

@@ -1,0 +1,377 @@
+#!/usr/bin/env python3
+"""Whether the bytes in crates/worked_chains are those of the two channels and three chains that are worked out there.
+
+They are worked out here from BOLT 3, BIP 143 and the stand-ins of docs/DECISIONS.md for keys and signatures, and no program of this repository is asked: ids of grants and of transactions, keys, scripts,
+programs, what is signed, and the first four bytes of the hashes in the tables. The prover holds each to the definitions; here each is held to what stands outside of them.
+
+Its last line is 'worked_chains: N tables, M wrong'. Wants Python 3, whose OpenSSL may lack RIPEMD-160.
+"""
+import hashlib
+import os
+import re
+import sys
+from collections import namedtuple
+
+TOP = os.path.dirname(os.path.dirname(os.path.abspath(__file__)))
+sys.path.insert(0, f"{TOP}/real")
+from ripemd160 import ripemd160
+
+PROOFS = f"{TOP}/crates/worked_chains/proofs"
+OTHER = {"A": "B", "B": "A"}
+BASES = ("funding", "payment", "delayed", "htlc", "revocation")
+DELAY, DUST, RATE, CAPACITY = {"A": 144, "B": 2}, 546, 1000, 100000
+Htlc = namedtuple("Htlc", "satoshis byte expiry")
+Output = namedtuple("Output", "value script program kind htlc")
+# what is signed: a transaction, the script of the output that it spends, and that output's value
+Signed = namedtuple("Signed", "tx code value")
+
+
+def sha256(data):
+    return hashlib.sha256(data).digest()
+
+
+def sha256d(data):
+    return sha256(sha256(data))
+
+
+def hash160(data):
+    return ripemd160(sha256(data))
+
+
+def little(number, size):
+    return number.to_bytes(size, "little")
+
+
+def sized(data):
+    return (bytes([len(data)]) if len(data) < 0xFD else b"\xfd" + little(len(data), 2)) + data
+
+
+def push(data):
+    return bytes([len(data)]) + data
+
+
+def number(n):
+    """The push of a number of up to three bytes."""
+    if n <= 16:
+        return bytes([0x50 + n]) if n else b"\0"
+    size = (n.bit_length() + 8) // 8
+    return push(little(n, size))
+
+
+def key(byte):
+    return b"\x02" + bytes([byte]) * 32
+
+
+def filled(byte):
+    return bytes([byte]) * 32
+
+
+def derived(word, base, point):
+    return b"\x02" + sha256(word + base + point)
+
+
+def point(secret):
+    return b"\x02" + sha256(b"point" + secret)
+
+
+class Tx:
+    """A transaction of version 2 with one input; the outputs are pairs of a value and a program."""
+
+    def __init__(self, outpoint, sequence, outputs, lock_time, witness=()):
+        self.outpoint, self.sequence, self.outputs, self.lock_time, self.witness = outpoint, sequence, outputs, lock_time, list(witness)
+
+    def points(self):
+        return self.outpoint[0] + little(self.outpoint[1], 4)
+
+    def ages(self):
+        return little(self.sequence, 4)
+
+    def payments(self):
+        return b"".join(little(value, 8) + sized(program) for value, program in self.outputs)
+
+    def stripped(self):
+        return little(2, 4) + b"\x01" + self.points() + b"\0" + self.ages() + bytes([len(self.outputs)]) + self.payments() + little(self.lock_time, 4)
+
+    def id(self):
+        return sha256d(self.stripped())
+
+    def signed_list(self, code, value):
+        """BIP 143."""
+        begin = little(2, 4) + sha256d(self.points()) + sha256d(self.ages()) + self.points() + sized(code) + little(value, 8) + self.ages()
+        return begin + sha256d(self.payments()) + little(self.lock_time, 4) + little(1, 4)
+
+
+class Channel:
+    def __init__(self, grant, mine, theirs):
+        self.grant = sha256d(b"grant" + little(grant, 8))
+        self.bases = {side: {name: key(first + at) for at, name in enumerate(BASES)} for side, first in (("A", mine), ("B", theirs))}
+        keys = sorted(self.bases[side]["funding"] for side in "AB")
+        self.script = b"\x52" + push(keys[0]) + push(keys[1]) + b"\x52\xae"
+        self.mask = int.from_bytes(sha256(self.bases["A"]["payment"] + self.bases["B"]["payment"])[26:], "big")
+
+
+def to_local(keys, delay):
+    return b"\x63" + push(keys["revocation"]) + b"\x67" + number(delay) + b"\xb2\x75" + push(keys["delayed"]) + b"\x68\xac"
+
+
+def to_key(public):
+    return b"\x76\xa9" + push(hash160(public)) + b"\x88\xac"
+
+
+def script_program(script):
+    return b"\0\x20" + sha256(script)
+
+
+def htlc_script(keys, is_offered, htlc):
+    begin = b"\x76\xa9" + push(hash160(keys["revocation"])) + b"\x87\x63\xac\x67" + push(keys["remote_htlc"]) + b"\x7c\x82" + number(32) + b"\x87"
+    payment = push(ripemd160(sha256(filled(htlc.byte))))
+    if is_offered:
+        return begin + b"\x64\x75\x52\x7c" + push(keys["local_htlc"]) + b"\x52\xae\x67\xa9" + payment + b"\x88\xac\x68\x68"
+    return begin + b"\x63\xa9" + payment + b"\x88\x52\x7c" + push(keys["local_htlc"]) + b"\x52\xae\x67\x75" + number(htlc.expiry) + b"\xb1\x75\xac\x68\x68"
+
+
+class Commitment:
+    """The owner's commitment; A opened the channel and pays the fee. Balances are in satoshis, without HTLCs."""
+
+    def __init__(self, channel, owner, n, at, balances, offered):
+        self.channel, self.owner, self.at, peer = channel, owner, at, channel.bases[OTHER[owner]]
+        me = channel.bases[owner]
+        self.keys = {
+            "revocation": derived(b"revoke", peer["revocation"], at),
+            "delayed": derived(b"derive", me["delayed"], at),
+            "local_htlc": derived(b"derive", me["htlc"], at),
+            "remote_htlc": derived(b"derive", peer["htlc"], at),
+            "remote": peer["payment"],
+        }
+        self.delayed = to_local(self.keys, DELAY[owner])
+        self.outputs = self.sorted_outputs(balances, offered)
+        hidden = n ^ channel.mask
+        self.lock_time, self.sequence = 0x20000000 + hidden % 2**24, 0x80000000 + hidden // 2**24 % 2**24
+        self.tx = Tx((channel.grant, 0), self.sequence, [(it.value, it.program) for it in self.outputs], self.lock_time)
+        self.stages = {at: self.stage(at, it) for at, it in enumerate(self.outputs) if it.htlc}
+
+    def sorted_outputs(self, balances, offered):
+        owner, outputs = self.owner, []
+        for side in (owner, OTHER[owner]):
+            for htlc in offered.get(side, []):
+                if htlc.satoshis >= DUST + (663 if side == owner else 703) * RATE // 1000:
+                    script = htlc_script(self.keys, side == owner, htlc)
+                    outputs.append(Output(htlc.satoshis, script, script_program(script), "Offered" if side == owner else "Received", htlc))
+        fee = (724 + 172 * len(outputs)) * RATE // 1000
+        left = {side: balances[side] - (fee if side == "A" else 0) for side in "AB"}
+        remote = self.keys["remote"]
+        paid = [Output(left[owner], self.delayed, script_program(self.delayed), "ToLocal", None), Output(left[OTHER[owner]], to_key(remote), b"\0\x14" + hash160(remote), "ToRemote", None)]
+        return sorted(outputs + [it for it in paid if it.value >= DUST], key=lambda it: (it.value, it.program))
+
+    def stage(self, at, output):
+        """The HTLC transaction of an output."""
+        is_offered = output.kind == "Offered"
+        value = output.value - (663 if is_offered else 703) * RATE // 1000
+        return Tx((self.tx.id(), at), 0, [(value, script_program(self.delayed))], output.htlc.expiry if is_offered else 0)
+
+    def signed(self):
+        return Signed(self.tx, self.channel.script, CAPACITY)
+
+    def stage_signed(self, at):
+        return Signed(self.stages[at], self.outputs[at].script, self.outputs[at].value)
+
+    def strings(self):
+        """All that is hashed for the commitment."""
+        peer = self.channel.bases[OTHER[self.owner]]
+        found = [self.tx.stripped(), self.delayed, self.keys["remote"], b"revoke" + peer["revocation"] + self.at, b"derive" + peer["htlc"] + self.at]
+        for at, tx in self.stages.items():
+            found += [tx.stripped(), self.outputs[at].script]
+        return found
+
+    def locks(self):
+        """The outputs that the commitment makes, by their outpoints."""
+        found = {(self.tx.id(), at): (it.script, it.value) for at, it in enumerate(self.outputs)}
+        found.update({(tx.id(), 0): (self.delayed, tx.outputs[0][0]) for tx in self.stages.values()})
+        return found
+
+
+CHANNELS = {"first": Channel(0, 0x10, 0x20), "second": Channel(1, 0x30, 0x40)}
+SEVENS, EIGHTS, NINES = Htlc(10000, 7, 3), Htlc(12000, 8, 3), Htlc(12000, 9, 3)
+EVEN = {"A": 80000, "B": 20000}
+COMMITMENTS = {
+    "first_opened": Commitment(CHANNELS["first"], "B", 0, point(filled(0x50)), EVEN, {}),
+    "first_newest": Commitment(CHANNELS["first"], "B", 1, key(0x55), {"A": 60000, "B": 18000}, {"A": [SEVENS], "B": [EIGHTS]}),
+    "first_own": Commitment(CHANNELS["first"], "A", 0, key(0x66), EVEN, {}),
+    "second_opened": Commitment(CHANNELS["second"], "B", 0, point(filled(0x51)), {"A": 80000, "B": 8000}, {"B": [NINES]}),
+    "second_newest": Commitment(CHANNELS["second"], "B", 1, key(0x57), EVEN, {}),
+    "second_own": Commitment(CHANNELS["second"], "A", 0, key(0x67), EVEN, {}),
+}
+LOCKS = {(it.grant, 0): (it.script, CAPACITY) for it in CHANNELS.values()}
+for each in COMMITMENTS.values():
+    LOCKS.update(each.locks())
+
+
+def begins(hashed, strings):
+    return [int.from_bytes(hashed(it)[:4], "big") for it in strings]
+
+
+def recorded():
+    found = {}
+    for name, it in CHANNELS.items():
+        found.update({f"{name}_grant": it.grant, f"{name}_funding": it.script, f"{name}_funding_program": script_program(it.script)})
+        found.update({f"{name}_home_hash": hash160(it.bases["A"]["payment"]), f"{name}_away_hash": hash160(it.bases["B"]["payment"])})
+    for name, it in COMMITMENTS.items():
+        found.update({f"{name}_id": it.tx.id(), f"{name}_digest": sha256d(it.tx.signed_list(it.channel.script, CAPACITY))})
+        found.update({f"{name}_delayed": it.delayed, f"{name}_delayed_program": script_program(it.delayed)})
+        found.update({f"{name}_keys.{word}": it.keys[word] for word in ("revocation", "delayed", "local_htlc", "remote_htlc")})
+        if it.stages:
+            found[f"{name}_revocation_hash"] = hash160(it.keys["revocation"])
+        for at, tx in it.stages.items():
+            signed, output = it.stage_signed(at), it.outputs[at]
+            found.update({f"{name}_stage_{at}_id": tx.id(), f"{name}_stage_{at}_digest": sha256d(tx.signed_list(signed.code, signed.value))})
+            found.update({f"{name}_htlc_{at}": output.script, f"{name}_htlc_{at}_program": output.program, f"{name}_payment_{at}": ripemd160(sha256(filled(output.htlc.byte)))})
+    return found
+
+
+def tables():
+    peers = [it for name, it in COMMITMENTS.items() if not name.endswith("own")]
+    strings, keys = [text for it in peers for text in it.strings()], []
+    for name, it in CHANNELS.items():
+        own = COMMITMENTS[f"{name}_own"].keys
+        keys.append(it.bases["A"]["funding"])
+        for number in ("opened", "newest"):
+            theirs = COMMITMENTS[f"{name}_{number}"].keys
+            keys += [theirs["revocation"], theirs["remote_htlc"], theirs["remote"]]
+        keys += [own["delayed"], own["local_htlc"]]
+    found = {"hashed": [byte for it in strings for byte in sha256(it)], "once_begin": begins(sha256, strings), "twice_begin": begins(sha256d, strings), "short_begin": begins(hash160, strings)}
+    return {**found, "keys_begin": begins(hash160, keys), "hashes_begin": begins(ripemd160, [sha256(filled(it.byte)) for it in (SEVENS, EIGHTS, NINES)])}
+
+
+# ---- chains
+
+
+class Chain:
+    """Blocks of transactions, by their names. A token is the key, what is signed, and 01."""
+
+    def __init__(self):
+        self.blocks, self.own, self.given = [[]], {}, {"first": [], "second": []}
+
+    def then(self):
+        self.blocks.append([])
+
+    def add(self, tx, code, value, witness):
+        digest = sha256d(tx.signed_list(code, value))
+        tx.witness = [it if isinstance(it, bytes) else it[0] + digest + b"\x01" for it in witness]
+        self.blocks[-1].append(tx)
+        return tx
+
+    def close(self, name):
+        it = COMMITMENTS[name]
+        self.add(it.tx, it.channel.script, CAPACITY, [b"", (it.channel.bases["A"]["funding"],), (it.channel.bases["B"]["funding"],), it.channel.script])
+
+    def stage(self, name, at, item):
+        it = COMMITMENTS[name]
+        signed = it.stage_signed(at)
+        self.add(signed.tx, signed.code, signed.value, [b"", (it.keys["remote_htlc"],), (it.keys["local_htlc"],), item, signed.code])
+
+    def take(self, name, outpoint, outputs, witness, released=None, sequence=0, lock_time=0, spent=None):
+        """A transaction that is named there: its id, and what its token is over."""
+        code, value = spent or LOCKS[outpoint]
+        tx = self.add(Tx(outpoint, sequence, outputs, lock_time), code, value, witness)
+        self.own.update({f"{name}_id": tx.id(), f"{name}_digest": sha256d(tx.signed_list(code, value))})
+        if released:
+            self.given[released].append(Signed(tx, code, value))
+        return tx
+
+    def tokens(self):
+        """What the tokens of the node are over: of its peers' commitments, and of what it released or closed."""
+        found = []
+        for name in CHANNELS:
+            for it in (COMMITMENTS[f"{name}_opened"], COMMITMENTS[f"{name}_newest"]):
+                found += [it.signed(), *map(it.stage_signed, it.stages)]
+            found += self.given[name]
+        return found
+
+    def tables(self):
+        named = [Signed(tx, *LOCKS[tx.outpoint]) for block in reversed(self.blocks) for tx in reversed(block) if tx.outpoint in LOCKS]
+        items = [item for it in named for item in it.tx.witness]
+        found = {**self.own, "items_once": begins(sha256, items), "items_short": begins(hash160, items), "codes_once": begins(sha256, [it.code for it in named])}
+        lists = {"lists": lambda it: it.tx.signed_list(it.code, it.value), "points": lambda it: it.tx.points(), "ages": lambda it: it.tx.ages(), "payments": lambda it: it.tx.payments()}
+        for name, spelled in lists.items():
+            found.update({f"{name}_shown": begins(sha256d, map(spelled, named)), f"{name}_given": begins(sha256d, map(spelled, self.tokens()))})
+        return found
+
+
+HOME = b"\0\x14" + hash160(key(0x11))
+NEWEST, REVOKED = COMMITMENTS["first_newest"], COMMITMENTS["second_opened"]
+TO_REMOTE, TO_LOCAL = (NEWEST.tx.id(), 3), (REVOKED.tx.id(), 0)
+
+
+def closed():
+    it = Chain()
+    it.close("first_newest")
+    it.close("second_opened")
+    it.then()
+    swept = it.take("swept", TO_REMOTE, [(58000, HOME)], [(key(0x11),), key(0x11)], "first")
+    it.stage("first_newest", 0, filled(7))
+    it.take("punished", TO_LOCAL, [(7000, HOME)], [(REVOKED.keys["revocation"],), b"\x01", REVOKED.delayed], "second")
+    it.then()
+    it.take("spent_on", (swept.id(), 0), [(57000, b"")], [(key(0x11),), key(0x11)], spent=(to_key(key(0x11)), 58000))
+    it.then()
+    it.stage("first_newest", 1, b"")
+    it.stage("second_opened", 1, b"")
+    it.then()
+    it.then()
+    it.take("slept", (REVOKED.stages[1].id(), 0), [(1000, b"")], [(REVOKED.keys["delayed"],), b"", REVOKED.delayed], sequence=2)
+    return it.tables()
+
+
+def own_close():
+    it, remote, ids = Chain(), NEWEST.keys["remote_htlc"], NEWEST.tx.id()
+    it.close("first_newest")
+    it.close("second_own")
+    it.then()
+    claimed = it.take("claimed", (ids, 1), [(11000, HOME)], [(remote,), filled(8), NEWEST.outputs[1].script])
+    it.then()
+    it.then()
+    returned = it.take("returned", (ids, 0), [(9000, HOME)], [(remote,), b"", NEWEST.outputs[0].script], lock_time=3)
+    it.given["first"] = [Signed(returned, *LOCKS[ids, 0]), Signed(claimed, *LOCKS[ids, 1])]
+    it.given["second"] = [COMMITMENTS["second_own"].signed()]
+    return it.tables()
+
+
+def thefts():
+    it, revocation = Chain(), NEWEST.keys["revocation"]
+    it.close("first_newest")
+    it.close("second_opened")
+    it.then()
+    it.take("takes_remote", TO_REMOTE, [(1000, b"")], [(key(0x11),), key(0x11)])
+    it.take("takes_offered", (NEWEST.tx.id(), 0), [(1000, b"")], [(revocation,), revocation, NEWEST.outputs[0].script])
+    it.take("takes_local", TO_LOCAL, [(1000, b"")], [(REVOKED.keys["revocation"],), b"\x01", REVOKED.delayed])
+    it.then()
+    it.take("takes_received", (NEWEST.tx.id(), 1), [(1000, b"")], [(revocation,), revocation, NEWEST.outputs[1].script])
+    return it.tables()
+
+
+def written(file):
+    """The tables that stand in a file, by their names."""
+    with open(f"{PROOFS}/{file}.antt", encoding="utf-8") as it:
+        text = it.read()
+    numbers = r"((?:0x[0-9a-f]+\s*∷\s*)+\[\])"
+    found = {name: row for name, row in re.findall(rf"^abbrev (?:pub )?(\w+) : List ℕ\n\1 =\s*{numbers}\n", text, re.M)}
+    found.update(dict(re.findall(r"^abbrev (\w+) : List \(List ℕ\)\n\1 =\s*((?:\((?:0x[0-9a-f]+\s*∷\s*)+\[\]\)\s*∷\s*)+\[\])\n", text, re.M)))
+    for name, fields in re.findall(r"^(\w+) = record \{\n((?:  .*;\n)+)\}\n", text, re.M):
+        found.update({f"{name}.{word}": row for word, row in re.findall(rf"^  (\w+) =\s*{numbers};", fields, re.M)})
+    return {name: [int(it, 16) for it in re.findall(r"0x[0-9a-f]+", row)] for name, row in found.items()}
+
+
+def main():
+    count = wrong = 0
+    for file, made in (("Recorded", recorded()), ("Tables", tables()), ("ClosedExamples", closed()), ("OwnCloseExamples", own_close()), ("TokenTheftExamples", thefts())):
+        stand = written(file)
+        for name in sorted({*made, *stand}):
+            count += 1
+            if list(made.get(name, ())) != stand.get(name):
+                wrong += 1
+                print(f"{file}: {name} {'is another' if name in made and name in stand else 'stands nowhere' if name in made else 'is not worked out'}")
+    print(f"worked_chains: {count} tables, {wrong} wrong")
+    return 1 if wrong else 0
+
+
+if __name__ == "__main__":
+    sys.exit(main())
