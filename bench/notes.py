@@ -45,6 +45,10 @@ def opcode_rows():
             yield f"5a{byte:02x}", notes
             # two more after a number, unless they are what a PUSHDATA pushes
             yield f"5a{byte:02x}5193ad", notes + ["not in the table either: 93 (OP_ADD) at byte 3, ad (OP_CHECKSIGVERIFY) at byte 4"] * (byte > PUSHDATA4)
+    # of those after the first 16 are named, and the others are counted
+    for count, rest in ((15, ""), (16, ""), (17, ", and 1 more"), (18, ", and 2 more")):
+        named = ", ".join(f"93 (OP_ADD) at byte {at}" for at in range(2, 2 + min(count, 16)))
+        yield "5aad" + "93" * count, ["byte 1 is ad, OP_CHECKSIGVERIFY in Bitcoin, which is not in the table", "pushed before it: the number 10 at byte 0", f"not in the table either: {named}{rest}"]
 
 
 # ---- branches that end by a stricter rule
@@ -465,9 +469,16 @@ def scenario_rows():
     yield scenario(channels=[TERMS] * 9), "the scenario has 9 channels, and at most 8 are allowed"
     yield scenario(events=[["look", "A"]] * 10_001), "the scenario has 10001 events, and at most 10000 are allowed"
     yield scenario(events=[["blocks", 10_000], ["blocks", 10_001]]), "event 1 asks for 10001 blocks, and at most 10000 are allowed in one event"
+    # the first of two that are beyond a limit, and the first of two limits
+    yield scenario(events=[["blocks", 10_002], ["blocks", 10_001]]), "event 0 asks for 10002 blocks, and at most 10000 are allowed in one event"
+    yield scenario(channels=[TERMS] * 9, events=[["look", "A"]] * 10_001), "the scenario has 9 channels, and at most 8 are allowed"
+    yield scenario(events=[["blocks", 10_001]] * 10_001), "the scenario has 10001 events, and at most 10000 are allowed"
+    yield scenario(channels=[{**TERMS, "start": [1, 0]}], events=[["blocks", 10_001]]), "event 0 asks for 10001 blocks, and at most 10000 are allowed in one event"
     # starts that are not the capacity, in the other unit and by one; and more bitcoins than there are
     for a, b in ((80000, 20000), (80_000_000, 20_000_001), (80_000_000, 19_999_999), (2**64 - 1, 2**64 - 1)):
         yield scenario(channels=[TERMS, {**TERMS, "start": [a, b]}]), f"channel 1: its start is {a} and {b} millisatoshis, together {a + b}, and its capacity is 100000 satoshis, which are 100000000 millisatoshis"
+    # the first of two channels on whose terms nobody can agree
+    yield scenario(channels=[{**TERMS, "start": [1, 0]}, {**TERMS, "start": [2, 0]}]), "channel 0: its start is 1 and 0 millisatoshis, together 1, and its capacity is 100000 satoshis, which are 100000000 millisatoshis"
     most = 21_000_000 * 100_000_000
     yield scenario(channels=[{**TERMS, "capacity": most + 1, "start": [0, 1000 * (most + 1)]}]), f"channel 0: its capacity is {most + 1} satoshis, and there are at most {most}"
 

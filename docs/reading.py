@@ -199,7 +199,7 @@ class Walk:
 
     @staticmethod
     def in_file(file, word):
-        """The definition of a file that has the word: itself, or the data of which it is a constructor."""
+        """The definition of a file that has the word: itself, or the data that has it as a constructor."""
         known = definitions(file)
         if word in known:
             return file, word

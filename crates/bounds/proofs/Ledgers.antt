@@ -1,5 +1,5 @@
 -- What a chain has to satisfy for a node: the locks that an input keeps, the coins of its outputs, and that nobody else makes a token of its keys.
-use Rattle.std.proofs.Common.{◌≡◌, ◌≢◌, ℕ, zero, suc, true, false, List, [], ◌∷◌, map, length, Some, None, sym, ap, ◌∙◌, refl, subst, arith, lit<}
+use Rattle.std.proofs.Common.{◌≡◌, ◌≢◌, ℕ, zero, suc, true, List, [], ◌∷◌, map, length, Some, None, sym, ap, ◌∙◌, refl, subst, arith, lit<}
 use Rattle.std.specs.Prelude.{◌||◌, not, slice_get}
 use Rattle.std.specs.List.{Contains}
 use Rattle.std.proofs.lemmas.Bool.{false≢true}

@@ -19,8 +19,12 @@ mod NumberExamples
 mod NodeExamples
 mod Queues
 mod Edges
+mod Remaking
+mod Cuts
 mod Replies
 mod Reports
+mod Homes
+mod Lines
 mod Rules
 mod Ledgers
 mod Breaks

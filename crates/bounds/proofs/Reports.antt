@@ -1,5 +1,5 @@
 -- What a node's report says: two books that go on from those of the scenario's world, and what was counted in each channel.
-use Rattle.std.proofs.Common.{◌≡◌, ℕ, ◌+◌, true, false, List, [], ◌∷◌, ◌++◌, map, length, sym, ap, ◌∙◌, refl, subst, arith, length-append}
+use Rattle.std.proofs.Common.{◌≡◌, ℕ, true, false, List, [], ◌∷◌, ◌++◌, map, length, sym, ap, ◌∙◌, refl, subst, arith, length-append}
 use Rattle.std.proofs.lemmas.Bool.{false≢true}
 use Rattle.std.proofs.lemmas.List.{length-map}
 use Rattle.std.proofs.lemmas.List.Elements.{All-nil}

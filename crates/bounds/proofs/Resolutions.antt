@@ -1,5 +1,5 @@
 -- What becomes of outputs, whatever peers and blocks do: the preimage that is shown, the expiry, the delay, and for each output of a commitment the one that stands for it.
-use Rattle.std.proofs.Common.{◌≡◌, ◌≢◌, ℕ, ◌+◌, ◌<◌, Bool, true, false, List, [], ◌∷◌, ◌++◌, length, replicate, Some, sym, ap, ◌∙◌, refl, subst, arith, lit<}
+use Rattle.std.proofs.Common.{◌≡◌, ◌≢◌, ℕ, Bool, true, false, List, [], ◌∷◌, ◌++◌, length, replicate, Some, sym, ap, ◌∙◌, refl, subst, arith, lit<}
 use Rattle.std.specs.Prelude.{if◌then◌else◌}
 use Rattle.std.specs.List.{Contains, AllPairs, cons_option}
 use Rattle.std.proofs.lemmas.Bool.{true≢false}

@@ -12,3 +12,7 @@ empty = record { transactions = []; granted = [] }
 
 abbrev pub world_of : List Entry → List Entry → List Block → World
 world_of of_a of_b blocks = record { a = record nobody { history = of_a }; b = record nobody { history = of_b }; chain = record { blocks = blocks; greatest = 9 }; pool = []; released = [] }
+
+-- the type of what a function takes: types that a crate keeps to itself are had by the words that speak of them
+abbrev pub argument_of : {X : Type 0} {Y : Type 1} → (X → Y) → Type 0
+argument_of {X} {Y} f = X

@@ -5,9 +5,19 @@ use crate::fixtures::{joined, noted, repeated};
 use std::alloc::Global;
 use std::process::Abort;
 
-// The text of a scenario with one channel, up to its events.
-const BEGINNING: &str =
-    "{\"seeds\":[\"0a0a0a0a0a0a0a0a0a0a0a0a0a0a0a0a0a0a0a0a0a0a0a0a0a0a0a0a0a0a0a0a\",\"0b0b0b0b0b0b0b0b0b0b0b0b0b0b0b0b0b0b0b0b0b0b0b0b0b0b0b0b0b0b0b0b\"],\"channels\":[{\"capacity\":100000,\"opener\":\"A\",\"feerate\":1000,\"dust\":[546,546],\"delay\":[144,144],\"minimum\":[1000,1000],\"start\":[80000000,20000000]}],\"events\":[";
+// A scenario up to its channels, the terms of a channel, and what stands between the channels and the events.
+const SEEDS: &str =
+    "{\"seeds\":[\"0a0a0a0a0a0a0a0a0a0a0a0a0a0a0a0a0a0a0a0a0a0a0a0a0a0a0a0a0a0a0a0a\",\"0b0b0b0b0b0b0b0b0b0b0b0b0b0b0b0b0b0b0b0b0b0b0b0b0b0b0b0b0b0b0b0b\"],\"channels\":[";
+
+const TERMS: &str =
+    "{\"capacity\":100000,\"opener\":\"A\",\"feerate\":1000,\"dust\":[546,546],\"delay\":[144,144],\"minimum\":[1000,1000],\"start\":[80000000,20000000]}";
+
+const BEGIN: &str = "],\"events\":[";
+
+// One channel, and two.
+const ONE: &[&str] = &[TERMS];
+
+const TWO: &[&str] = &[TERMS, ",", TERMS];
 
 // Events with spaces as a note has them. There is no channel 1, there are no jobs and no claims, and no block is to be replaced.
 const EVENTS: [(&str, &str); 13] = [
@@ -36,6 +46,13 @@ const EVENTS: [(&str, &str); 13] = [
 const OFFER: &str =
     "[\"offer\",\"A\",0,1000000,\"66687aadf862bd776c8fc18b8e9f8e20089714856ee233b3902a591d0d5f2925\",500],[\"deliver\",\"B\",0],[\"sign\",\"A\",0],[\"deliver\",\"B\",0],[\"deliver\",\"A\",0],";
 
+// The same in channel 1, and an offer of B in channel 0.
+const OFFER_IN_SECOND: &str =
+    "[\"offer\",\"A\",1,1000000,\"66687aadf862bd776c8fc18b8e9f8e20089714856ee233b3902a591d0d5f2925\",500],[\"deliver\",\"B\",1],[\"sign\",\"A\",1],[\"deliver\",\"B\",1],[\"deliver\",\"A\",1],";
+
+const OFFER_OF_B: &str =
+    "[\"offer\",\"B\",0,1000000,\"66687aadf862bd776c8fc18b8e9f8e20089714856ee233b3902a591d0d5f2925\",500],";
+
 const COMMIT: &str = "[\"sign\",\"B\",0],[\"deliver\",\"A\",0],[\"deliver\",\"B\",0],";
 
 const FAIL: &str = "[\"fail\", \"B\", 0, 0]";
@@ -48,7 +65,7 @@ struct Unknown {
     meaning: &'static str,
 }
 
-const UNKNOWN: [Unknown; 4] = [
+const UNKNOWN: [Unknown; 7] = [
     Unknown {
         before: &[OFFER, COMMIT],
         index: "8",
@@ -74,12 +91,32 @@ const UNKNOWN: [Unknown; 4] = [
         event: "[\"fail\", \"A\", 0, 0]",
         meaning: "note: there is no such HTLC: B offered 0 in channel 0, of which the first has number 0\n",
     },
+    // what was offered and what was failed in another channel, and what the other side failed
+    Unknown {
+        before: &[OFFER, COMMIT],
+        index: "8",
+        event: "[\"fail\", \"B\", 1, 0]",
+        meaning: "note: there is no such HTLC: A offered 0 in channel 1, of which the first has number 0\n",
+    },
+    Unknown {
+        before: &[OFFER, COMMIT, FAIL, ",", OFFER_IN_SECOND],
+        index: "14",
+        event: "[\"fail\", \"B\", 1, 0]",
+        meaning: "note: HTLC 0 of channel 1 is not yet committed on both sides: A signs, B revokes and signs, and A revokes, in this order\n",
+    },
+    Unknown {
+        before: &[OFFER, COMMIT, FAIL, ",", OFFER_OF_B],
+        index: "10",
+        event: "[\"fail\", \"A\", 0, 0]",
+        meaning: "note: HTLC 0 of channel 0 is not yet committed on both sides: B signs, A revokes and signs, and B revokes, in this order\n",
+    },
 ];
 
-// Asserts the note on a scenario with these events.
-fn has_note(rt: &impl Abort, alloc: Global, events: &[&str], note: &[&str]) {
-    let events = joined(rt, alloc, events);
-    let text = joined(rt, alloc, &[BEGINNING, events.as_str(), "]}"]);
+// Asserts the note on a scenario with these channels and events.
+fn has_note(rt: &impl Abort, alloc: Global, channels: &[&str], events: &[&str], note: &[&str]) {
+    let (channels, events) = (joined(rt, alloc, channels), joined(rt, alloc, events));
+    let pieces = [SEEDS, channels.as_str(), BEGIN, events.as_str(), "]}"];
+    let text = joined(rt, alloc, &pieces);
     let note = joined(rt, alloc, note);
     noted(rt, alloc, text.as_str(), note.as_str());
 }
@@ -90,7 +127,7 @@ const FIRST: &str = " is the first that was refused, ";
 fn is_first(rt: &impl Abort, alloc: Global, event: &str, refusal: &str) {
     let events = ["[\"look\", \"A\"],", event, ",", event];
     let note = ["note: event 1", FIRST, refusal, ": ", event, "\n"];
-    has_note(rt, alloc, &events, &note);
+    has_note(rt, alloc, ONE, &events, &note);
 }
 
 #[test]
@@ -112,7 +149,7 @@ fn has_meaning(rt: &impl Abort, alloc: Global, case: &Unknown) {
         "\n",
         case.meaning,
     ];
-    has_note(rt, alloc, &[before.as_str(), case.event], &note);
+    has_note(rt, alloc, TWO, &[before.as_str(), case.event], &note);
 }
 
 #[test]
@@ -126,7 +163,7 @@ fn tells_what_is_unknown(rt: HostRuntime) {
 #[test]
 fn says_nothing_of_what_happened(rt: HostRuntime) {
     let events = joined(&rt, rt.alloc(), &[OFFER, COMMIT, FAIL]);
-    has_note(&rt, rt.alloc(), &[events.as_str()], &[]);
+    has_note(&rt, rt.alloc(), ONE, &[events.as_str()], &[]);
     let blocks = repeated(&rt, rt.alloc(), "[\"blocks\", 1],", 2, "[\"blocks\", 1]");
-    has_note(&rt, rt.alloc(), &[blocks.as_str()], &[]);
+    has_note(&rt, rt.alloc(), ONE, &[blocks.as_str()], &[]);
 }

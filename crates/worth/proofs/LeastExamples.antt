@@ -14,8 +14,8 @@ use Rattle.channel.specs.States.{State, state_at_opening}
 use Rattle.channel.specs.Peers.{IsLived, starts}
 use Rattle.channel.specs.Recording.{own_newest, SidesRecord}
 use Rattle.channel.proofs.Samples.{key, tokens_of}
-use Rattle.worth.specs.Shares.{none_known}
-use Rattle.worth.specs.Least.{MayClose, revoked, newest, next, own, least, at_least_sat}
+use Rattle.worth.specs.Shares.{Deductions, none_known}
+use Rattle.worth.specs.Least.{MayClose, revoked, newest, next, own, gives_sat, whole_msat, taken_off, most_off, least, at_least_sat}
 use Rattle.worth.proofs.Samples.{opened_by, view, all_known}
 
 leasts : map least ([] ∷ (7 ∷ []) ∷ (7 ∷ 9 ∷ []) ∷ (9 ∷ 7 ∷ []) ∷ (8 ∷ 7 ∷ 9 ∷ []) ∷ []) ≡ 0 ∷ 7 ∷ 7 ∷ 7 ∷ 7 ∷ []
@@ -90,6 +90,52 @@ module _ (funding : OutPoint) (bases : BaseKeys) (seed : List ℕ) where
   -- yes: MayClose
   four : MayClose standing past × MayClose standing theirs × MayClose standing theirs_next × MayClose standing mine
   four = (revoked 0 (lit< tt) refl, newest refl, next refl refl, own refl)
+
+  -- ---- what each of them gives, what that is worth, and what is taken off
+
+  abbrev by_revoked : MayClose standing past
+  by_revoked = revoked 0 (lit< tt) refl
+
+  abbrev by_newest : MayClose standing theirs
+  by_newest = newest refl
+
+  abbrev by_next : MayClose standing theirs_next
+  by_next = next refl refl
+
+  abbrev by_own : MayClose standing mine
+  by_own = own refl
+
+  -- without the preimage, and with it: a revoked commitment gives both sides' outputs, and is worth the capacity
+  gives : (map (λ known. gives_sat known standing past by_revoked) (none_known ∷ all_known ∷ []) ≡ 99276 ∷ 99276 ∷ [])
+      × (map (λ known. gives_sat known standing theirs by_newest) (none_known ∷ all_known ∷ []) ≡ 54104 ∷ 69104 ∷ [])
+      × (map (λ known. gives_sat known standing theirs_next by_next) (none_known ∷ all_known ∷ []) ≡ 50208 ∷ 68208 ∷ [])
+      × (map (λ known. gives_sat known standing mine by_own) (none_known ∷ all_known ∷ []) ≡ 69104 ∷ 69104 ∷ [])
+  unfolding commitment_of outputs_of in_order output_cmp
+  gives = (refl, refl, refl, refl)
+
+  worths : (map (λ known. whole_msat known standing past by_revoked) (none_known ∷ all_known ∷ []) ≡ 100000000 ∷ 100000000 ∷ [])
+      × (map (λ known. whole_msat known standing theirs by_newest) (none_known ∷ all_known ∷ []) ≡ 55000000 ∷ 70000000 ∷ [])
+      × (map (λ known. whole_msat known standing theirs_next by_next) (none_known ∷ all_known ∷ []) ≡ 52000000 ∷ 70000000 ∷ [])
+      × (map (λ known. whole_msat known standing mine by_own) (none_known ∷ all_known ∷ []) ≡ 70000000 ∷ 70000000 ∷ [])
+  worths = (refl, refl, refl, refl)
+
+  abbrev off : ℕ → ℕ → ℕ → ℕ → Deductions
+  off fee_sat dust_sat trimmed_sat rest_msat = record { fee_sat = fee_sat; dust_sat = dust_sat; trimmed_sat = trimmed_sat; rest_msat = rest_msat }
+
+  -- the fee without an HTLC, and with one; the next has twice the feerate
+  taken : (taken_off none_known standing past by_revoked ≡ off 724 0 0 0)
+      × (taken_off none_known standing theirs by_newest ≡ off 896 0 0 0)
+      × (taken_off none_known standing theirs_next by_next ≡ off 1792 0 0 0)
+      × (taken_off none_known standing mine by_own ≡ off 896 0 0 0)
+  taken = (refl, refl, refl, refl)
+
+  -- at most, by a dust limit of 1,000, and of A's own by its 546: of both sides, if it is revoked; with B's HTLC, if A has the preimage; and with the one that A offered
+  most : (most_off none_known standing past by_revoked 1000 1000 ≡ off 724 1998 0 1998)
+      × (most_off none_known standing theirs by_newest 1000 1000 ≡ off 896 999 0 999)
+      × (most_off all_known standing theirs by_newest 1000 1000 ≡ off 896 999 1702 1998)
+      × (most_off none_known standing theirs_next by_next 2000 1000 ≡ off 1792 999 0 999)
+      × (most_off none_known standing mine by_own 1000 546 ≡ off 896 545 1248 1998)
+  most = (refl, refl, refl, refl, refl)
 
   -- by A's balance, which is another in each
   abbrev has : Option CommitmentState → ℕ
