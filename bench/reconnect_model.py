@@ -2,7 +2,7 @@
 """A model of connections that are cut and of nodes that start again (BOLT 2, "Message Retransmission"), written from BOLT 2 with lists and tuples. It reads nothing of
 the libraries, and bench/reconnecting.py compares these with it.
 
-  reconnect_model.py SECONDS [SEED]      plays at random for so many processor seconds, and prints what was seen
+  reconnect_model.py SECONDS [SEED]      plays at random for SECONDS of processor time, and prints what was seen
   reconnect_model.py drafts SECONDS      plays wrong drafts, and prints how each one fails
   reconnect_model.py pending N           compares the summary of pending HTLCs after forgetting with the lists, N times
 
@@ -218,6 +218,11 @@ def own_next(s):
             view_by(1 - s.side, s.theirs[0], part(s.own, PAST_RECEIVER)))
 
 
+def transaction_of(commitment):
+    """What a signature on a commitment is over. Here two commitments are never one transaction."""
+    return commitment
+
+
 def receive_refusal(s, m):
     if m[0] == "updated":
         return update_refusal(1 - s.side, s.theirs, s.own, m[1])
@@ -226,7 +231,7 @@ def receive_refusal(s, m):
             return "NotYourTurn"
         if covers_nothing(s.theirs, s.own):
             return "NoUpdates"
-        return None if m[1] == own_next(s) else "BadSignature"
+        return None if transaction_of(m[1]) == transaction_of(own_next(s)) else "BadSignature"
     if not s.awaiting:
         return "NotYourTurn"
     if m[1][0] != "secret" or ("point",) + m[1][1:] != s.point:
@@ -441,7 +446,7 @@ class Book:
 class Node:
     def __init__(self, side):
         self.side, self.book = side, Book(side)
-        self.disk = 1               # so many calls are on the disk
+        self.disk = 1               # the number of calls on the disk
         self.outbox = []            # (the length of the history that has to be on the disk, message)
 
 

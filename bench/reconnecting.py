@@ -24,6 +24,25 @@ model.FEE0 = 1000
 
 A, B = model.A, model.B
 SIDES = "AB"
+DUST_SAT = 546
+
+
+def transaction_of(commitment):
+    """What a commitment's transaction has of it (BOLT 3, 'Commitment Transaction Outputs'). HTLCs without an output are not in it, nor the ids of the others, nor a balance below the dust limit."""
+    if commitment is None:
+        return None
+    owner, number, point, (of_a, of_b, feerate_per_kw) = commitment
+    htlcs = []
+    for offerer, (_, offers) in ((A, of_a), (B, of_b)):
+        weight = 663 if offerer == owner else 703
+        htlcs += [(offerer, amount, preimage, expiry) for _, _, amount, preimage, expiry in offers if amount // 1000 >= DUST_SAT + feerate_per_kw * weight // 1000]
+    # A opens the channel, so the fee is A's
+    fee = feerate_per_kw * (724 + 172 * len(htlcs)) // 1000
+    outputs = [max(0, of_a[0] // 1000 - fee), of_b[0] // 1000]
+    return owner, number, point, tuple(sat for sat in outputs if sat >= DUST_SAT), outputs[0] >= DUST_SAT, tuple(sorted(htlcs))
+
+
+model.transaction_of = transaction_of
 
 
 def update_words(u):
@@ -272,7 +291,7 @@ class Compared:
         if m[0] == "updated":
             return text == update_text(m[1])
         if m[0] == "signed":
-            return words[0] == "signed" and names.fits("commitment", m[1], text)
+            return words[0] == "signed" and names.fits("commitment", transaction_of(m[1]), text)
         return words[0] == "revoked" and len(words) == 3 and names.fits("secret", m[1], words[1]) and names.fits("point", m[2], words[2])
 
     def play(self, seed, lines, answers):
