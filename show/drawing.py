@@ -32,9 +32,9 @@ def short(text):
 
 
 def lines(text, room, size, bold=False, mono=False):
-    """The text in lines of at most `room` pixels. A word that is too long for a line is cut into several."""
+    """The text in lines of at most `room` pixels. A channel's number stays beside its `ch`, and a word that is too long for a line is cut into several."""
     found, line = [], ""
-    for word in text.split():
+    for word in re.findall(r"ch \d+\S*|\S+", text):
         longer = f"{line} {word}" if line else word
         if width(longer, size, bold, mono) <= room:
             line = longer

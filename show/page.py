@@ -175,9 +175,15 @@ def scripts(objects, name=""):
                 inside.append(f'<div class="{kind}">{script_tree.paths(script, wide)}</div>')
         else:
             inside.append("<p>None are listed: the script is refused.</p>")
-        inside += ["</section>", "</div>"]
+        inside += [*notes(script), "</section>", "</div>"]
     inside += ["</main>"]
     return document(name or size, inside)
+
+
+def notes(script):
+    """What endangers money, where a refusal comes from, and what else is noted of a script."""
+    found = "".join(f"<li>{escaped(it)}</li>" for it in script.get("notes", []))
+    return ["<h2>Notes</h2>", f'<ul class="notes">{found}</ul>'] if found else []
 
 
 def headed(script):
