@@ -108,7 +108,7 @@ def time_known(program):
     for commitments in (20, 200, 2000):
         known, tokens = fastest(program, f"known {commitments} 0\n")
         costs.append(known / commitments)
-        print(f"known of {commitments} commitments of each side: {known / 1e6:.2f} ms, {costs[-1] / 1e3:.1f} us for one of each, of which the peer's tokens take {tokens / commitments / 1e3:.1f} us")
+        print(f"known of {commitments} commitments of each side: {known / 1e6:.2f} ms, {costs[-1] / 1e3:.1f} us for one of each; the peer's tokens take {tokens / commitments / 1e3:.1f} us")
     bounded("known of one of 2,000 commitments to one of 20", costs[-1] / costs[0], 1.2)
 
 

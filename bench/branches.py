@@ -1,5 +1,5 @@
 #!/usr/bin/env python3
-"""The ways through a script of IF ELSE ENDIF (636768), so many times, by what these three opcodes do.
+"""The ways through a script of IF ELSE ENDIF (636768), COUNT times, by what these three opcodes do.
 
   bench/branches.py N    prints what `enforce paths` has to print of it
 

@@ -37,7 +37,7 @@ def is_true(item):
 
 
 def number(item, limit):
-    """The number of an item of at most so many bytes, minimally encoded or not."""
+    """The number of an item of at most `limit` bytes, minimally encoded or not."""
     if len(item) > limit:
         raise Fails
     magnitude = int.from_bytes(item, "little")
@@ -166,7 +166,7 @@ def stops(ops, items):
 
 
 def witnesses(tried, most):
-    """All lists of at most so many of these items."""
+    """All lists of at most `most` of these items."""
     for count in range(most + 1):
         yield from itertools.product(tried, repeat=count)
 

@@ -6,7 +6,7 @@
   bench/dumps.py FILE     compares it of the dumps of a file
 
 bench/dumps.txt has books of the examples as they stand at the end: of each kind of claim and of HTLC the shortest dump, and one dump with a claim that no script has. Three of them stand there again with
-a close of the channel: before a fulfil, before a signature (which is refused), and twice at the end. bench/unlike_channels.json has the calls of two channels of which each term, amount, height and number is unlike the others: their dumps are made
+a close of the channel: before a fulfil, before a signature (which is refused), and twice at the end. bench/unlike_channels.json has the calls of two channels whose terms, amounts, heights and numbers are all unlike: their dumps are made
 anew by bench/histories.py.
 Commitments, balances, HTLCs and amounts are found here by rules of this file's own, from BOLT 2, 3 and 5 and docs/TRACE_DUMP.md: a commitment is how many updates of each side it has.
 """
@@ -165,7 +165,7 @@ def received(channel, message):
 
 
 def step(channel, call):
-    """A step of a channel: an update of its own, of which an offer has no id yet, or a message."""
+    """A step of a channel: an update of its own (an offer has no id yet), or a message."""
     if call[2] == "receive":
         received(channel, call[3])
     elif call[2] == "offer":

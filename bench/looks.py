@@ -72,14 +72,14 @@ def time_looks(program):
 
 
 def time_channels(reader):
-    """A block of 3,000 transactions for a reader of so many open channels."""
+    """A block of 3,000 transactions for a reader of this number of open channels."""
     alone, many = (numbers(reader, f"channels {channels}")[-1] for channels in (1, 1000))
     print(f"a block of 3,000 transactions, 1 open channel: {alone / 1e3:.1f} us, 1,000: {many / 1e3:.1f} us")
     bounded("a block of 3,000 transactions for 1,000 open channels to one", many / alone, 3)
 
 
 def time_preimages(reader):
-    """A close with 480 HTLCs, of which ten preimages are known, and then as many of 10,000. The times are of the closing block, and of 100 empty ones after it."""
+    """A close with 480 HTLCs, where ten of their preimages are known, and then where 9,990 more are known that fit none. The times are of the closing block, and of 100 empty ones after it."""
     hashed = numbers(reader, "hashes 10000")[-1]
     few, few_after = numbers(reader, "preimages 10 1000")
     many, many_after = numbers(reader, "preimages 10000 1")

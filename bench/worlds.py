@@ -116,7 +116,7 @@ def hashing(program):
 
 
 def play(program, length):
-    """The processor seconds of a scenario, all events of which must succeed."""
+    """The processor seconds of a scenario, whose events must all succeed."""
     text = json.dumps(scenario(length))
     printed, _ = timed([program, "run"], text)
     refused = [line for line in printed.splitlines() if " refused " in line]

@@ -215,7 +215,7 @@ NUMBER = {"transaction": SEEN.txid(), "commitment_number": 42, "secret_index": 2
 
 
 def seen(*places):
-    """The transaction of the page with some of its outputs, the second of which is to_remote; a value may be told."""
+    """The transaction of the page with some of its outputs (the second is to_remote); a value may be told."""
     outputs = [Output(value or SEEN.outputs[at].value, SEEN.outputs[at].program) for at, value in places]
     return Transaction(SEEN.version, SEEN.inputs, outputs, SEEN.lock_time)
 

@@ -182,7 +182,7 @@ def known_outputs(channel):
     """What Electrum makes of each output that the commitment may have."""
     keys = keys_of(channel)
     script = lnutil.make_commitment_output_to_local_witness_script(keys.revocation, channel.delay_blocks, keys.delayed)
-    # a sequence of so many blocks is met that many blocks above the output's (BIP 68)
+    # a sequence of n blocks is met n blocks above the output's (BIP 68)
     in_block = HEIGHT + 1 if channel.confirmed_height() is None else channel.confirmed_height()
     yield Known("to_local", script_program(script), script, keys.revocation, in_block + channel.delay_blocks)
     yield Known("to_remote", program_at(lnutil.make_commitment_output_to_remote_address(keys.payment)), keys.payment, keys.payment, None)

@@ -154,7 +154,7 @@ def placed(claims, number):
 
 
 def claims_of(number):
-    """The claims of a transaction: up to three, of which the first goes through all kinds."""
+    """The claims of a transaction: up to three. The first goes through all kinds."""
     first = KINDS[number % len(KINDS)]
     found = [first(number)]
     if first not in ALONE:

@@ -23,7 +23,7 @@ def read_input():
 
 
 def curve_of(record, instead):
-    """The library; or the record, of which a line says what is not done instead."""
+    """The library; or the record, with a line that says what is not done instead."""
     if record is None:
         return Curve()
     found = Recorded.read(record)

@@ -117,7 +117,7 @@ def keys_of(curve, bases, point, is_legacy):
 
 
 def privates_of(curve, bases, privates, secret, point, is_legacy):
-    """The private keys that sign penalties, by their public keys: from the private keys of the revocation and payment base points, in any order, of which one may be missing."""
+    """The private keys that sign penalties, by their public keys: from the private keys of the revocation and payment base points, in any order. One of the two may be missing."""
     if not privates:
         raise Refused("NoKey")
     found = {}

@@ -21,7 +21,7 @@ STOPPED = {
 }
 
 
-# changes of the judge's Python, each with rows of which it must not say what is wanted
+# changes of the judge's Python, each with rows for which it must say something else than what is wanted
 PLANTS = (
     ("no token is refused", (judging, "refuse_tokens", lambda transaction: None), ("forged token: the right one", "forged token: in another place")),
     ("any item is in strict DER", (signatures, "is_strict_der", lambda item: len(item) > 9), ("signature: a negative s", "signature: a zero before r")),

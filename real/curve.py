@@ -105,7 +105,7 @@ class Curve:
         return self.compressed(point)
 
     def combined(self, first, one, second, other):
-        """The sum of two points, each so many times; empty where there is no such key."""
+        """The sum of two points, each times its number; empty where there is no such key."""
         points = [self.read_point(first), self.read_point(second)]
         for point, number in zip(points, (one, other)):
             if point is None or not self.call("ec_pubkey_tweak_mul", point, number):

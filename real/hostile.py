@@ -174,7 +174,7 @@ def judge_drawn(count, trace):
 
 
 def judge_bounded(count, trace):
-    """What is looked at is bounded over all inputs: two of them, each of which alone is within the bound."""
+    """What is looked at is bounded over all inputs: two of them, and each alone is within the bound."""
     signature, keys = encoded(1, 1), [bytes([2]) + place.to_bytes(32, "big") for place in range(1, 251)]
     checked = [[signature] * 300 + keys + [b"\x51" + b"\x75" * place + b"\x51"] for place in (1, 2)]
     # seven branches have too many paths to be listed

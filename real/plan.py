@@ -39,7 +39,7 @@ class Spent:
     derivations: Dict[bytes, bytes] = field(default_factory=dict)
 
     def preimages(self):
-        """The items of 32 bytes, of which one may be a preimage that the script asks for."""
+        """The items of 32 bytes. One may be a preimage that the script asks for."""
         return [it for it in self.witness if it is not None and len(it) == 32]
 
 
@@ -159,7 +159,7 @@ def check_input(plan, index, digests):
 
 
 def members(pairs):
-    """The members of a JSON object, each of which stands there once."""
+    """The members of a JSON object. Each stands there once."""
     found = dict(pairs)
     if len(found) != len(pairs):
         raise ValueError

@@ -22,17 +22,22 @@ FAULTS = {
 }
 
 
+def many(count, word):
+    """A number of things."""
+    return f"{count} {word}{'' if count == 1 else 's'}"
+
+
 def whole_page(it):
-    fee = "a fee that is not known" if it["fee"] is None else f"a fee of {it['fee']} satoshis"
+    fee = "a fee that is not known" if it["fee"] is None else f"a fee of {many(it['fee'], 'satoshi')}"
     faults = "".join(f"  fault   {each}: {FAULTS[each]}\n" for each in it["faults"])
-    return f"transaction {it['txid']}: {it['inputs']} inputs, {it['outputs']} outputs, {fee}\n{faults}"
+    return f"transaction {it['txid']}: {many(it['inputs'], 'input')}, {many(it['outputs'], 'output')}, {fee}\n{faults}"
 
 
 def head(it):
     start = f"input {it['input']}, {it['outpoint']},"
     if it["answer"] == "clean":
         on = "its paths are not listed" if it["path"] is None else f"path {it['path']}"
-        return f"{start} is clean: {on}; {it['counted']} opcodes counted, {it['height']} elements at most\n"
+        return f"{start} is clean: {on}; {many(it['counted'], 'opcode')} counted, {many(it['height'], 'element')} at most\n"
     why = f"{it['reason']}: {it['says']}\n"
     if it["answer"] == "not judged":
         return f"{start} is not judged: {why}"

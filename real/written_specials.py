@@ -26,7 +26,7 @@ def told(name, spend, answer, **more):
 
 
 def not_judged(reason):
-    """An input of which nothing is said."""
+    """An input about which nothing is said."""
     return ["not judged", reason]
 
 
@@ -164,7 +164,7 @@ def relay():
 
 
 def timeout(size):
-    """A received HTLC by its timeout, with so many bytes where BOLT 3 has the empty item."""
+    """A received HTLC by its timeout, with this number of bytes where BOLT 3 has the empty item."""
     name = f"timeout {size}"
     secrets = [secret_of(f"{name} {k}") for k in range(3)]
     script = lnutil.make_received_htlc(*[public(secret) for secret in secrets], digest_of(name), 4321)
