@@ -368,6 +368,15 @@ def left_to_others(facts, slots):
         yield "a key is taken by its hash on path 0: by consensus, though not by relay policy, an uncompressed key with that hash is taken too"
 
 
+def note_of(one, other, texts):
+    """What is noted of two facts of path 0 that contradict each other. A signature of Bitcoin has another length than a token, which is what a length or bytes are compared with here."""
+    kinds = {one[0], other[0]}
+    says = "'{}' and '{}' contradict each other".format(*texts)
+    if kinds & {"form", "token", "assigned"} and kinds & {"size", "is"}:
+        return f"by the rules of this profile no witness meets path 0, since a signature has 66 bytes: {says}"
+    return f"no witness meets path 0: {says}"
+
+
 def pair_rows():
     """Each pair of facts in both orders, of one slot and of two: the script, its listed facts, and the notes on them."""
     for one in FACTS:
@@ -380,7 +389,7 @@ def pair_rows():
                 for at, fact in enumerate(facts):
                     before = [n for n in range(at) if (slots[n] == slots[at] or fact[0] in ("lock", "age")) and contradict(facts[n], fact)]
                     if before:
-                        notes = [f"no witness meets path 0: '{text(facts[before[0]], slots[before[0]])}' and '{text(fact, slots[at])}' contradict each other"]
+                        notes = [note_of(facts[before[0]], fact, (text(facts[before[0]], slots[before[0]]), text(fact, slots[at])))]
                         break
                 notes = notes or list(left_to_others(facts, slots))
                 yield "76" + "75" + code + swap + more + "75" * (1 + len(swap) // 2) + "51", [text(fact, slot) for fact, slot in zip(facts, slots)], notes

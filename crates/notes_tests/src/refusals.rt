@@ -48,7 +48,7 @@ const LONG: [(&str, usize, &str); 3] = [
     (
         "51",
         1_001,
-        "note: a path needs more than 1000 entries on the stack: no run of it is clean\n",
+        "note: a path needs more than 1000 elements on the stack: no run of it is clean\n",
     ),
     (
         "51",

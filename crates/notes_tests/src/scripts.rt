@@ -93,7 +93,7 @@ const UNMET: [(&str, &str); 7] = [
     // SIZE 65 EQUALVERIFY, and a signature
     (
         "8201418821021111111111111111111111111111111111111111111111111111111111111111ac",
-        "note: no witness meets path 0: 'size 0 65 yes' and 'form 0' contradict each other\n",
+        "note: by the rules of this profile no witness meets path 0, since a signature has 66 bytes: 'size 0 65 yes' and 'form 0' contradict each other\n",
     ),
 ];
 

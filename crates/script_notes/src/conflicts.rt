@@ -26,6 +26,26 @@ pub fn conflict_in(facts: &[Stated]) -> Option<(&Stated, &Stated)> {
     None
 }
 
+/// Whether one of two facts asks for a signature, and the other for bytes or a length. They may contradict each other only since a signature is a token of 66 bytes here.
+pub fn is_of_token_size(one: &Stated, other: &Stated) -> bool {
+    (asks_for_a_signature(&one.fact) && asks_for_bytes(&other.fact))
+        || (asks_for_bytes(&one.fact) && asks_for_a_signature(&other.fact))
+}
+
+fn asks_for_a_signature(fact: &Fact) -> bool {
+    match fact {
+        Fact::Form(_) | Fact::Token(_, _) | Fact::Assigned(_, _) => true,
+        _ => false,
+    }
+}
+
+fn asks_for_bytes(fact: &Fact) -> bool {
+    match fact {
+        Fact::Size(_, _) | Fact::Is(_, _) => true,
+        _ => false,
+    }
+}
+
 // The first of `others` that no witness meets together with a fact.
 fn conflict_with<'a>(fact: &Stated, others: &'a [Stated]) -> Option<&'a Stated> {
     others

@@ -2,8 +2,8 @@
 //!
 //! [`notes`] makes a text from a script in hexadecimal. It says where the script is at fault, what bytes and texts look like that are no witness script, which branches ended by a rule
 //! that is stricter than consensus, which paths no witness meets, and what endangers money. [`call_notes`] makes the text for a call from its words and its status: it says also what
-//! keeps a message from being hexadecimal, and what helps after wrong words. Both are pure functions, proved not to panic. What they say is tested, not proved; what `warnings` decides is
-//! proved.
+//! keeps a message from being hexadecimal, and what helps after wrong words. Both are pure functions, proved not to panic. What they say is tested, not proved, but for what `warnings`
+//! decides, and for the note that each branch ends as in consensus: where it is written, nobody can spend in Bitcoin either (`consensus`).
 //!
 //! `paths` lists what it speaks of. `enforce_notes` makes the notes on scenarios beside these, `enforce_scripts` writes them where there are none, and `trace` has them in what it tells.
 //!
@@ -15,20 +15,17 @@
 //! The test `names_opcodes_outside_the_table` of `notes_tests` has these lines.
 #![tactic(auto)]
 
-mod branches;
 mod calls;
 mod conflicts;
-mod entries;
 mod looks;
 mod names;
 mod pushes;
 mod refusals;
 mod risks;
 mod scripts;
-mod signatures;
 mod sizes;
 mod unknowns;
 
 pub use calls::call_notes;
+pub use consensus::is_der;
 pub use scripts::notes;
-pub use signatures::is_der;

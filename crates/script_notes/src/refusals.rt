@@ -27,7 +27,7 @@ pub fn note_refusal(
         ),
         CheckError::TooTall => writeln!(
             notes,
-            "note: a path needs more than 1000 entries on the stack: no run of it is clean"
+            "note: a path needs more than 1000 elements on the stack: no run of it is clean"
         ),
         CheckError::NoMemory => Ok(()),
     }

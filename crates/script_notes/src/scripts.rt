@@ -1,15 +1,18 @@
 // Notes on a script.
 
-use crate::branches::{Rule, StrictEnd, strict_ends};
-use crate::conflicts::conflict_in;
+ghost use Rattle.consensus.specs.Machine.{NobodySpends};
+
+use crate::conflicts::{conflict_in, is_of_token_size};
 use crate::looks::{note_look, note_message, note_text};
 use crate::pushes::note_pushes;
 use crate::refusals::note_refusal;
 use crate::risks::note_risks;
 use crate::sizes::Counted;
 use crate::unknowns::{note_opcode, note_others};
+use consensus::{Rule, StrictEnd, strict_ends};
+use facts::Stated;
 use paths::{Checked, Path, check};
-use script::{ParseError, Script};
+use script::{Op, ParseError, Script};
 use std::alloc::{AllocError, Global};
 use std::fmt::Write;
 
@@ -101,11 +104,16 @@ fn note_script(
 }
 
 fn note_listing(notes: &mut String, alloc: Global, checked: &Checked) -> Result<(), AllocError> {
-    let ends = strict_ends(alloc, checked.script().ops())?;
+    let ops = checked.script().ops();
+    let ends = strict_ends(alloc, ops)?;
     if checked.paths().is_empty() {
-        note_no_path(notes, ends.is_empty())?;
+        if ends.is_exact {
+            note_exact(notes, ops)?;
+        } else {
+            note_stricter(notes)?;
+        }
     }
-    for end in &ends {
+    for end in &ends.strict {
         note_end(notes, end)?;
     }
     for (index, path) in checked.paths().iter().enumerate() {
@@ -114,17 +122,21 @@ fn note_listing(notes: &mut String, alloc: Global, checked: &Checked) -> Result<
     note_risks(notes, alloc, checked)
 }
 
-// Notes that no witness satisfies the script, and whether each
-// branch ends as in consensus.
-fn note_no_path(notes: &mut String, is_exact: bool) -> Result<(), AllocError> {
-    let end = if is_exact {
-        ": each branch ends as in consensus"
-    } else {
-        ", which are stricter than consensus"
-    };
+// Notes that no witness satisfies a script by the rules here, nor in consensus.
+fn note_exact(notes: &mut String, _ops: &[Op]) -> Result<(), AllocError>
+    requires { NobodySpends _ops.now }
+{
     writeln!(
         notes,
-        "note: no witness satisfies the script by the rules of this profile{end}"
+        "note: no witness satisfies the script by the rules of this profile: each branch ends as in consensus"
+    )
+}
+
+// Notes that no witness satisfies a script by the rules here. In consensus one may.
+fn note_stricter(notes: &mut String) -> Result<(), AllocError> {
+    writeln!(
+        notes,
+        "note: no witness satisfies the script by the rules of this profile, which are stricter than consensus"
     )
 }
 
@@ -145,10 +157,39 @@ fn note_end(notes: &mut String, end: &StrictEnd) -> Result<(), AllocError> {
 // Notes that no witness meets a path.
 fn note_conflict(notes: &mut String, index: usize, path: &Path) -> Result<(), AllocError> {
     match conflict_in(path.facts.values()) {
-        Some((one, other)) => writeln!(
-            notes,
-            "note: no witness meets path {index}: '{one}' and '{other}' contradict each other"
-        ),
+        Some((one, other)) => {
+            if is_of_token_size(one, other) {
+                note_size(notes, index, one, other)
+            } else {
+                note_pair(notes, index, one, other)
+            }
+        }
         None => Ok(()),
     }
+}
+
+// Notes that two facts of a path contradict each other.
+fn note_pair(
+    notes: &mut String,
+    index: usize,
+    one: &Stated,
+    other: &Stated,
+) -> Result<(), AllocError> {
+    writeln!(
+        notes,
+        "note: no witness meets path {index}: '{one}' and '{other}' contradict each other"
+    )
+}
+
+// Notes that they do so by the length of a token.
+fn note_size(
+    notes: &mut String,
+    index: usize,
+    one: &Stated,
+    other: &Stated,
+) -> Result<(), AllocError> {
+    writeln!(
+        notes,
+        "note: by the rules of this profile no witness meets path {index}, since a signature has 66 bytes: '{one}' and '{other}' contradict each other"
+    )
 }

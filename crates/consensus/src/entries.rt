@@ -1,38 +1,42 @@
 // The entries on the stack of a branch, as
 // far as they decide where the branch goes.
 
-ghost use Rattle.std.specs.Prelude.{◌≤◌, length};
+ghost use Rattle.std.specs.Prelude.{◌≡◌, ◌≤◌, OnOk, ◌∷◌, length};
+ghost use Rattle.script.specs.Number.{number_of};
+ghost use Rattle.consensus.specs.Words.{bytes_of, first_bytes, word_of, words, known, known_flag, truth_of, size_of, hash_of, equal_of, answer_if as answered_if, is_length, top_of, below};
 
 use digest::hash160;
+use lists::Stack;
 use script::limits::MAX_SCRIPT_ELEMENT_SIZE;
 use script::num::{Limit, read};
 use script::truths::is_true;
 use std::alloc::AllocError;
 
-// The most bytes that a script pushes at once.
-const MAX_PUSH: usize = 75;
+/// The most bytes that a script pushes at once.
+pub const MAX_PUSH: usize = 75;
 
 /// Bytes that a script pushes, at most 75.
 #[derive(Clone, Copy)]
 pub struct Bytes {
-    bytes: [u8; MAX_PUSH],
-    len: usize,
+    pub bytes: [u8; MAX_PUSH],
+    pub len: usize,
 }
 
 impl Bytes {
     /// The first 75 bytes of an item.
-    pub fn new(item: &[u8]) -> Self {
+    pub fn new(item: &[u8]) -> Self
+        ensures { bytes_of result ≡ first_bytes item.now }
+    {
         let mut bytes = [0; MAX_PUSH];
         let len = item.len().min(MAX_PUSH);
-        for (to, from) in bytes.iter_mut().zip(item) {
-            *to = *from;
-        }
+        bytes[..len].copy_from_slice(&item[..len]);
         Bytes { bytes, len }
     }
 
     /// The bytes.
     pub fn as_slice(&self) -> &[u8]
-        ensures { length result.now ≤ MAX_PUSH }
+        ensures value { result.now ≡ bytes_of self.now }
+        ensures short { length result.now ≤ MAX_PUSH }
     {
         &self.bytes[..self.len.min(MAX_PUSH)]
     }
@@ -55,12 +59,16 @@ pub enum Entry {
 
 impl Entry {
     /// Bytes that the script determines.
-    pub fn known(item: &[u8]) -> Self {
+    pub fn known(item: &[u8]) -> Self
+        ensures { word_of result ≡ known (first_bytes item.now) }
+    {
         Entry::Known(Bytes::new(item))
     }
 
     /// The result of a comparison of known bytes.
-    pub fn flag(holds: bool) -> Self {
+    pub fn flag(holds: bool) -> Self
+        ensures { word_of result ≡ known_flag holds }
+    {
         if holds {
             Entry::known(&[1])
         } else {
@@ -69,7 +77,9 @@ impl Entry {
     }
 
     /// Whether the entry counts as true; `None` if the witness decides.
-    pub fn truth(&self) -> Option<bool> {
+    pub fn truth(&self) -> Option<bool>
+        ensures { result ≡ truth_of (word_of self.now) }
+    {
         match self {
             Entry::Known(bytes) => Some(is_true(bytes.as_slice())),
             _ => None,
@@ -77,7 +87,9 @@ impl Entry {
     }
 
     /// The entry that SIZE pushes above it.
-    pub fn size(&self) -> Self {
+    pub fn size(&self) -> Self
+        ensures { word_of result ≡ size_of (word_of self.now) }
+    {
         match self {
             Entry::Item => Entry::Size,
             Entry::Hash => Entry::known(&[20]),
@@ -90,7 +102,9 @@ impl Entry {
     }
 
     /// The entry that HASH160 replaces it with.
-    pub fn hash(&self) -> Self {
+    pub fn hash(&self) -> Self
+        ensures { word_of result ≡ hash_of (word_of self.now) }
+    {
         match self {
             Entry::Item => Entry::Hash,
             Entry::Known(bytes) => Entry::known(&hash160(bytes.as_slice())),
@@ -99,7 +113,9 @@ impl Entry {
     }
 
     /// The entry that EQUAL leaves of two.
-    pub fn equal(&self, other: &Entry) -> Self {
+    pub fn equal(&self, other: &Entry) -> Self
+        ensures { word_of result ≡ equal_of (word_of self.now) (word_of other.now) }
+    {
         match (self, other) {
             (Entry::Known(a), Entry::Known(b)) => Entry::flag(a.as_slice() == b.as_slice()),
             (Entry::Known(bytes), Entry::Hash) | (Entry::Hash, Entry::Known(bytes)) => {
@@ -114,7 +130,9 @@ impl Entry {
 }
 
 // A result that the witness decides, or false if it can't hold.
-fn answer_if(may_hold: bool) -> Entry {
+fn answer_if(may_hold: bool) -> Entry
+    ensures { word_of result ≡ answered_if may_hold }
+{
     if may_hold {
         Entry::Answer
     } else {
@@ -123,7 +141,9 @@ fn answer_if(may_hold: bool) -> Entry {
 }
 
 // Whether bytes are the minimal encoding of a length that an item may have.
-fn is_size(bytes: &[u8]) -> bool {
+fn is_size(bytes: &[u8]) -> bool
+    ensures { result ≡ is_length (number_of 4 bytes.now) }
+{
     match read(bytes, Limit::Count) {
         Some(number) => { !number.negative && number.magnitude <= MAX_SCRIPT_ELEMENT_SIZE as u64 }
         None => false,
@@ -131,12 +151,19 @@ fn is_size(bytes: &[u8]) -> bool {
 }
 
 /// Pops the top of a stack. Below its entries are the items of the witness.
-pub fn pop(stack: &mut Vec<Entry>) -> Entry {
-    stack.pop().unwrap_or(Entry::Item)
+pub fn pop(stack: &mut Stack<Entry>) -> Entry
+    ensures top { word_of result ≡ top_of (words stack.old) }
+    ensures rest { words stack.new ≡ below (words stack.old) }
+{
+    match stack.pop() {
+        Some(entry) => entry,
+        None => Entry::Item,
+    }
 }
 
 /// Pushes an entry. The only error is that memory ran out.
-pub fn push(stack: &mut Vec<Entry>, entry: Entry) -> Result<(), AllocError> {
-    stack.push(entry)?;
-    Ok(())
+pub fn push(stack: &mut Stack<Entry>, entry: Entry) -> Result<(), AllocError>
+    ensures { OnOk result (words stack.new ≡ word_of entry ∷ words stack.old) }
+{
+    stack.push(entry)
 }

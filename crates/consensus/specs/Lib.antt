@@ -1,0 +1,6 @@
+pub mod Values
+pub mod Machine
+pub mod Balance
+pub mod Words
+pub mod Turns
+pub mod Exact
