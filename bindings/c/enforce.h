@@ -152,7 +152,7 @@ typedef struct {
     size_t bytes_length; /* How many constant bytes it has. */
 } enforce_fact_row;
 
-/* What a call tells beside its status, of which each call writes the whole: the rows and bytes that there are, whether or not they were written, and the number that a refusal carries, a byte's position or an opcode's index. */
+/* What a call tells beside its status. Each call writes all of it: the rows and bytes that there are, whether or not they were written, and the number that a refusal carries, a byte's position or an opcode's index. */
 typedef struct {
     size_t paths;
     size_t facts;
@@ -180,7 +180,7 @@ typedef struct {
     uint8_t digest[32]; /* What it signs: the digest of the input with hash type ALL (BIP 143). After the signature in the item comes the byte 01. */
 } enforce_signature_row;
 
-/* What a call that makes a transaction tells beside its status, of which each call writes the whole: the bytes and rows that there are, whether or not they were written, and the number that a refusal carries. */
+/* What a call that makes a transaction tells beside its status. Each call writes all of it: the bytes and rows that there are, whether or not they were written, and the number that a refusal carries. */
 typedef struct {
     size_t bytes;
     size_t signatures;

@@ -232,7 +232,7 @@ class FactRow(Structure):
 
 
 class Answer(Structure):
-    """What a call tells beside its status, of which each call writes the whole: the rows and bytes that there are, whether or not they were written, and the number that a refusal carries, a byte's position or an opcode's index."""
+    """What a call tells beside its status. Each call writes all of it: the rows and bytes that there are, whether or not they were written, and the number that a refusal carries, a byte's position or an opcode's index."""
 
     _fields_ = [
         ("paths", c_size_t),
@@ -272,7 +272,7 @@ class SignatureRow(Structure):
 
 
 class SpendAnswer(Structure):
-    """What a call that makes a transaction tells beside its status, of which each call writes the whole: the bytes and rows that there are, whether or not they were written, and the number that a refusal carries."""
+    """What a call that makes a transaction tells beside its status. Each call writes all of it: the bytes and rows that there are, whether or not they were written, and the number that a refusal carries."""
 
     _fields_ = [
         ("bytes", c_size_t),

@@ -289,7 +289,7 @@ const _: () = {
     assert!(core::mem::offset_of!(FactRow, bytes_length) == 40);
 };
 
-/// What a call tells beside its status, of which each call writes the whole: the rows and bytes that there are, whether or not they were written, and the number that a refusal carries, a byte's position or an opcode's index.
+/// What a call tells beside its status. Each call writes all of it: the rows and bytes that there are, whether or not they were written, and the number that a refusal carries, a byte's position or an opcode's index.
 #[repr(C)]
 #[derive(Clone, Copy, Debug, PartialEq, Eq)]
 pub struct Answer {
@@ -360,7 +360,7 @@ const _: () = {
     assert!(core::mem::offset_of!(SignatureRow, digest) == 49);
 };
 
-/// What a call that makes a transaction tells beside its status, of which each call writes the whole: the bytes and rows that there are, whether or not they were written, and the number that a refusal carries.
+/// What a call that makes a transaction tells beside its status. Each call writes all of it: the bytes and rows that there are, whether or not they were written, and the number that a refusal carries.
 #[repr(C)]
 #[derive(Clone, Copy, Debug, PartialEq, Eq)]
 pub struct SpendAnswer {

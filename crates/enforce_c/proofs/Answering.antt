@@ -24,7 +24,7 @@ use Rattle.enforce_c.specs.declared.claim_rows.Due.{Due}
 use Rattle.enforce_c.specs.Claimed.{IsClaimed, due_of, AnswersClaim}
 use Rattle.enforce_c.specs.declared.spend_rows.SpendAnswer.{SpendAnswer}
 use Rattle.enforce_c.specs.Spent.{Asked, SpendLists, IsSpent, left_by_lists, spend_refused, LeftSpend, AnswersSpend}
-use Rattle.enforce_c.specs.FormScripts.{IsOf, IsSpeltForm, AnswersForm, form_of}
+use Rattle.enforce_c.specs.FormScripts.{IsSpelt, AnswersForm, form_of}
 
 pub is_listed : (bytes : List ℕ) (ops : List Op) (c : CheckedScript) → Spells ops bytes → IsListing ops (Ok c) → All (IsSound c.ops) c.paths → IsExhaustive c.ops c.paths → IsListed bytes c
 is_listed bytes ops c spelt listed sound exhaustive = record {
@@ -46,16 +46,13 @@ listed_rows bytes before t after told left = (Ok t, told, left)
 pub refused_rows : (bytes : List ℕ) (before : RowLists) (e : Refusal) (s : ℕ) (a : Answer) → IsTold bytes (Err e) → s ≡ status_of e → a ≡ refused_with e → AnswersListing bytes before (record { status = s; answer = a; rows = before })
 refused_rows bytes before e s a told status answer = (Err e, told, rw (status, answer) refl)
 
-pub by_kind : (rule other : Result CheckedScript Refusal) (r : Result CheckedScript Refusal) → IsOf rule r → other ≡ rule → IsOf other r
-by_kind rule other r is same = subst (λ o. IsOf o r) (sym same) is
+pub by_kind : (rule other : Result CheckedScript Refusal) (r : Result (List ℕ) Refusal) → IsSpelt rule r → other ≡ rule → IsSpelt other r
+by_kind rule other r is same = subst (λ o. IsSpelt o r) (sym same) is
 
-pub is_spelt : (f : Form) (c : CheckedScript) (bytes : List ℕ) → form_of f ≡ Ok c → Spells c.ops bytes → IsSpeltForm f (Ok bytes)
-is_spelt f c bytes is spelt = (c, is, spelt)
-
-pub spelt_bytes : (f : Form) (before bytes : List ℕ) (after : LeftBytes) → IsSpeltForm f (Ok bytes) → left_by_bytes bytes before ≡ after → AnswersForm f before after
+pub spelt_bytes : (f : Form) (before bytes : List ℕ) (after : LeftBytes) → IsSpelt (form_of f) (Ok bytes) → left_by_bytes bytes before ≡ after → AnswersForm f before after
 spelt_bytes f before bytes after spelt left = (Ok bytes, spelt, left)
 
-pub refused_bytes : (f : Form) (before : List ℕ) (e : Refusal) (s : ℕ) (a : Answer) → IsSpeltForm f (Err e) → s ≡ status_of e → a ≡ refused_with e → AnswersForm f before (record { status = s; answer = a; bytes = before })
+pub refused_bytes : (f : Form) (before : List ℕ) (e : Refusal) (s : ℕ) (a : Answer) → IsSpelt (form_of f) (Err e) → s ≡ status_of e → a ≡ refused_with e → AnswersForm f before (record { status = s; answer = a; bytes = before })
 refused_bytes f before e s a refused status answer = (Err e, refused, rw (status, answer) refl)
 
 pub claimed_due : (row : ClaimRow) (rows : List SlotRow) (bytes : List ℕ) (before due : Due) (c : ClaimParts) (s : ℕ) (a : Answer) → IsClaimed row rows bytes (Ok c) → s ≡ 0 → a ≡ bytes_answer [] → due ≡ due_of c

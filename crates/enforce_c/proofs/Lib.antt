@@ -6,3 +6,5 @@ mod RangeExamples
 mod KindExamples
 pub mod Slots
 pub mod Spends
+pub mod Spelled
+pub mod FormBytes

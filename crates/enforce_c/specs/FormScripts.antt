@@ -52,11 +52,11 @@ abbrev pub IsOf : {A : Type 0} → Result A Refusal → Result A Refusal → Typ
 IsOf rule (Err NoMemory) = Unit {0}
 IsOf rule r = rule ≡ r
 
--- the bytes of the form's script, or why there are none
-abbrev pub IsSpeltForm : Form → Result (List ℕ) Refusal → Type 0
-IsSpeltForm f (Ok bytes) = (c : CheckedScript) × (form_of f ≡ Ok c) × Spells c.ops bytes
-IsSpeltForm f (Err e) = IsOf (form_of f) (Err e)
+-- the bytes of the script of a definition, or its refusal, unless memory ran out
+abbrev pub IsSpelt : Result CheckedScript Refusal → Result (List ℕ) Refusal → Type 0
+IsSpelt rule (Ok bytes) = (c : CheckedScript) × (rule ≡ Ok c) × Spells c.ops bytes
+IsSpelt rule (Err e) = IsOf rule (Err e)
 
 -- the call leaves this, by what becomes of the form
 abbrev pub AnswersForm : Form → List ℕ → LeftBytes → Type 0
-AnswersForm f before after = (r : Result (List ℕ) Refusal) × IsSpeltForm f r × (bytes_left_by r before ≡ after)
+AnswersForm f before after = (r : Result (List ℕ) Refusal) × IsSpelt (form_of f) r × (bytes_left_by r before ≡ after)

@@ -5,13 +5,13 @@ ghost use Rattle.paths.specs.Listing.{CheckedScript};
 ghost use Rattle.enforce_c.specs.declared.statuses.Refusal.{Refusal as Refused};
 ghost use Rattle.script.specs.Token.{is_key};
 ghost use Rattle.enforce_c.specs.declared.statuses.Refusal.TheVariants.{NotAKey};
-ghost use Rattle.enforce_c.specs.FormScripts.{htlc_keyed, funding_of, to_local_of, key_hash_of, offered_of, received_of, form_of, IsOf, IsSpeltForm};
+ghost use Rattle.enforce_c.specs.FormScripts.{htlc_keyed, funding_of, to_local_of, key_hash_of, offered_of, received_of, form_of, IsSpelt};
 
+use crate::script_bytes::{funding, key_hash, offered, received, to_local};
 use crate::statuses::Refusal;
-use forms::{Expiry, HtlcKeys, funding, key_hash, offered, patterns, received, to_local};
+use forms::Expiry;
 use keys::Key;
 use lists::ByteString;
-use paths::Checked;
 use std::alloc::Global;
 
 /// A funding output: both keys, `key` and `other`, in whichever order.
@@ -53,75 +53,81 @@ pub(crate) fn key_of(bytes: &[u8; 33]) -> Result<Key, Refusal>
 }
 
 // A funding output's script.
-fn funding_script(alloc: Global, form: &Form) -> Result<Checked, Refusal>
-    ensures { IsOf (funding_of form.now) result }
+#[tactic(auto, using(crate::proofs::FormBytes::funding_spelt))]
+fn funding_script(alloc: Global, form: &Form) -> Result<ByteString, Refusal>
+    ensures { IsSpelt (funding_of form.now) result }
 {
-    let key = key_of(&form.key)?;
-    let other = key_of(&form.other)?;
-    let patterns = patterns(alloc)?;
-    Ok(funding(alloc, &patterns, &key, &other)?)
+    key_of(&form.key)?;
+    key_of(&form.other)?;
+    Ok(funding(alloc, &form.key, &form.other)?)
 }
 
 // A to_local output's script.
-fn to_local_script(alloc: Global, form: &Form) -> Result<Checked, Refusal>
-    ensures { IsOf (to_local_of form.now) result }
+fn to_local_script(alloc: Global, form: &Form) -> Result<ByteString, Refusal>
+    ensures { IsSpelt (to_local_of form.now) result }
 {
-    let key = key_of(&form.key)?;
-    let other = key_of(&form.other)?;
-    let patterns = patterns(alloc)?;
-    Ok(to_local(alloc, &patterns, &key, form.delay_blocks, &other)?)
+    key_of(&form.key)?;
+    key_of(&form.other)?;
+    Ok(to_local(alloc, &form.key, form.delay_blocks, &form.other)?)
 }
 
 // The script that P2WPKH of the key stands for.
-fn key_hash_script(alloc: Global, form: &Form) -> Result<Checked, Refusal>
-    ensures { IsOf (key_hash_of form.now) result }
+#[tactic(auto, using(crate::proofs::FormBytes::key_hash_spelt))]
+fn key_hash_script(alloc: Global, form: &Form) -> Result<ByteString, Refusal>
+    ensures { IsSpelt (key_hash_of form.now) result }
 {
-    let key = key_of(&form.key)?;
-    let patterns = patterns(alloc)?;
-    Ok(key_hash(alloc, &patterns, &key)?)
+    key_of(&form.key)?;
+    Ok(key_hash(alloc, &form.key)?)
 }
 
-// The keys of an HTLC's output.
-fn htlc_keys(form: &Form) -> Result<HtlcKeys, Refusal>
-    ensures { MatchResult result (λ k. (k.revocation.bytes ≡ form.now.key) × (k.remote.bytes ≡ form.now.other) × (k.local.bytes ≡ form.now.local)
-        × (is_key form.now.key ≡ true) × (is_key form.now.other ≡ true) × (is_key form.now.local ≡ true))
+// Refuses an HTLC's form whose three keys are not all keys.
+fn htlc_keyed(form: &Form) -> Result<(), Refusal>
+    ensures { MatchResult result
+        (λ _. (is_key form.now.key ≡ true) × (is_key form.now.other ≡ true) × (is_key form.now.local ≡ true))
         (λ e. (e ≡ NotAKey) × ((r : Result CheckedScript Refused) → htlc_keyed form.now r ≡ Err NotAKey)) }
 {
-    let revocation = key_of(&form.key)?;
-    let remote = key_of(&form.other)?;
-    let local = key_of(&form.local)?;
-    Ok(HtlcKeys {
-        revocation,
-        remote,
-        local,
-    })
+    key_of(&form.key)?;
+    key_of(&form.other)?;
+    key_of(&form.local)?;
+    Ok(())
 }
 
 // The script of an HTLC that the commitment's owner offered.
-fn offered_script(alloc: Global, form: &Form) -> Result<Checked, Refusal>
-    ensures { IsOf (offered_of form.now) result }
+fn offered_script(alloc: Global, form: &Form) -> Result<ByteString, Refusal>
+    ensures { IsSpelt (offered_of form.now) result }
 {
-    let keys = htlc_keys(form)?;
-    let patterns = patterns(alloc)?;
-    Ok(offered(alloc, &patterns, &keys, &form.payment_hash)?)
+    htlc_keyed(form)?;
+    Ok(offered(
+        alloc,
+        &form.key,
+        &form.other,
+        &form.local,
+        &form.payment_hash,
+    )?)
 }
 
 // The script of an HTLC that the commitment's owner received.
-fn received_script(alloc: Global, form: &Form) -> Result<Checked, Refusal>
-    ensures { IsOf (received_of form.now) result }
+fn received_script(alloc: Global, form: &Form) -> Result<ByteString, Refusal>
+    ensures { IsSpelt (received_of form.now) result }
 {
-    let keys = htlc_keys(form)?;
+    htlc_keyed(form)?;
     let Some(expiry) = Expiry::new(form.expiry_height) else {
         return Err(Refusal::NotAHeight);
     };
-    let patterns = patterns(alloc)?;
-    Ok(received(alloc, &patterns, &keys, &form.payment_hash, expiry)?)
+    Ok(received(
+        alloc,
+        &form.key,
+        &form.other,
+        &form.local,
+        &form.payment_hash,
+        expiry.height,
+    )?)
 }
 
-// The script of a form with its paths.
+/// The bytes of a form's script. Checked in this order: the kind, each key in the order of the fields, the expiry.
 #[tactic(auto, using(crate::proofs::Answering::by_kind))]
-fn checked_form(alloc: Global, form: &Form) -> Result<Checked, Refusal>
-    ensures { IsOf (form_of form.now) result }
+pub(crate) fn form_bytes(alloc: Global, form: &Form) -> Result<ByteString, Refusal>
+    ensures { IsSpelt (form_of form.now) result }
 {
     match form.kind {
         FORM_FUNDING => funding_script(alloc, form),
@@ -131,13 +137,4 @@ fn checked_form(alloc: Global, form: &Form) -> Result<Checked, Refusal>
         FORM_RECEIVED => received_script(alloc, form),
         _ => Err(Refusal::NoSuchForm),
     }
-}
-
-/// The bytes of a form's script. Checked in this order: the kind, each key in the order of the fields, the expiry.
-#[tactic(auto, using(crate::proofs::Answering::is_spelt))]
-pub(crate) fn form_bytes(alloc: Global, form: &Form) -> Result<ByteString, Refusal>
-    ensures { IsSpeltForm form.now result }
-{
-    let checked = checked_form(alloc, form)?;
-    Ok(ByteString::from_slice(alloc, checked.script().bytes())?)
 }

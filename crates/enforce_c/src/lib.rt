@@ -5,8 +5,8 @@
 //! answered by a status. [`DONE`] is 0, and each other status is a family times 256 and the number of a refusal.
 //! A buffer that is too short is left as it was, and the [`Answer`] says how long it has to be.
 //!
-//! `paths` lists the ways through a script, and `script_words` has the text of a listing. `forms` has the scripts of BOLT 3, and
-//! `sighash` the program of a script. `claim` accepts claims, and `filling` makes their spend. Signatures are not among the arguments:
+//! `paths` lists the ways through a script, and `script_words` has the text of a listing. `terms` defines the scripts of BOLT 3 and
+//! `forms` their ways; `sighash` has the program of a script. `claim` accepts claims, and `filling` makes their spend. Signatures are not among the arguments:
 //! an accepted claim can't fail with tokens, or with valid signatures where none is measured. No crate depends on this one.
 //! `docs/BINDINGS.md` has the header, and callers in C and in other languages.
 //!
@@ -33,6 +33,7 @@ mod forms_of_c;
 mod listing;
 mod ranges;
 mod rows;
+mod script_bytes;
 mod spend_rows;
 mod spending;
 mod statuses;

@@ -47,7 +47,7 @@ pub struct FactRow {
     pub bytes_length: usize,
 }
 
-/// What a call tells beside its status, of which each call writes the whole: the rows and bytes that there are, whether or not they were
+/// What a call tells beside its status. Each call writes all of it: the rows and bytes that there are, whether or not they were
 /// written, and the number that a refusal carries, a byte's position or an opcode's index.
 #[repr(C)]
 #[derive(Clone, Copy)]

@@ -33,7 +33,7 @@ pub struct SignatureRow {
     pub digest: [u8; 32],
 }
 
-/// What a call that makes a transaction tells beside its status, of which each call writes the whole: the bytes and rows that there are, whether or not they were
+/// What a call that makes a transaction tells beside its status. Each call writes all of it: the bytes and rows that there are, whether or not they were
 /// written, and the number that a refusal carries.
 #[repr(C)]
 #[derive(Clone, Copy)]

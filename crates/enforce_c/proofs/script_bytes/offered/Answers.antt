@@ -1,0 +1,6 @@
+use Rattle.digest.proofs.OutsideVectors.{length-ripemd160}
+use Rattle.enforce_c.proofs.Spelled.{offered_spells}
+use Rattle.enforce_c.proofs.script_bytes.offered.Goals as goal
+
+pub returns : goal.returns
+returns c = offered_spells _ _ _ _ _ _ _ _ (length-ripemd160 _) c.told-remote c.told-local (length-ripemd160 _) c.in_ok-script.ensures c.in_ok-end_offered.ensures c.ripemd160-payment.ensures c.from_vec.ensures
