@@ -3,7 +3,6 @@ use Rattle.std.proofs.Common.{◌≡◌, ℕ, ◌≤◌, ◌<◌, true, List, []
 use Rattle.std.specs.Prelude.{IsTrue, is_ok}
 use Rattle.std.specs.List.{AllByRecursion, Contains}
 use Rattle.std.proofs.lemmas.Bool.{true≢false}
-use Rattle.std.proofs.lemmas.Option.{none-some}
 use Rattle.std.proofs.lemmas.List.Elements.{All-nil, All-cons}
 use Rattle.sha2.specs.Sha256.{sha256, digest_bytes, hash_after, compress, rounds, schedule, first_words}
 use Rattle.script.specs.declared.opcode.Op.TheVariants.{Number}
@@ -47,8 +46,8 @@ use Rattle.book.specs.Books.{fundings_of, replay}
 use Rattle.book.specs.Signers.{fill_refusal}
 use Rattle.book.specs.Accepted.{AreWhole, all_accepted, IsHistory, AcceptedMeans}
 use Rattle.book.specs.Releasing.{IsKeptIn}
-use Rattle.holdings.specs.Holdings.{holding_of, holdings_of}
-use Rattle.holdings.specs.Keeping.{MayRelease, kept, recorded, ReleasesDue, ExpiresLater, PaysOutputs, IsCareful}
+use Rattle.holdings.specs.Holdings.{holdings_of}
+use Rattle.holdings.specs.Keeping.{TakesCare, IsCareful}
 use Rattle.holdings.proofs.Samples.{path, entry, hash, htlc, stray, batch, release, first_terms, first_opening}
 
 -- ---- calls
@@ -60,27 +59,27 @@ signed_in_no_channel law called = true≢false (sym ((law.accepted_exactly token
 -- ---- offers
 
 module _ (c amount_msat : ℕ) (h : Htlc) where
-  -- yes: ExpiresLater
-  at_one : ExpiresLater (Stepping c (Own (Offer amount_msat hash 1)))
+  -- yes: TakesCare
+  at_one : TakesCare (Stepping c (Own (Offer amount_msat hash 1)))
   at_one = lit< tt
 
-  -- no: ExpiresLater
-  at_zero : ExpiresLater (Stepping c (Own (Offer amount_msat hash 0))) → ⊥
+  -- no: TakesCare
+  at_zero : TakesCare (Stepping c (Own (Offer amount_msat hash 0))) → ⊥
   at_zero e = omega (arith, e)
 
   -- a peer's HTLC may expire at any height
-  -- yes: ExpiresLater
-  peers_offer : ExpiresLater (Stepping c (Peer (Updated (Add h))))
+  -- yes: TakesCare
+  peers_offer : TakesCare (Stepping c (Peer (Updated (Add h))))
   peers_offer = tt
 
 -- ---- outputs
 
--- yes: PaysOutputs
-greatest_value : (c : ℕ) → PaysOutputs (Releasing c (batch stray 2100000000000000))
+-- yes: TakesCare
+greatest_value : (c : ℕ) → TakesCare (Releasing c (batch stray 2100000000000000))
 greatest_value c = (record { value = omega arith; script = omega arith }, tt)
 
--- no: PaysOutputs
-above_all_bitcoins : (c : ℕ) → PaysOutputs (Releasing c (batch stray 2100000000000001)) → ⊥
+-- no: TakesCare
+above_all_bitcoins : (c : ℕ) → TakesCare (Releasing c (batch stray 2100000000000001)) → ⊥
 above_all_bitcoins c h = let l = h.0.value in omega (arith, l)
 
 -- ---- claims
@@ -144,30 +143,13 @@ module _ (x : ClaimParts) (o : Opening) where
   in_another_channel : IsKeptIn 1 (entry 6 (Keep 2 3 (stray ∷ x ∷ [])) ∷ []) x → ⊥
   in_another_channel k = let e = ap (λ (e : Entry). channel_kept e.call) (only (entry 6 (Keep 2 3 (stray ∷ x ∷ []))) (entry k.seat (Keep 1 k.number k.set)) k.kept) in omega (arith, e)
 
-  -- yes: MayRelease
-  of_a_kept_set : MayRelease (entry 0 (Open o) ∷ entry 6 (Keep 2 3 (stray ∷ x ∷ [])) ∷ []) 2 x
-  of_a_kept_set = kept in_a_kept_set
-
-  -- yes: MayRelease
-  on_a_recorded : IsOnRecorded (holding_of (entry 0 (Open o) ∷ []) 0 (record { state = opened_state o.terms o.side o.seed o.first_point o.next_point; kept = []; closed = None })) x → MayRelease (entry 0 (Open o) ∷ []) 0 x
-  on_a_recorded i = recorded _ refl i
-
-  -- yes: ReleasesDue
-  due : (history : List Entry) → MayRelease history 3 x → ReleasesDue history (Releasing 3 (batch x 900))
-  due history m = (m, tt)
-
-  -- no: ReleasesDue
-  due_elsewhere : (history : List Entry) → (MayRelease history 4 x → ⊥) → ReleasesDue history (Releasing 4 (batch x 900)) → ⊥
-  due_elsewhere history n d = n d.0
-
 -- no: IsKeptIn
 in_no_set : (x : ClaimParts) → IsKeptIn 0 [] x → ⊥
 in_no_set x k = contains_none (entry k.seat (Keep 0 k.number k.set)) k.kept
 
--- no: MayRelease
-of_no_channel : (x : ClaimParts) → MayRelease [] 0 x → ⊥
-of_no_channel x (kept k) = contains_none (entry k.seat (Keep 0 k.number k.set)) k.kept
-of_no_channel x (recorded h at i) = none-some h at
+-- what a history released in its channels is on their recorded commitments
+abbrev AreDue : List Entry → Type 0
+AreDue history = AllByRecursion (λ h. AllByRecursion (λ r. AllByRecursion (IsOnRecorded h) r.claims) h.releases) (holdings_of history)
 
 -- ---- without what is asked
 
@@ -200,12 +182,12 @@ module _ (bases theirs : BaseKeys) (seed : List ℕ) (own : IsSeedOf seed bases)
   offered_until_zero r = let l : 0 < 0 = r.expiries 1 (peers_next before) refl ours (subst (λ (hs : List HtlcOutput). Contains hs ours) (sym offered_htlcs) (0, lit< tt, refl)) refl in omega (arith, l)
 
   -- all else that is asked holds of it
-  offered_otherwise : AllByRecursion (λ e. ReleasesDue offered e.call) offered × AreWhole offered × AllByRecursion (λ e. PaysOutputs e.call) offered × AllByRecursion IsOutPoint (fundings_of (replay offered))
-  offered_otherwise = ((tt, (tt, (tt, tt))), (tt, (tt, (tt, tt))), (tt, (tt, (tt, tt))), (record { txid = refl; index = lit< tt }, tt))
+  offered_otherwise : AreDue offered × AllByRecursion IsOutPoint (fundings_of (replay offered))
+  offered_otherwise = ((tt, tt), (record { txid = refl; index = lit< tt }, tt))
 
   -- no: IsCareful
   offered_carelessly : IsCareful tokens_of offered → ⊥
-  offered_carelessly c = let l : 0 < 0 = c.later.1.0 in omega (arith, l)
+  offered_carelessly c = let l : 0 < 0 = c.cares.1.0 in omega (arith, l)
 
   -- the node releases a claim on what no channel of its book has: a book takes that
   abbrev strayed : List Entry
@@ -216,8 +198,8 @@ module _ (bases theirs : BaseKeys) (seed : List ℕ) (own : IsSeedOf seed bases)
   strayed_accepted = refl
 
   -- all else that is asked holds of it, and the claim is an accepted one
-  strayed_otherwise : AllByRecursion (λ e. ExpiresLater e.call) strayed × AreWhole strayed × AllByRecursion (λ e. PaysOutputs e.call) strayed × AllByRecursion IsOutPoint (fundings_of (replay strayed))
-  strayed_otherwise = ((tt, (tt, tt)), (tt, ((stray_whole, tt), tt)), (tt, ((record { value = omega arith; script = omega arith }, tt), tt)), (record { txid = refl; index = lit< tt }, tt))
+  strayed_otherwise : AllByRecursion (λ e. TakesCare e.call) strayed × AreWhole strayed × AllByRecursion IsOutPoint (fundings_of (replay strayed))
+  strayed_otherwise = ((tt, ((record { value = omega arith; script = omega arith }, tt), tt)), (tt, ((stray_whole, tt), tt)), (record { txid = refl; index = lit< tt }, tt))
 
   abbrev with_stray : Holding
   with_stray = record { state = opened_state (first_terms bases theirs seed own (replicate 32 5)) A seed point_key (key 1); releases = release stray 900 ∷ []; closed = None }
@@ -229,6 +211,18 @@ module _ (bases theirs : BaseKeys) (seed : List ℕ) (own : IsSeedOf seed bases)
   released_astray : OwnersPlaces → PeersPlaces → RevokedPlaces → KeepsRules with_stray → ⊥
   released_astray owners peers revoked r = stray_is_on_none owners peers revoked with_stray r.releases.0.recorded.0
 
+  -- no: IsCareful
+  strayed_carelessly : OwnersPlaces → PeersPlaces → RevokedPlaces → IsCareful tokens_of strayed → ⊥
+  strayed_carelessly owners peers revoked c = stray_is_on_none owners peers revoked with_stray c.due.0.0.0
+
+  -- the node pays more than all bitcoins
+  abbrev lavish : List Entry
+  lavish = entry 3 (Open (first_opening bases theirs seed own (replicate 32 5))) ∷ entry 2 (Releasing 0 (batch stray 2100000000000001)) ∷ []
+
+  -- no: IsCareful
+  paid_carelessly : IsCareful tokens_of lavish → ⊥
+  paid_carelessly c = let l = c.cares.1.0.0.value in omega (arith, l)
+
   -- the funding output's id has 31 bytes
   abbrev short : List Entry
   short = entry 3 (Open (first_opening bases theirs seed own (replicate 31 5))) ∷ []
@@ -239,6 +233,13 @@ module _ (bases theirs : BaseKeys) (seed : List ℕ) (own : IsSeedOf seed bases)
   -- no: EachKeepsRules
   short_funding : EachKeepsRules (holdings_of short) → ⊥
   short_funding r = let e : 31 ≡ 32 = r.each.0.funding.txid in omega (arith, e)
+
+  -- no: IsCareful
+  short_carelessly : IsCareful tokens_of short → ⊥
+  short_carelessly c =
+      let first : IsOutPoint (record { txid = replicate 31 5; index = 7 }) = c.fundings.0 in
+      let e : 31 ≡ 32 = first.txid in
+      omega (arith, e)
 
 -- an output that is worth more than all bitcoins does not fit into its transaction
 -- no: IsRightful

@@ -37,7 +37,7 @@ use Rattle.book.specs.Accepted.{is_taken, are_accepted}
 use Rattle.book.proofs.Accepting.{asked_ok, unless_ok, passed, step_passes}
 use Rattle.book.proofs.KeptReleases.{all_changed, all_grown, all_at}
 use Rattle.book.proofs.KeptSets.{all_set, at_found}
-use Rattle.holdings.specs.Keeping.{ExpiresLater}
+use Rattle.holdings.specs.Keeping.{TakesCare}
 
 -- ---- what the node offered
 
@@ -73,7 +73,7 @@ offers_pushed (Fulfilling id preimage ∷ us) u h k = offers_pushed us u h k
 offers_pushed (Failing id ∷ us) u h k = offers_pushed us u h k
 offers_pushed (Fee feerate_per_kw ∷ us) u h k = offers_pushed us u h k
 
-made_later : (c : ℕ) (u : OwnUpdate) (s : State) → ExpiresLater (Stepping c (Own u)) → AllByRecursion IsLater (offers (update_of s u ∷ []))
+made_later : (c : ℕ) (u : OwnUpdate) (s : State) → TakesCare (Stepping c (Own u)) → AllByRecursion IsLater (offers (update_of s u ∷ []))
 made_later c (Offer amount_msat hash expiry_height) s h = (h, tt)
 made_later c (Fulfil id preimage) s h = tt
 made_later c (Fail id) s h = tt
@@ -85,7 +85,7 @@ pub record IsLate (ch : ChannelBook) : Type 0 where
   pub made : AllByRecursion IsLater (offers ch.state.held.own.known)
   pub signed : AllByRecursion (AreLater ch.state.held.side) ch.state.signed
 
-step_late : (c : ℕ) (step : Step) → ExpiresLater (Stepping c step) → (ch : ChannelBook) → IsLate ch → IsLate (with_state (stepped step) ch)
+step_late : (c : ℕ) (step : Step) → TakesCare (Stepping c step) → (ch : ChannelBook) → IsLate ch → IsLate (with_state (stepped step) ch)
 step_late c (Own u) h ch r = record { made = offers_pushed ch.state.held.own.known (update_of ch.state u) r.made (made_later c u ch.state h); signed = r.signed }
 step_late c (Peer (Updated u)) h ch r = record { made = r.made; signed = r.signed }
 step_late c (Peer (CommitmentSigned tokens)) h ch r = record { made = r.made; signed = r.signed }
@@ -96,7 +96,7 @@ sign_late ch r = record {
   signed = all_grown (AreLater ch.state.held.side) (peers_next ch.state) ch.state.signed r.signed (view_later ch.state.held.terms ch.state.held.side ch.state.held.own.known ch.state.held.theirs.past_receiver r.made);
 }
 
-call_late : (call : Call) (chs : Channels) → ExpiresLater call → AllByRecursion IsLate chs → AllByRecursion IsLate (channels_after call chs)
+call_late : (call : Call) (chs : Channels) → TakesCare call → AllByRecursion IsLate chs → AllByRecursion IsLate (channels_after call chs)
 call_late (Open o) chs l h = all_grown IsLate (opened_by o) chs h (record { made = tt; signed = (none_later o.terms o.side, tt) })
 call_late (Stepping c step) chs l h = all_changed IsLate (with_state (stepped step)) (step_late c step l) c chs h
 call_late (Sign c) chs l h = all_changed IsLate (with_state after_sign) sign_late c chs h
@@ -105,7 +105,7 @@ call_late (Keep c n claims) chs l h = all_changed IsLate (with_kept n) (λ ch r.
 call_late (Release c batch) chs l h = h
 call_late (Close c) chs l h = all_changed IsLate with_closed (λ ch r. record { made = r.made; signed = r.signed }) c chs h
 
-pub all_late : (es : List Entry) → AllByRecursion (λ e. ExpiresLater e.call) es → AllByRecursion IsLate (replayed es)
+pub all_late : (es : List Entry) → AllByRecursion (λ e. TakesCare e.call) es → AllByRecursion IsLate (replayed es)
 all_late [] l = tt
 all_late (e ∷ es) l = call_late e.call (replayed es) l.0 (all_late es l.1)
 

@@ -18,9 +18,9 @@ use Rattle.book.specs.declared.calls.Call.TheVariants.{Open, Step as Stepping, S
 use Rattle.book.specs.declared.calls.Entry.{Entry}
 use Rattle.book.specs.Penalties.{is_penalty_set}
 use Rattle.book.specs.Signers.{fill_refusal}
-use Rattle.book.specs.Accepted.{all_accepted, IsHistory, AcceptedMeans}
+use Rattle.book.specs.Accepted.{all_accepted, AreWhole, IsHistory, AcceptedMeans}
 use Rattle.holdings.specs.Holdings.{releases_in, holdings_of}
-use Rattle.holdings.specs.Keeping.{kept, IsCareful, BooksKeepRules}
+use Rattle.holdings.specs.Keeping.{IsCareful, BooksKeepRules, KeptAreRecorded}
 use Rattle.holdings.proofs.Samples.{entry, hash, htlc, pays, batch, release, first_terms, second_terms, first_opening, second_opening}
 
 -- what is released stays in its channel, in order
@@ -72,10 +72,8 @@ module _ (bases theirs : BaseKeys) (seed : List ℕ) (own : IsSeedOf seed bases)
   pub careful : AcceptedMeans → IsCareful tokens_of history
   careful law = record {
     called = called law;
-    due = (tt, (tt, (tt, (tt, (tt, (tt, (tt, tt)))))));
-    later = (tt, (tt, (lit< tt, (tt, (tt, (tt, (tt, tt)))))));
-    whole = (tt, (tt, (tt, (tt, (tt, (tt, (tt, tt)))))));
-    outputs = (tt, (tt, (tt, (tt, (tt, (tt, (tt, tt)))))));
+    cares = (tt, (tt, (lit< tt, (tt, (tt, (tt, (tt, tt)))))));
+    due = (tt, (tt, tt));
     fundings = (record { txid = refl; index = lit< tt }, (record { txid = refl; index = lit< tt }, tt));
   }
 
@@ -83,7 +81,7 @@ module _ (bases theirs : BaseKeys) (seed : List ℕ) (own : IsSeedOf seed bases)
   keep_rules : AcceptedMeans → BooksKeepRules → EachKeepsRules (first ∷ second ∷ [])
   keep_rules law keeps = keeps tokens_of history (careful law)
 
-  -- a penalty that was kept is released, and nothing more is asked of it
+  -- a penalty that was kept is released: by `KeptAreRecorded` it is on a recorded commitment
   module _ (x : ClaimParts) (whole : IsWhole x) (is_set : is_penalty_set first_state 0 (x ∷ []) ≡ true) (fills : fill_refusal (x ∷ []) (pays 900) (rights_of first_state) [] ≡ None) where
     abbrev with_release : List Entry
     with_release =
@@ -102,16 +100,20 @@ module _ (bases theirs : BaseKeys) (seed : List ℕ) (own : IsSeedOf seed bases)
     unfolding is_foreign
     released_accepted = rw (point_is, is_set, fills) refl
 
+    release_called : AcceptedMeans → IsHistory tokens_of with_release
+    release_called law = (law.accepted_exactly tokens_of with_release).1 released_accepted
+
+    all_whole : AreWhole with_release
+    all_whole = (tt, (tt, (tt, (tt, ((whole, tt), ((whole, tt), tt))))))
+
     -- yes: IsCareful
-    careful_release : AcceptedMeans → IsCareful tokens_of with_release
-    careful_release law = record {
-      called = (law.accepted_exactly tokens_of with_release).1 released_accepted;
-      due = (tt, (tt, (tt, (tt, (tt, ((kept (record { seat = 1; number = 0; set = x ∷ []; kept = (4, lit< tt, refl); within = (0, lit< tt, refl) }), tt), tt))))));
-      later = (tt, (lit< tt, (tt, (tt, (tt, (tt, tt))))));
-      whole = (tt, (tt, (tt, (tt, ((whole, tt), ((whole, tt), tt))))));
-      outputs = (tt, (tt, (tt, (tt, (tt, ((record { value = omega arith; script = omega arith }, tt), tt))))));
+    careful_release : AcceptedMeans → KeptAreRecorded → IsCareful tokens_of with_release
+    careful_release law recorded = record {
+      called = release_called law;
+      cares = (tt, (lit< tt, (tt, (tt, (tt, ((record { value = omega arith; script = omega arith }, tt), tt))))));
+      due = (((recorded tokens_of with_release 0 _ x (release_called law) all_whole refl (record { seat = 1; number = 0; set = x ∷ []; kept = (4, lit< tt, refl); within = (0, lit< tt, refl) }), tt), tt), tt);
       fundings = (record { txid = refl; index = lit< tt }, tt);
     }
 
-    keep_rules_too : AcceptedMeans → BooksKeepRules → EachKeepsRules (record { state = first_state; releases = release x 900 ∷ []; closed = None } ∷ [])
-    keep_rules_too law keeps = keeps tokens_of with_release (careful_release law)
+    keep_rules_too : AcceptedMeans → KeptAreRecorded → BooksKeepRules → EachKeepsRules (record { state = first_state; releases = release x 900 ∷ []; closed = None } ∷ [])
+    keep_rules_too law recorded keeps = keeps tokens_of with_release (careful_release law recorded)

@@ -20,14 +20,14 @@ use Rattle.book.specs.Closing.{ClosedStaysNewest}
 use Rattle.book.specs.Guarding.{KeptAreExact}
 use Rattle.book.proofs.KeptReleases.{all_at}
 use Rattle.holdings.specs.Holdings.{holding_of, holdings_of}
-use Rattle.holdings.specs.Keeping.{ExpiresLater, IsCareful, BooksKeepRules, ClaimablesAreRecorded, BooksStand}
+use Rattle.holdings.specs.Keeping.{TakesCare, IsCareful, BooksKeepRules, ClaimablesAreRecorded, KeptAreRecorded, BooksStand}
 use Rattle.holdings.proofs.Lists.{within, all_reversed, of_each}
 use Rattle.holdings.proofs.Limited.{IsLimited, limited}
 use Rattle.holdings.proofs.Channels.{AreLater, IsLate, all_late, Lives, all_live}
 use Rattle.holdings.proofs.Apart.{funding_of, all_apart}
 use Rattle.holdings.proofs.Expiries.{expires_later}
 use Rattle.holdings.proofs.Complete.{at_holding, all_held, each_has_holding}
-use Rattle.holdings.proofs.Released.{Laws, IsSure, on_claimable, all_rightful}
+use Rattle.holdings.proofs.Released.{Laws, IsSure, IsDue, on_claimable, on_kept, all_rightful}
 
 -- ---- the rules
 
@@ -60,6 +60,10 @@ sure_at laws tokens_of history called c ch there =
 pub claimables_are_recorded : AllLaws → ClaimablesAreRecorded
 claimables_are_recorded laws tokens_of history c n ch outputs x called there lets i = on_claimable (holding_of history c ch) (sure_at laws tokens_of history called c ch there) n outputs x lets i
 
+pub kept_are_recorded : AllLaws → KeptAreRecorded
+kept_are_recorded laws tokens_of history c ch x called whole there k =
+    on_kept laws.releases tokens_of history c ch x ((laws.accepted.accepted_exactly tokens_of history).0 called) whole there (sure_at laws tokens_of history called c ch there) k
+
 funding_at : (chs : Channels) (c : ℕ) (ch : ChannelBook) → AllByRecursion IsOutPoint (fundings_of chs) → slice_get chs c ≡ Some ch → IsOutPoint ch.state.held.terms.funding
 funding_at [] c ch h e = absurd (none-some ch e)
 funding_at (x ∷ chs) zero ch h e = subst (λ (y : ChannelBook). IsOutPoint y.state.held.terms.funding) (same_Some x ch e) h.0
@@ -73,15 +77,16 @@ module _ (laws : AllLaws) (tokens_of : Signing) (history : List Entry) (careful 
   keeps_rules c ch there =
       let sure : IsSure ch.state = sure_at laws tokens_of history careful.called c ch there in
       let funding = funding_at (replay history) c ch careful.fundings there in
-      let late : IsLate ch = all_at IsLate (replay history) c ch (all_late (reverse history) (all_reversed (λ (e : Entry). ExpiresLater e.call) history careful.later)) there in
+      let late : IsLate ch = all_at IsLate (replay history) c ch (all_late (reverse history) (all_reversed (λ (e : Entry). TakesCare e.call) history careful.cares)) there in
       let here = each_has_holding history c ch there in
+      let due = of_each (λ (h : Holding). AllByRecursion (IsDue h) h.releases) (holdings_of history) (holding_of history c ch) careful.due (contained (holdings_of history) c (holding_of history c ch) here) in
       record {
         funding = funding;
         numbered = sure.numbered;
         number = sure.limited.own;
         peer_number = sure.limited.peers;
         revealed = revealed (holding_of history c ch) sure.limited;
-        releases = all_rightful laws.releases tokens_of history accepted careful.whole c ch there here funding sure history careful.outputs careful.due careful.whole;
+        releases = all_rightful laws.releases history c ch funding sure history careful.cares due;
         newest = λ m e. laws.closes tokens_of history c m ch accepted there e;
         expiries = λ m k at x i received.
             expires_later ch.state.held.terms ch.state.held.side k (sure.numbered.signed.each m k at).owner (of_each (AreLater ch.state.held.side) ch.state.signed k late.signed (contained ch.state.signed m k at)) x i received;

@@ -2,14 +2,13 @@
 use Rattle.std.proofs.Common.{◌≡◌, ℕ, ◌+◌, ◌^◌, ◌<◌, ◌≤◌, ◌==◌, if◌then◌else◌, Bool, true, false, List, [], ◌∷◌, length, Option, Some, None, refl, sym, ap, ◌∙◌, subst, ⊎_elim, arith}
 use Rattle.std.specs.Prelude.{slice_get}
 use Rattle.std.specs.List.{AllByRecursion, Contains, cons_option}
-use Rattle.std.proofs.lemmas.Bool.{eqb-true}
 use Rattle.std.proofs.lemmas.Option.{same_Some, none-some, slice_get_within}
 use Rattle.tx.specs.Parts.{IsOutput}
 use Rattle.keys.specs.Derivation.{point_of}
 use Rattle.terms.specs.declared.sides.Side.{Side}
 use Rattle.terms.specs.Sides.{other}
 use Rattle.claim.specs.Opcodes.{◌>>=◌}
-use Rattle.claim.specs.Claims.{ClaimParts, IsWhole}
+use Rattle.claim.specs.Claims.{ClaimParts}
 use Rattle.commit.specs.Commitments.{commitment_of}
 use Rattle.penalty.specs.Claimable.{Claimable, claims_from}
 use Rattle.penalty.specs.Sets.{claimed_by, AreClaimsOn}
@@ -18,7 +17,7 @@ use Rattle.channel.specs.declared.commitments.CommitmentState.{CommitmentState}
 use Rattle.channel.specs.Recording.{AreByNumber}
 use Rattle.channel.specs.States.{Signing, State}
 use Rattle.channel.specs.Tokens.{contents_of}
-use Rattle.safety.specs.Holdings.{claim_signed, Holding, terms_in, IsOnRecorded, on_own, on_peers, on_revoked, IsRightful}
+use Rattle.safety.specs.Holdings.{Release, claim_signed, Holding, terms_in, IsOnRecorded, on_own, on_peers, on_revoked, IsRightful}
 use Rattle.safety.specs.Places.{OwnersPlaces, PeersPlaces, RevokedPlaces}
 use Rattle.safety.specs.Recorded.{IsOutPoint, IsPayable, RecordedLimits}
 use Rattle.safety.specs.Signing.{IsSignable}
@@ -31,11 +30,12 @@ use Rattle.book.specs.declared.calls.Call.TheVariants.{Open, Step as Stepping, S
 use Rattle.book.specs.declared.calls.Entry.{Entry}
 use Rattle.book.specs.Penalties.{revoked_contents, claimable_in, claimable_at}
 use Rattle.book.specs.Books.{ChannelBook, replay}
-use Rattle.book.specs.Accepted.{all_accepted, claims_by, AreWhole}
+use Rattle.book.specs.Accepted.{all_accepted, AreWhole}
 use Rattle.book.specs.Guarding.{claimable_by, KeptAreExact}
-use Rattle.holdings.specs.Holdings.{release_by, releases_in, holding_of, holdings_of}
-use Rattle.holdings.specs.Keeping.{MayRelease, kept, recorded, ReleasesDue, PaysOutputs}
-use Rattle.holdings.proofs.Lists.{all_from, all_both}
+use Rattle.book.specs.Releasing.{IsKeptIn}
+use Rattle.holdings.specs.Holdings.{release_by, releases_in, holding_of}
+use Rattle.holdings.specs.Keeping.{TakesCare}
+use Rattle.holdings.proofs.Lists.{all_from}
 use Rattle.holdings.proofs.Limited.{IsLimited}
 use Rattle.holdings.proofs.Fields.{IsFit, owners_fit, peers_fit, revoked_fit, input_of, transaction_keeps}
 
@@ -113,46 +113,49 @@ on_claimable h sure n os x e i = by (slice_get h.state.signed n) (slice_get h.st
         on_revoked n k a
         (subst (λ (ps : List Claimable). Contains ps (claimed_by x)) (sym (same_Some (claimable_in (revoked_contents h.state k secret)) os e) ∙ same_claims h.state k secret owner point) i)
 
-module _ (laws : Laws) (tokens_of : Signing) (history : List Entry) (accepted : all_accepted tokens_of history ≡ true) (whole : AreWhole history) (c : ℕ) (ch : ChannelBook) (there : slice_get (replay history) c ≡ Some ch)
-    (same : slice_get (holdings_of history) c ≡ Some (holding_of history c ch)) (funding : IsOutPoint ch.state.held.terms.funding) (sure : IsSure ch.state) where
+-- so is a claim of a set that the channel keeps
+pub on_kept : Laws → (tokens_of : Signing) (history : List Entry) (c : ℕ) (ch : ChannelBook) (x : ClaimParts) → all_accepted tokens_of history ≡ true → AreWhole history → slice_get (replay history) c ≡ Some ch
+    → IsSure ch.state → IsKeptIn c history x → IsOnRecorded (holding_of history c ch) x
+on_kept laws tokens_of history c ch x accepted whole there sure k =
+    let p = laws.kept tokens_of history k.seat c k.number k.set accepted whole k.kept in
+    on_claimable (holding_of history c ch) sure k.number p.outputs x (ap (λ (o : Option ChannelBook). claimable_by o k.number) (sym there) ∙ p.lets) (on_one p.outputs k.set x p.exact k.within)
+
+-- ---- releases
+
+-- each claim of a release is on what a recorded commitment gives
+abbrev pub IsDue : Holding → Release → Type 0
+IsDue h r = AllByRecursion (IsOnRecorded h) r.claims
+
+module _ (laws : Laws) (history : List Entry) (c : ℕ) (ch : ChannelBook) (funding : IsOutPoint ch.state.held.terms.funding) (sure : IsSure ch.state) where
   abbrev it : Holding
   it = holding_of history c ch
 
-  is_recorded : (x : ClaimParts) → MayRelease history c x → IsOnRecorded it x
-  is_recorded x (kept k) =
-      let entry : Entry = record { seat = k.seat; call = Keep c k.number k.set } in
-      let p = laws.kept tokens_of history k.seat c k.number k.set accepted whole k.kept in
-      on_claimable it sure k.number p.outputs x (ap (λ (o : Option ChannelBook). claimable_by o k.number) (sym there) ∙ p.lets) (on_one p.outputs k.set x p.exact k.within)
-  is_recorded x (recorded h at on) = subst (λ (g : Holding). IsOnRecorded g x) (same_Some h it (sym at ∙ same)) on
-
-  rightful : (batch : Batch) → AllByRecursion IsOutput batch.outputs → AllByRecursion (MayRelease history c) batch.claims → AllByRecursion IsWhole batch.claims
-      → IsRightful it (record { claims = batch.claims; outputs = batch.outputs })
-  rightful batch outputs may whole_claims =
-      let on = all_from (MayRelease history c) (IsOnRecorded it) is_recorded batch.claims may in
+  rightful : (batch : Batch) → AllByRecursion IsOutput batch.outputs → AllByRecursion (IsOnRecorded it) batch.claims → IsRightful it (record { claims = batch.claims; outputs = batch.outputs })
+  rightful batch outputs on =
       let fit = all_from (IsOnRecorded it) (λ (x : ClaimParts). IsFit (claimed_by x)) (fits laws it funding sure) batch.claims on in
       let keeps = transaction_keeps batch.claims batch.outputs batch.some batch.inputs batch.given fit outputs in
       record {
         recorded = on;
-        signable = all_both (λ (x : ClaimParts). IsFit (claimed_by x)) IsWhole (λ (x : ClaimParts). IsSignable (claim_signed (record { claims = batch.claims; outputs = batch.outputs }) x))
-            (λ x f w. let short = w.short in let low = f.placed.value in record { transaction = keeps; input = input_of x f; code = omega (arith, short); value = omega (arith, low) }) batch.claims fit whole_claims;
+        signable = all_from (λ (x : ClaimParts). IsFit (claimed_by x)) (λ (x : ClaimParts). IsSignable (claim_signed (record { claims = batch.claims; outputs = batch.outputs }) x))
+            (λ x f. let short = f.code in let low = f.placed.value in record { transaction = keeps; input = input_of x f; code = omega (arith, short); value = omega (arith, low) }) batch.claims fit;
       }
 
   -- all that entries release in the channel
-  pub all_rightful : (es : List Entry) → AllByRecursion (λ e. PaysOutputs e.call) es → AllByRecursion (λ e. ReleasesDue history e.call) es → AllByRecursion (λ e. AllByRecursion IsWhole (claims_by e.call)) es
-      → AllByRecursion (IsRightful it) (releases_in c es)
-  all_rightful [] f d w = tt
-  all_rightful (e ∷ es) f d w = by e.call f.0 d.0 w.0 (all_rightful es f.1 d.1 w.1)
+  pub all_rightful : (es : List Entry) → AllByRecursion (λ e. TakesCare e.call) es → AllByRecursion (IsDue it) (releases_in c es) → AllByRecursion (IsRightful it) (releases_in c es)
+  all_rightful [] f d = tt
+  all_rightful (e ∷ es) f d = by e.call f.0 d (λ rest. all_rightful es f.1 rest)
     where
-      by : (call : Call) → PaysOutputs call → ReleasesDue history call → AllByRecursion IsWhole (claims_by call) → AllByRecursion (IsRightful it) (releases_in c es)
+      by : (call : Call) → TakesCare call → AllByRecursion (IsDue it) (cons_option (release_by c call) (releases_in c es)) → (AllByRecursion (IsDue it) (releases_in c es) → AllByRecursion (IsRightful it) (releases_in c es))
           → AllByRecursion (IsRightful it) (cons_option (release_by c call) (releases_in c es))
-      by (Open o) g due ws rest = rest
-      by (Stepping d step) g due ws rest = rest
-      by (Sign d) g due ws rest = rest
-      by (Revoke d revocation) g due ws rest = rest
-      by (Keep d n claims) g due ws rest = rest
-      by (Close d) g due ws rest = rest
-      by (Releasing d batch) g due ws rest = here (d == c) refl
+      by (Open o) g due others = others due
+      by (Stepping d step) g due others = others due
+      by (Sign d) g due others = others due
+      by (Revoke d revocation) g due others = others due
+      by (Keep d n claims) g due others = others due
+      by (Close d) g due others = others due
+      by (Releasing d batch) g due others = here (d == c) due
         where
-          here : (b : Bool) → (d == c) ≡ b → AllByRecursion (IsRightful it) (cons_option (if b then Some (record { claims = batch.claims; outputs = batch.outputs }) else None) (releases_in c es))
-          here true e = (rightful batch g (subst (λ (n : ℕ). AllByRecursion (MayRelease history n) batch.claims) (eqb-true d c e) due) ws, rest)
-          here false e = rest
+          here : (b : Bool) → AllByRecursion (IsDue it) (cons_option (if b then Some (record { claims = batch.claims; outputs = batch.outputs }) else None) (releases_in c es))
+              → AllByRecursion (IsRightful it) (cons_option (if b then Some (record { claims = batch.claims; outputs = batch.outputs }) else None) (releases_in c es))
+          here true due = (rightful batch g due.0, others due.1)
+          here false due = others due

@@ -26,34 +26,18 @@ use Rattle.holdings.specs.Holdings.{holding_of, holdings_of}
 
 -- ---- what is asked
 
--- a claim may be released in a channel: it is of a penalty set that the channel keeps, or on what a recorded commitment there gives the node
-pub data MayRelease (history : List Entry) (c : ℕ) (x : ClaimParts) : Type 0 where
-  kept : IsKeptIn c history x → MayRelease history c x
-  recorded : (h : Holding) → slice_get (holdings_of history) c ≡ Some h → IsOnRecorded h x → MayRelease history c x
+-- a call takes care: an HTLC that it offers expires above 0, and the outputs that it pays keep the limits of an output, as their type ensures
+abbrev pub TakesCare : Call → Type 0
+TakesCare (Stepping c (Own (Offer amount_msat hash expiry_height))) = 0 < expiry_height
+TakesCare (Releasing c batch) = AllByRecursion IsOutput batch.outputs
+TakesCare call = Unit {0}
 
--- what a call releases are such claims
-abbrev pub ReleasesDue : List Entry → Call → Type 0
-ReleasesDue history (Releasing c batch) = AllByRecursion (MayRelease history c) batch.claims
-ReleasesDue history call = Unit {0}
-
--- an HTLC that a call offers expires above 0
-abbrev pub ExpiresLater : Call → Type 0
-ExpiresLater (Stepping c (Own (Offer amount_msat hash expiry_height))) = 0 < expiry_height
-ExpiresLater call = Unit {0}
-
--- the outputs that a call pays keep the limits of an output
-abbrev pub PaysOutputs : Call → Type 0
-PaysOutputs (Releasing c batch) = AllByRecursion IsOutput batch.outputs
-PaysOutputs call = Unit {0}
-
--- A history of calls, whatever the peers sent, in which the node took care of its releases and offers. Of values it says what their types say: claims are accepted ones, outputs keep the limits of an output, and the
--- funding outputs have ids of 32 bytes and indices of 32 bits
+-- A history of calls, whatever the peers sent, in which the node took care. Each claim that it released in a channel is on what a recorded commitment of the channel gives it. The funding outputs have ids of 32 bytes
+-- and indices of 32 bits, as their types ensure
 pub record IsCareful (tokens_of : Signing) (history : List Entry) : Type 0 where
   pub called : IsHistory tokens_of history
-  pub due : AllByRecursion (λ e. ReleasesDue history e.call) history
-  pub later : AllByRecursion (λ e. ExpiresLater e.call) history
-  pub whole : AreWhole history
-  pub outputs : AllByRecursion (λ e. PaysOutputs e.call) history
+  pub cares : AllByRecursion (λ e. TakesCare e.call) history
+  pub due : AllByRecursion (λ h. AllByRecursion (λ r. AllByRecursion (IsOnRecorded h) r.claims) h.releases) (holdings_of history)
   pub fundings : AllByRecursion IsOutPoint (fundings_of (replay history))
 
 -- ---- what holds
@@ -67,6 +51,12 @@ abbrev pub ClaimablesAreRecorded : Type 0
 ClaimablesAreRecorded =
     (tokens_of : Signing) (history : List Entry) (c n : ℕ) (ch : ChannelBook) (outputs : List Claimable) (x : ClaimParts) → IsHistory tokens_of history → slice_get (replay history) c ≡ Some ch
     → claimable_at ch.state n ≡ Some outputs → Contains outputs (claimed_by x) → IsOnRecorded (holding_of history c ch) x
+
+-- so is each claim of a penalty set that the channel keeps
+abbrev pub KeptAreRecorded : Type 0
+KeptAreRecorded =
+    (tokens_of : Signing) (history : List Entry) (c : ℕ) (ch : ChannelBook) (x : ClaimParts) → IsHistory tokens_of history → AreWhole history → slice_get (replay history) c ≡ Some ch
+    → IsKeptIn c history x → IsOnRecorded (holding_of history c ch) x
 
 -- so each stands on a chain as `safety` says of one node against everybody
 abbrev pub BooksStand : Type 0

@@ -1,7 +1,7 @@
 //! Laws over the definitions alone.
 
 ghost use Rattle.holdings.specs.Holdings.{HoldingsAreComplete};
-ghost use Rattle.holdings.specs.Keeping.{BooksKeepRules, ClaimablesAreRecorded, BooksStand};
+ghost use Rattle.holdings.specs.Keeping.{BooksKeepRules, ClaimablesAreRecorded, KeptAreRecorded, BooksStand};
 
 use book::laws::{accepted_is_called, kept_are_exact, what_is_closed_stays_closed};
 use channel::laws::sides_are_sound;
@@ -12,12 +12,13 @@ pub fn holdings_are_complete()
     ensures { HoldingsAreComplete }
 {}
 
-/// Each channel of a book keeps the rules, over every history of its calls, whatever the peers send. What is asked of the history: each claim that it releases in a channel is one of a penalty set that is kept
-/// there, or is on what a recorded commitment of the channel gives the node; each HTLC that it offers expires above 0; and values are of their types. What a revoked commitment lets the node claim is on such a
-/// commitment.
+/// Each channel of a book keeps the rules, over every history of its calls, whatever the peers send. What is asked of the history: each claim that it releases in a channel is on what a recorded commitment of the
+/// channel gives the node; each HTLC that it offers expires above 0; and values are of their types. What a revoked commitment lets the node claim is on such a commitment, and so is each claim of a penalty set
+/// that the channel keeps.
 pub fn books_keep_rules()
     ensures rules { BooksKeepRules }
     ensures revoked { ClaimablesAreRecorded }
+    ensures kept { KeptAreRecorded }
 {
     accepted_is_called();
     sides_are_sound();

@@ -1,3 +1,4 @@
+pub mod DueClaims
 pub mod Slots
 pub mod Lists
 pub mod Satisfied

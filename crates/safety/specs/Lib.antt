@@ -1,3 +1,4 @@
+pub mod Enforcement
 pub mod Satisfying
 pub mod Signing
 pub mod Ways

@@ -3,6 +3,7 @@
 ghost use Rattle.std.specs.Prelude.{ℕ, List};
 ghost use Rattle.chain.specs.Blocks.{Contents as Block};
 ghost use Rattle.penalty.specs.declared.states.RevokedState.{RevokedState as State};
+ghost use Rattle.safety.specs.Enforcement.{ClaimsSpend, LocksAreHeights};
 ghost use Rattle.safety.specs.Satisfying.{FundingSatisfied, ToLocalSatisfied, KeyHashSatisfied, OfferedSatisfied, ReceivedSatisfied};
 ghost use Rattle.safety.specs.Signing.{OneDigest, OneToken};
 ghost use Rattle.safety.specs.Spending.{WhoCanSpend, WhoSpends};
@@ -25,7 +26,19 @@ ghost use Rattle.safety.specs.Resolutions.{RevokedAreResolved, PeersAreResolved}
 ghost use Rattle.safety.specs.Everybody.{EachChannelStands, RevokedAgainstEverybody};
 ghost use Rattle.safety.specs.Takers.{OwnersTake, HtlcTransactionsTake, SidesAreApart, ChannelsAreApart, OutputsAreNoGrants, CommitmentsSpendFundings, HtlcTransactionsSpendOutputs};
 
+use claim::laws::accepted_claims_spend;
 use publish::laws::commitments_spend;
+
+/// The first half of the Enforcement theorem, at any moment of any chain. An input that fits an accepted claim passes the chain's test and runs clean. The premises: the output that
+/// it spends is unspent, with the value and program of the claim's place, and the transaction's lock time and the claim's age are reached. They are reached exactly if the block is
+/// above the lock time, and above the output's block by at least the age.
+pub fn claims_spend()
+    ensures spends { ClaimsSpend }
+    ensures locks { LocksAreHeights }
+{
+    // By this law the proof knows what holds for each claim, without a chain.
+    accepted_claims_spend();
+}
 
 /// Whatever runs clean on the funding script has the tokens of both keys.
 pub fn who_satisfies_a_funding()

@@ -30,7 +30,7 @@ use Rattle.book.specs.declared.calls.Batch.{Batch}
 use Rattle.book.specs.declared.calls.Call.TheVariants.{Release}
 use Rattle.book.specs.declared.calls.Entry.{Entry}
 use Rattle.book.specs.Calling.{filling_by}
-use Rattle.world.specs.Enforcement.{IsDue, IsTime}
+use Rattle.safety.specs.Enforcement.{IsDue, IsTime}
 use Rattle.world.specs.Releasing.{IsFillingIn, AreFillings}
 
 -- a push of a key, and CHECKSIG, with its one path; the hash of its bytes was computed elsewhere

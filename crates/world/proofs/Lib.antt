@@ -2,7 +2,6 @@ mod Turns
 mod Calls
 mod Begun
 mod Ends
-pub mod DueClaims
 pub mod EnforcementExamples
 pub mod StepExamples
 pub mod Whole

@@ -24,7 +24,7 @@ use Rattle.world.specs.Worlds.{World, Line, Node, IsNode, node_of, channel_of, i
 use Rattle.side.specs.Acts.{call_of}
 use Rattle.world.specs.Refusing.{refusal_in, oldest_of, oldest_in, delivery_refusal}
 use Rattle.world.specs.Pairing.{IsShutOut, DeliveriesAreTaken}
-use Rattle.world.specs.Enforcement.{ClaimsSpend}
+use Rattle.safety.specs.Enforcement.{ClaimsSpend}
 use Rattle.world.specs.Theorem.{ShutsOut, IsWorld, WorldsHold}
 use Rattle.world.proofs.Ends.{ends_at, as_many}
 use Rattle.world.proofs.Whole.{are_whole}

@@ -1,7 +1,6 @@
 pub mod Theorem
 pub mod Sources
 pub mod Steps
-pub mod Enforcement
 pub mod Worlds
 pub mod Refusing
 pub mod Releasing

@@ -39,7 +39,7 @@ use Rattle.world.specs.Pairing.{AgreeBy, AreEnds, IsShutOut}
 use Rattle.world.specs.Releasing.{AreFillings}
 use Rattle.world.specs.Sources.{IsSide, IsFrom, transactions_in}
 use Rattle.world.specs.Taken.{OutputsAreTaken}
-use Rattle.world.specs.Enforcement.{IsDue, Passes}
+use Rattle.safety.specs.Enforcement.{IsDue, Passes}
 use Rattle.world.specs.Steps.{receipt_refusal, refusal_of, WorldSteps, Runs}
 
 -- the claims of a side: those that its book kept and released, its jobs, and the claims that it took

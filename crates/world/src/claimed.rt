@@ -5,11 +5,11 @@ ghost use Rattle.tx.specs.declared.input.TxIn.{TxIn};
 ghost use Rattle.chain.specs.declared.errors.ChainError.TheVariants.{NoMemory};
 ghost use Rattle.chain.specs.Refusals.{Answers};
 ghost use Rattle.chain.specs.Checks.{indexed_refusal};
-ghost use Rattle.world.specs.Enforcement.{IsDue};
+ghost use Rattle.safety.specs.Enforcement.{IsDue};
 
-use crate::laws::claims_spend;
 use chain::{ChainError, Coins};
 use claim::Claim;
+use safety::laws::claims_spend;
 use tx::Tx;
 
 /// Tests an input of a transaction for the next block, as `check_input` does. If

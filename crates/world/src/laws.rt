@@ -1,6 +1,5 @@
 //! The Enforcement theorem, as laws over the definitions alone.
 
-ghost use Rattle.world.specs.Enforcement.{ClaimsSpend, LocksAreHeights};
 ghost use Rattle.world.specs.Agreeing.{FundingsAreSpent, OpeningsArePaired, OpeningsAreTaken};
 ghost use Rattle.world.specs.Pairing.{DeliveriesAreTaken};
 ghost use Rattle.world.specs.Theorem.{StepsKeep, WorldsHold};
@@ -10,22 +9,10 @@ use book::laws::{
     what_is_closed_stays_closed,
 };
 use channel::laws::{peers_agree, sides_are_sound};
-use claim::laws::accepted_claims_spend;
 use safety::laws::{
-    delayed_claims_wait, due_places, inputs_have_passed, nothing_escapes, taken,
+    claims_spend, delayed_claims_wait, due_places, inputs_have_passed, nothing_escapes, taken,
     what_commitments_spend, what_is_recorded, who_takes,
 };
-
-/// The first half of the Enforcement theorem, at any moment of any chain. An input that fits an accepted claim passes the chain's test and runs clean. The premises: the output that
-/// it spends is unspent, with the value and program of the claim's place, and the transaction's lock time and the claim's age are reached. They are reached exactly if the block is
-/// above the lock time, and above the output's block by at least the age.
-pub fn claims_spend()
-    ensures spends { ClaimsSpend }
-    ensures locks { LocksAreHeights }
-{
-    // By this law the proof knows what holds for each claim, without a chain.
-    accepted_claims_spend();
-}
 
 /// The books of two honest sides agree. Let each channel of one side, the same channel of the other, and the messages between them be what steps of two honest peers make of a new
 /// channel. Then each side takes the oldest message on its way to it, except a signature in a channel that it closed. So no delivery is refused for what is in its message.

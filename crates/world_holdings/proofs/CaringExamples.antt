@@ -20,7 +20,7 @@ use Rattle.book.specs.declared.calls.Entry.{Entry}
 use Rattle.book.specs.Books.{ChannelBook}
 use Rattle.book.specs.Accepted.{IsHistory}
 use Rattle.holdings.specs.Holdings.{holdings_of}
-use Rattle.holdings.specs.Keeping.{ExpiresLater, PaysOutputs}
+use Rattle.holdings.specs.Keeping.{TakesCare}
 use Rattle.side.specs.declared.due.DueClaim.{DueClaim}
 use Rattle.world.specs.Worlds.{Line, Node, IsNode}
 use Rattle.world.specs.Sources.{IsDueOf, of_own, of_peers, of_revoked, IsDueIn, IsSide}
@@ -80,7 +80,7 @@ line_of_no_channel line n = let e = n.lines in omega (arith, e)
 
 -- ---- what is asked of it
 
-module _ (n : Node) (o : Opening) (x : ClaimParts) (called : IsHistory peer_tokens n.history) (whole : IsNode n) (side : IsSide n) where
+module _ (n : Node) (o : Opening) (x : ClaimParts) (called : IsHistory peer_tokens n.history) (side : IsSide n) where
   -- the side opens a channel, offers an HTLC that expires at 1, and releases a claim for all bitcoins
   abbrev least : List Entry
   least = entry (Open o) ∷ entry (Stepping 0 (Own (Offer 1000 (replicate 32 9) 1))) ∷ entry (Releasing 0 (batch x 2100000000000000)) ∷ []
@@ -89,10 +89,8 @@ module _ (n : Node) (o : Opening) (x : ClaimParts) (called : IsHistory peer_toke
   just : n.history ≡ least → IsCaring n
   just e = record {
     called = called;
-    whole = whole;
     side = side;
-    later = subst (AllByRecursion (λ (e : Entry). ExpiresLater e.call)) (sym e) (tt, (lit< tt, (tt, tt)));
-    outputs = subst (AllByRecursion (λ (e : Entry). PaysOutputs e.call)) (sym e) (tt, (tt, ((record { value = omega arith; script = omega arith }, tt), tt)));
+    cares = subst (AllByRecursion (λ (e : Entry). TakesCare e.call)) (sym e) (tt, (lit< tt, ((record { value = omega arith; script = omega arith }, tt), tt)));
   }
 
   -- so it keeps the rules
@@ -101,8 +99,8 @@ module _ (n : Node) (o : Opening) (x : ClaimParts) (called : IsHistory peer_toke
 
   -- no: IsCaring
   until_zero : n.history ≡ entry (Open o) ∷ entry (Stepping 0 (Own (Offer 1000 (replicate 32 9) 0))) ∷ [] → IsCaring n → ⊥
-  until_zero e c = let late = (subst (AllByRecursion (λ (e : Entry). ExpiresLater e.call)) e c.later).1.0 in omega (arith, late)
+  until_zero e c = let late = (subst (AllByRecursion (λ (e : Entry). TakesCare e.call)) e c.cares).1.0 in omega (arith, late)
 
   -- no: IsCaring
   above_all_bitcoins : n.history ≡ entry (Releasing 0 (batch x 2100000000000001)) ∷ [] → IsCaring n → ⊥
-  above_all_bitcoins e c = let low = (subst (AllByRecursion (λ (e : Entry). PaysOutputs e.call)) e c.outputs).0.0.value in omega (arith, low)
+  above_all_bitcoins e c = let low = (subst (AllByRecursion (λ (e : Entry). TakesCare e.call)) e c.cares).0.0.value in omega (arith, low)

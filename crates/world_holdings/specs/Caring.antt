@@ -4,18 +4,16 @@ use Rattle.channel.specs.Tokens.{peer_tokens}
 use Rattle.safety.specs.Holdings.{EachKeepsRules}
 use Rattle.book.specs.Accepted.{IsHistory}
 use Rattle.holdings.specs.Holdings.{holdings_of}
-use Rattle.holdings.specs.Keeping.{ExpiresLater, PaysOutputs, IsCareful}
-use Rattle.world.specs.Worlds.{Node, IsNode}
+use Rattle.holdings.specs.Keeping.{TakesCare, IsCareful}
+use Rattle.world.specs.Worlds.{Node}
 use Rattle.world.specs.Sources.{IsSide}
 
--- What is true of a side of a world, as each event keeps it (`IsWorld`): calls lead to its history, its claims were accepted, and it released what recorded commitments give it. Left to ask is that each HTLC that it
--- offers expires above 0, and that the outputs that it pays keep the limits of an output
+-- What is true of a side of a world, as each event keeps it (`IsWorld`): calls lead to its history, and it released what recorded commitments give it. Left to ask is that each HTLC that it offers expires above 0,
+-- and that the outputs that it pays keep the limits of an output
 pub record IsCaring (n : Node) : Type 0 where
   pub called : IsHistory peer_tokens n.history
-  pub whole : IsNode n
   pub side : IsSide n
-  pub later : AllByRecursion (λ e. ExpiresLater e.call) n.history
-  pub outputs : AllByRecursion (λ e. PaysOutputs e.call) n.history
+  pub cares : AllByRecursion (λ e. TakesCare e.call) n.history
 
 -- then its history is careful
 abbrev pub SidesAreCareful : Type 0

@@ -2,7 +2,7 @@
 
 ghost use Rattle.world_holdings.specs.Caring.{SidesAreCareful, SidesKeepRules};
 
-use holdings::laws::{books_keep_rules, holdings_are_complete};
+use holdings::laws::books_keep_rules;
 use safety::laws::what_is_recorded;
 
 /// A side of a world is careful, and so its channels keep the rules, if each HTLC that it offers expires above 0 and the outputs that it pays keep the limits of an output. The rest of the premise is what each
@@ -11,7 +11,6 @@ pub fn sides_keep_rules()
     ensures careful { SidesAreCareful }
     ensures rules { SidesKeepRules }
 {
-    holdings_are_complete();
     books_keep_rules();
     what_is_recorded();
 }

@@ -17,7 +17,7 @@ use Rattle.claim.specs.Laws.{AcceptedSpend, FittingRunsClean, IsTimed, FittingIs
 use Rattle.chain.specs.Blocks.{Contents, Coin}
 use Rattle.chain.specs.Locks.{is_final, is_old_enough, IsReached}
 use Rattle.chain.specs.Checks.{input_refusal, indexed_refusal}
-use Rattle.world.specs.Enforcement.{IsDue, Passes, ClaimsSpend, LocksAreHeights}
+use Rattle.safety.specs.Enforcement.{IsDue, Passes, ClaimsSpend, LocksAreHeights}
 
 -- the output is the one of the place
 same_output : (o : Output) (place : Place) → o.value ≡ place.value → o.script ≡ place.program → o ≡ output_at place

@@ -1,5 +1,5 @@
-use Rattle.world.proofs.DueClaims.{claims_open, locks_are_heights}
-use Rattle.world.proofs.laws.claims_spend.Goals as goal
+use Rattle.safety.proofs.DueClaims.{claims_open, locks_are_heights}
+use Rattle.safety.proofs.laws.claims_spend.Goals as goal
 
 pub returns-clause-spends : goal.returns-clause-spends
 returns-clause-spends c = claims_open c.accepted_claims_spend.ensures.spends c.accepted_claims_spend.ensures.clean

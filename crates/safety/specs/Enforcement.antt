@@ -1,5 +1,5 @@
--- Claims on a chain: what 'due' and 'passes' mean. `Theorem.antt` states this at each moment of every run. (`GuardedMeans` of `book/specs/Guarding.antt` states that a book signs nothing
--- after a revocation before its penalties are kept.)
+-- Claims on a chain: what 'due' and 'passes' mean. `world/specs/Theorem.antt` states this at each moment of every run. (`GuardedMeans` of `book/specs/Guarding.antt` states that a book signs
+-- nothing after a revocation before its penalties are kept.)
 --
 -- Take any filling of an accepted claim whose output is unspent, and whose height and age are reached. It runs to one true value, within 201 counted opcodes and 1,000 entries.
 -- No operand is missing, no check fails, and no branch stays open. The chain's test of that input does not refuse it.
