@@ -7,6 +7,9 @@ mod Spends
 mod Checks
 mod Recorded
 mod Tables
+mod Tokens
+mod Numbered
+mod Closings
 mod ClosedExamples
 mod OwnCloseExamples
 mod TokenTheftExamples

@@ -2,7 +2,7 @@
 -- the preimage, and took back the one that it had offered. The premises hold, and no two strings have one hash.
 use Rattle.std.proofs.Common.{◌≡◌, ℕ, true, false, List, [], ◌∷◌, map, replicate, Option, Some, None, refl, sym, ap, ◌∙◌, subst, lit≤, lit<}
 use Rattle.std.specs.Prelude.{IsTrue}
-use Rattle.std.specs.List.{Contains}
+use Rattle.std.specs.List.{Contains, flat_map}
 use Rattle.std.specs.Str.{bytes_eq}
 use Rattle.sha2.specs.Sha256.{sha256, digest_bytes, hash_after, compress, rounds, schedule, first_words}
 use Rattle.digest.specs.Ripemd160.{left_words, right_words, left_rotations, right_rotations, left_constants, right_constants, block_words, left_line, right_line, blocks, ripemd160, compress as ripemd_compress, hash_after as ripemd_hash_after, digest_bytes as ripemd_digest_bytes}
@@ -35,7 +35,7 @@ use Rattle.penalty.specs.Claimable.{claims_by}
 use Rattle.resolve.specs.Due.{peers_due}
 use Rattle.safety.specs.Signing.{list_of}
 use Rattle.safety.specs.Holdings.{Release, Holding, IsOnRecorded, on_peers, KeepsRules}
-use Rattle.safety.specs.Given.{GivenToken, token_bytes, given_by}
+use Rattle.safety.specs.Given.{GivenToken, token_bytes, given_by, with_release}
 use Rattle.safety.specs.Premises.{are_own}
 use Rattle.safety.specs.Breaks.{Breaks}
 use Rattle.safety.specs.Closers.{IsCloser, next, own, IsWatched}
@@ -46,10 +46,13 @@ use Rattle.safety.proofs.WorkedChannels.{first_terms, second_terms, first_opened
 use Rattle.worked_chains.proofs.Marks.{beginnings, marked, are_apart, NoneCollide, none_collide, shorter}
 use Rattle.worked_chains.proofs.Spends.{Naming, naming, digest_over, namings, all_given, owns, items_of, codes_of, inputs_by, tokens_by, signed_over, tokens_with, tokens_from, inputs_from, lists_from, outpoints_in, sequences_in, outputs_paid, AreWhole, whole_chain}
 use Rattle.worked_chains.proofs.Checks.{lone, passes, next_one, next_block}
-use Rattle.worked_chains.proofs.Tables.{locks, locks_is, keys, keys_is, keys_begin, keys_hashed, once_whole, twice_whole, short_whole, hashes, hashes_is, hashes_begin, hashes_hashed, given_from, granting, pays}
+use Rattle.worked_chains.proofs.Tables.{locks, locks_is, keys, keys_is, keys_begin, keys_hashed, once_whole, twice_whole, short_whole, hashes, hashes_is, hashes_begin, hashes_hashed, granting, pays}
 use Rattle.penalty.specs.Sets.{claimed_by}
 use Rattle.commit.specs.Signing.{input_of}
-use Rattle.worked_chains.proofs.Recorded.{first_grant, first_funding, first_funding_program, second_grant, second_funding, second_funding_program, first_granted, second_granted, first_opened_digest, first_opened_contents, first_newest_id, first_newest_keys, first_newest_revocation_hash, first_newest_payment_0, first_newest_payment_1, first_newest_htlc_0, first_newest_htlc_0_program, first_newest_htlc_1, first_newest_htlc_1_program, first_newest_digest, first_newest_stage_0_digest, first_newest_stage_1_digest, first_newest_contents, first_newest_is, first_own_contents, second_opened_digest, second_opened_stage_1_digest, second_opened_contents, second_newest_digest, second_newest_contents, second_own_id, second_own_digest, second_own_contents, by_contents, first_funding_lock, second_funding_lock, first_newest_lock_0, first_newest_lock_1}
+use Rattle.worked_chains.proofs.Recorded.{second_grant, second_funding, second_funding_program, first_granted, second_granted, first_opened_digest, first_newest_id, first_newest_keys, first_newest_revocation_hash, first_newest_payment_0, first_newest_payment_1, first_newest_htlc_0, first_newest_htlc_0_program, first_newest_htlc_1, first_newest_htlc_1_program, first_newest_digest, first_newest_stage_0_digest, first_newest_stage_1_digest, first_newest_contents, first_newest_is, second_opened_digest, second_opened_stage_1_digest, second_newest_digest, second_own_id, second_own_digest, second_own_contents, second_own_named, by_contents, first_funding_lock, second_funding_lock, first_newest_lock_0, first_newest_lock_1}
+use Rattle.worked_chains.proofs.Closings.{closes_first_input, closes_first, closes_first_is, closes_first_coin, closes_first_runs}
+use Rattle.worked_chains.proofs.Numbered.{at, none_numbered, hashed_at}
+use Rattle.worked_chains.proofs.Tokens.{joined, mapped, given_from, given_recorded, first_tokens, second_tokens, points_of, ages_of, payments_of, first_signed, second_signed, first_points, second_points, first_ages, second_ages, first_payments, second_payments}
 
 -- ---- what the node released: the HTLC that it had offered, after the expiry, and the one that was offered to it, with the preimage
 
@@ -100,31 +103,14 @@ channels = first ∷ second (Some 0) ∷ []
 abbrev until_0 : List Block
 until_0 = granting ∷ []
 
-abbrev closes_first_input : TxIn
-closes_first_input = record { outpoint = record { txid = first_grant; index = 0 }; sequence = 2157138076; witness = [] ∷ token_of (key 0x10).bytes first_newest_digest ∷ token_of (key 0x20).bytes first_newest_digest ∷ first_funding ∷ [] }
-
-abbrev closes_first : Transaction
-closes_first = lone closes_first_input (map tx_output first_newest_contents.outputs) 540886091
-
-closes_first_is : transaction_id closes_first ≡ first_newest_id
-unfolding sha256 digest_bytes hash_after compress rounds schedule first_words number compact_size bytes_with_length outpoint input output body stripped_spelling transaction_id
-closes_first_is = refl
-
 abbrev before_closes_first : List Block
 before_closes_first = empty ∷ until_0
-
-abbrev closes_first_coin : Coin
-closes_first_coin = record { output = record { value = 100000; script = first_funding_program }; height = 0; spent = false }
 
 closes_first_finds : coin_at before_closes_first closes_first_input.outpoint ≡ Some closes_first_coin
 closes_first_finds = rw first_granted refl
 
 closes_first_new : has_id before_closes_first (transaction_id closes_first) ≡ false
 closes_first_new = refl
-
-closes_first_runs : coin_refusal 1 closes_first closes_first_input (Some closes_first_coin) ≡ None
-unfolding sha256 digest_bytes hash_after compress rounds schedule first_words ripemd160 left_words right_words left_rotations right_rotations left_constants right_constants block_words left_line right_line blocks ripemd_compress ripemd_hash_after ripemd_digest_bytes number_of digits minimal_bytes_of token_of is_key is_token is_signature lock_passes age_passes multi_sig effect state_after number compact_size bytes_with_length outpoint output all_outpoints all_sequences all_outputs signed_list single_op script_ops given_of run_of
-closes_first_runs = refl
 
 closes_first_passes : transaction_refusal before_closes_first closes_first ≡ None
 closes_first_passes = passes before_closes_first closes_first_input (map tx_output first_newest_contents.outputs) 540886091 closes_first_coin closes_first_new closes_first_finds closes_first_runs refl
@@ -136,8 +122,8 @@ abbrev closes_second : Transaction
 closes_second = lone closes_second_input (map tx_output second_own_contents.outputs) 549032011
 
 closes_second_is : transaction_id closes_second ≡ second_own_id
-unfolding sha256 digest_bytes hash_after compress rounds schedule first_words number compact_size bytes_with_length outpoint input output body stripped_spelling transaction_id
-closes_second_is = refl
+unfolding number compact_size bytes_with_length outpoint input output body stripped_spelling transaction_id transaction_of
+closes_second_is = second_own_named
 
 abbrev before_closes_second : List Block
 before_closes_second = block (closes_first ∷ []) ∷ until_0
@@ -290,17 +276,13 @@ named_is = refl
 abbrev digests : List (List ℕ)
 digests = returned_digest ∷ claimed_digest ∷ second_own_digest ∷ first_newest_digest ∷ []
 
-digests_are : map digest_over named ≡ digests
-unfolding sha256 digest_bytes hash_after compress rounds schedule first_words number compact_size bytes_with_length outpoint output all_outpoints all_sequences all_outputs signed_list
-digests_are = refl
-
 -- ---- the tokens that it gave out
 
 abbrev given : List GivenToken
-given = given_from (takes_back ∷ is_paid ∷ []) [] with_own first_opened_contents first_newest_contents first_own_contents second_opened_contents second_newest_contents second_own_contents
+given = joined first_tokens second_tokens (flat_map with_release (takes_back ∷ is_paid ∷ [])) [] (with_own second_own_contents)
 
 given_is : given_by channels ≡ given
-given_is = by_contents (given_from (takes_back ∷ is_paid ∷ []) [] with_own)
+given_is = by_contents (given_from (takes_back ∷ is_paid ∷ []) [] with_own) ∙ given_recorded (takes_back ∷ is_paid ∷ []) [] with_own
 
 abbrev given_digests : List (List ℕ)
 given_digests = first_opened_digest ∷ first_newest_digest ∷ first_newest_stage_0_digest ∷ first_newest_stage_1_digest ∷ returned_digest ∷ claimed_digest ∷ second_opened_digest ∷ second_opened_stage_1_digest ∷ second_newest_digest ∷ second_own_digest ∷ []
@@ -308,9 +290,36 @@ given_digests = first_opened_digest ∷ first_newest_digest ∷ first_newest_sta
 abbrev tokens : List (List ℕ)
 tokens = tokens_with given given_digests
 
-given_signed : map signed_over given ≡ given_digests
+released_signed : map signed_over (flat_map with_release (takes_back ∷ is_paid ∷ [])) ≡ returned_digest ∷ claimed_digest ∷ []
 unfolding sha256 digest_bytes hash_after compress rounds schedule first_words ripemd160 left_words right_words left_rotations right_rotations left_constants right_constants block_words left_line right_line blocks ripemd_compress ripemd_hash_after ripemd_digest_bytes number compact_size bytes_with_length outpoint input output body stripped_spelling transaction_id digits minimal_bytes_of number_push script_hash_program to_local_script to_remote_script htlc_script transaction_of htlcs_from htlc_tx_of funding_script all_outpoints all_sequences all_outputs signed_list
-given_signed = refl
+released_signed = refl
+
+last_signed : map signed_over (with_own second_own_contents) ≡ second_own_digest ∷ []
+unfolding sha256 digest_bytes hash_after compress rounds schedule first_words ripemd160 left_words right_words left_rotations right_rotations left_constants right_constants block_words left_line right_line blocks ripemd_compress ripemd_hash_after ripemd_digest_bytes number compact_size bytes_with_length outpoint input output body stripped_spelling transaction_id digits minimal_bytes_of number_push script_hash_program to_local_script to_remote_script htlc_script transaction_of htlcs_from htlc_tx_of funding_script all_outpoints all_sequences all_outputs signed_list
+last_signed = refl
+
+given_signed : map signed_over given ≡ given_digests
+given_signed = mapped signed_over first_tokens second_tokens (flat_map with_release (takes_back ∷ is_paid ∷ [])) [] (with_own second_own_contents) first_signed second_signed released_signed refl last_signed
+
+-- each by its number among those of the tokens, or behind them
+abbrev all_lists : List (List ℕ)
+all_lists = tokens_by list_of given
+
+abbrev shown_numbers : List (List ℕ)
+shown_numbers = (4 ∷ []) ∷ (5 ∷ []) ∷ (9 ∷ []) ∷ (1 ∷ []) ∷ []
+
+abbrev given_numbers : List (List ℕ)
+given_numbers = (0 ∷ []) ∷ (1 ∷ []) ∷ (2 ∷ []) ∷ (3 ∷ []) ∷ (4 ∷ []) ∷ (5 ∷ []) ∷ (6 ∷ []) ∷ (7 ∷ []) ∷ (8 ∷ []) ∷ (9 ∷ []) ∷ []
+
+are_shown : map (at [] all_lists) shown_numbers ≡ inputs_by list_of named
+unfolding digits minimal_bytes_of number_push script_hash_program to_local_script to_remote_script htlc_script transaction_of htlcs_from htlc_tx_of funding_script all_outpoints all_sequences all_outputs signed_list
+are_shown = refl
+
+are_given_lists : map (at [] all_lists) given_numbers ≡ tokens_by list_of given
+are_given_lists = refl
+
+digests_are : map digest_over named ≡ digests
+digests_are = hashed_at sha256d all_lists shown_numbers (inputs_by list_of named) given_digests are_shown given_signed
 
 tokens_are : map token_bytes (given_by channels) ≡ tokens
 tokens_are = ap (map token_bytes) given_is ∙ tokens_from given given_digests given_signed
@@ -360,9 +369,16 @@ points_are = refl
 abbrev points_given : List ℕ
 points_given = 0x0c16bb0e ∷ 0x0c16bb0e ∷ 0x1153e5f3 ∷ 0xf1efbbf6 ∷ 0x1153e5f3 ∷ 0xf1efbbf6 ∷ 0xb3dbeb72 ∷ 0x9728119d ∷ 0xb3dbeb72 ∷ 0xb3dbeb72 ∷ []
 
-points_of_tokens : beginnings sha256d (tokens_by outpoints_in given) ≡ points_given
+released_points : map points_of (flat_map with_release (takes_back ∷ is_paid ∷ [])) ≡ 0x1153e5f3 ∷ 0xf1efbbf6 ∷ []
 unfolding sha256 digest_bytes hash_after compress rounds schedule first_words ripemd160 left_words right_words left_rotations right_rotations left_constants right_constants block_words left_line right_line blocks ripemd_compress ripemd_hash_after ripemd_digest_bytes number compact_size bytes_with_length outpoint input output body stripped_spelling transaction_id digits minimal_bytes_of number_push script_hash_program to_local_script to_remote_script htlc_script transaction_of htlcs_from htlc_tx_of funding_script all_outpoints all_sequences all_outputs signed_list
-points_of_tokens = refl
+released_points = refl
+
+last_points : map points_of (with_own second_own_contents) ≡ 0xb3dbeb72 ∷ []
+unfolding sha256 digest_bytes hash_after compress rounds schedule first_words ripemd160 left_words right_words left_rotations right_rotations left_constants right_constants block_words left_line right_line blocks ripemd_compress ripemd_hash_after ripemd_digest_bytes number compact_size bytes_with_length outpoint input output body stripped_spelling transaction_id digits minimal_bytes_of number_push script_hash_program to_local_script to_remote_script htlc_script transaction_of htlcs_from htlc_tx_of funding_script all_outpoints all_sequences all_outputs signed_list
+last_points = refl
+
+points_of_tokens : beginnings sha256d (tokens_by outpoints_in given) ≡ points_given
+points_of_tokens = mapped points_of first_tokens second_tokens (flat_map with_release (takes_back ∷ is_paid ∷ [])) [] (with_own second_own_contents) first_points second_points released_points refl last_points
 
 abbrev ages_shown : List ℕ
 ages_shown = 0x8cb90125 ∷ 0x8cb90125 ∷ 0xf0328505 ∷ 0xe118709c ∷ []
@@ -374,9 +390,16 @@ ages_are = refl
 abbrev ages_given : List ℕ
 ages_given = 0xe118709c ∷ 0xe118709c ∷ 0x8cb90125 ∷ 0x8cb90125 ∷ 0x8cb90125 ∷ 0x8cb90125 ∷ 0xf0328505 ∷ 0x8cb90125 ∷ 0xf0328505 ∷ 0xf0328505 ∷ []
 
-ages_of_tokens : beginnings sha256d (tokens_by sequences_in given) ≡ ages_given
+released_ages : map ages_of (flat_map with_release (takes_back ∷ is_paid ∷ [])) ≡ 0x8cb90125 ∷ 0x8cb90125 ∷ []
 unfolding sha256 digest_bytes hash_after compress rounds schedule first_words ripemd160 left_words right_words left_rotations right_rotations left_constants right_constants block_words left_line right_line blocks ripemd_compress ripemd_hash_after ripemd_digest_bytes number compact_size bytes_with_length outpoint input output body stripped_spelling transaction_id digits minimal_bytes_of number_push script_hash_program to_local_script to_remote_script htlc_script transaction_of htlcs_from htlc_tx_of funding_script all_outpoints all_sequences all_outputs signed_list
-ages_of_tokens = refl
+released_ages = refl
+
+last_ages : map ages_of (with_own second_own_contents) ≡ 0xf0328505 ∷ []
+unfolding sha256 digest_bytes hash_after compress rounds schedule first_words ripemd160 left_words right_words left_rotations right_rotations left_constants right_constants block_words left_line right_line blocks ripemd_compress ripemd_hash_after ripemd_digest_bytes number compact_size bytes_with_length outpoint input output body stripped_spelling transaction_id digits minimal_bytes_of number_push script_hash_program to_local_script to_remote_script htlc_script transaction_of htlcs_from htlc_tx_of funding_script all_outpoints all_sequences all_outputs signed_list
+last_ages = refl
+
+ages_of_tokens : beginnings sha256d (tokens_by sequences_in given) ≡ ages_given
+ages_of_tokens = mapped ages_of first_tokens second_tokens (flat_map with_release (takes_back ∷ is_paid ∷ [])) [] (with_own second_own_contents) first_ages second_ages released_ages refl last_ages
 
 abbrev payments_shown : List ℕ
 payments_shown = 0xa6b44eae ∷ 0x02423a12 ∷ 0x70184e63 ∷ 0xa54faaa8 ∷ []
@@ -388,9 +411,16 @@ payments_are = refl
 abbrev payments_given : List ℕ
 payments_given = 0xd64ab62f ∷ 0xa54faaa8 ∷ 0xbf4f8add ∷ 0x9699cb55 ∷ 0xa6b44eae ∷ 0x02423a12 ∷ 0x4f88120a ∷ 0x1c10ab3a ∷ 0xf0d37a5d ∷ 0x70184e63 ∷ []
 
-payments_of_tokens : beginnings sha256d (tokens_by outputs_paid given) ≡ payments_given
+released_payments : map payments_of (flat_map with_release (takes_back ∷ is_paid ∷ [])) ≡ 0xa6b44eae ∷ 0x02423a12 ∷ []
 unfolding sha256 digest_bytes hash_after compress rounds schedule first_words ripemd160 left_words right_words left_rotations right_rotations left_constants right_constants block_words left_line right_line blocks ripemd_compress ripemd_hash_after ripemd_digest_bytes number compact_size bytes_with_length outpoint input output body stripped_spelling transaction_id digits minimal_bytes_of number_push script_hash_program to_local_script to_remote_script htlc_script transaction_of htlcs_from htlc_tx_of funding_script all_outpoints all_sequences all_outputs signed_list
-payments_of_tokens = refl
+released_payments = refl
+
+last_payments : map payments_of (with_own second_own_contents) ≡ 0x70184e63 ∷ []
+unfolding sha256 digest_bytes hash_after compress rounds schedule first_words ripemd160 left_words right_words left_rotations right_rotations left_constants right_constants block_words left_line right_line blocks ripemd_compress ripemd_hash_after ripemd_digest_bytes number compact_size bytes_with_length outpoint input output body stripped_spelling transaction_id digits minimal_bytes_of number_push script_hash_program to_local_script to_remote_script htlc_script transaction_of htlcs_from htlc_tx_of funding_script all_outpoints all_sequences all_outputs signed_list
+last_payments = refl
+
+payments_of_tokens : beginnings sha256d (tokens_by outputs_paid given) ≡ payments_given
+payments_of_tokens = mapped payments_of first_tokens second_tokens (flat_map with_release (takes_back ∷ is_paid ∷ [])) [] (with_own second_own_contents) first_payments second_payments released_payments refl last_payments
 
 scripts_apart : are_apart (marked (items_of named) items_once) (marked (codes_of named) codes_once) ≡ true
 unfolding token_of
@@ -404,20 +434,19 @@ hashes_apart : are_apart (marked (map sha256 (items_of named)) items_short) (mar
 unfolding sha256 digest_bytes hash_after compress rounds schedule first_words token_of htlcs_from
 hashes_apart = refl
 
-lists_apart : are_apart (marked (inputs_by list_of named) lists_shown) (marked (tokens_by list_of given) lists_given) ≡ true
-unfolding sha256 digest_bytes hash_after compress rounds schedule first_words ripemd160 left_words right_words left_rotations right_rotations left_constants right_constants block_words left_line right_line blocks ripemd_compress ripemd_hash_after ripemd_digest_bytes number compact_size bytes_with_length outpoint input output body stripped_spelling transaction_id digits minimal_bytes_of number_push script_hash_program to_local_script to_remote_script htlc_script transaction_of htlcs_from htlc_tx_of funding_script all_outpoints all_sequences all_outputs signed_list
+lists_apart : are_apart (marked shown_numbers lists_shown) (marked given_numbers lists_given) ≡ true
 lists_apart = refl
 
 points_apart : are_apart (marked (inputs_by outpoints_in named) points_shown) (marked (tokens_by outpoints_in given) points_given) ≡ true
-unfolding sha256 digest_bytes hash_after compress rounds schedule first_words ripemd160 left_words right_words left_rotations right_rotations left_constants right_constants block_words left_line right_line blocks ripemd_compress ripemd_hash_after ripemd_digest_bytes number compact_size bytes_with_length outpoint input output body stripped_spelling transaction_id digits minimal_bytes_of number_push script_hash_program to_local_script to_remote_script htlc_script transaction_of htlcs_from htlc_tx_of funding_script all_outpoints all_sequences all_outputs signed_list
+unfolding number compact_size bytes_with_length outpoint input output body stripped_spelling transaction_id digits minimal_bytes_of number_push script_hash_program to_local_script to_remote_script htlc_script transaction_of htlcs_from htlc_tx_of funding_script all_outpoints all_sequences all_outputs signed_list
 points_apart = refl
 
 ages_apart : are_apart (marked (inputs_by sequences_in named) ages_shown) (marked (tokens_by sequences_in given) ages_given) ≡ true
-unfolding sha256 digest_bytes hash_after compress rounds schedule first_words ripemd160 left_words right_words left_rotations right_rotations left_constants right_constants block_words left_line right_line blocks ripemd_compress ripemd_hash_after ripemd_digest_bytes number compact_size bytes_with_length outpoint input output body stripped_spelling transaction_id digits minimal_bytes_of number_push script_hash_program to_local_script to_remote_script htlc_script transaction_of htlcs_from htlc_tx_of funding_script all_outpoints all_sequences all_outputs signed_list
+unfolding number compact_size bytes_with_length outpoint input output body stripped_spelling transaction_id digits minimal_bytes_of number_push script_hash_program to_local_script to_remote_script htlc_script transaction_of htlcs_from htlc_tx_of funding_script all_outpoints all_sequences all_outputs signed_list
 ages_apart = refl
 
 payments_apart : are_apart (marked (inputs_by outputs_paid named) payments_shown) (marked (tokens_by outputs_paid given) payments_given) ≡ true
-unfolding sha256 digest_bytes hash_after compress rounds schedule first_words ripemd160 left_words right_words left_rotations right_rotations left_constants right_constants block_words left_line right_line blocks ripemd_compress ripemd_hash_after ripemd_digest_bytes number compact_size bytes_with_length outpoint input output body stripped_spelling transaction_id digits minimal_bytes_of number_push script_hash_program to_local_script to_remote_script htlc_script transaction_of htlcs_from htlc_tx_of funding_script all_outpoints all_sequences all_outputs signed_list
+unfolding number compact_size bytes_with_length outpoint input output body stripped_spelling transaction_id digits minimal_bytes_of number_push script_hash_program to_local_script to_remote_script htlc_script transaction_of htlcs_from htlc_tx_of funding_script all_outpoints all_sequences all_outputs signed_list
 payments_apart = refl
 
 whole_strings : AreWhole channels keys given named
@@ -428,7 +457,7 @@ whole_strings = record {
   scripts = none_collide sha256 (items_of named) (codes_of named) items_once codes_once items_are codes_are scripts_apart;
   keys_shown = none_collide hash160 (items_of named) keys items_short keys_begin items_are_short keys_hashed keys_apart;
   preimages = subst (λ (xs : List (List ℕ)). NoneCollide ripemd160 (map sha256 (items_of named)) xs) (sym (hashes_is 0 true [] (takes_back ∷ is_paid ∷ []) [] (Some 0))) (none_collide ripemd160 (map sha256 (items_of named)) hashes items_short hashes_begin (shorter (items_of named) ∙ items_are_short) hashes_hashed hashes_apart);
-  lists = none_collide sha256d (inputs_by list_of named) (tokens_by list_of given) lists_shown lists_given lists_are lists_of_tokens lists_apart;
+  lists = none_numbered sha256d all_lists shown_numbers given_numbers (inputs_by list_of named) (tokens_by list_of given) lists_shown lists_given are_shown are_given_lists lists_are lists_of_tokens lists_apart;
   points = none_collide sha256d (inputs_by outpoints_in named) (tokens_by outpoints_in given) points_shown points_given points_are points_of_tokens points_apart;
   ages = none_collide sha256d (inputs_by sequences_in named) (tokens_by sequences_in given) ages_shown ages_given ages_are ages_of_tokens ages_apart;
   payments = none_collide sha256d (inputs_by outputs_paid named) (tokens_by outputs_paid given) payments_shown payments_given payments_are payments_of_tokens payments_apart;

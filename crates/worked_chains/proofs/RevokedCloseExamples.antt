@@ -1,7 +1,7 @@
 -- Why a side that closed a channel may revoke no more, and why no two channels may have one seed. On the chain here the node closed the channel with its commitment 0, and then took a signature for number 1, so that it
 -- gave out the secret of the commitment that stands there. All else that the laws ask is met, and what they say of the channel is refuted.
-use Rattle.std.proofs.Common.{◌≡◌, ◌≢◌, ◌<◌, ℕ, zero, suc, Bool, true, false, not, List, [], ◌∷◌, ◌++◌, map, replicate, Some, None, refl, sym, ap, ◌∙◌, subst, arith}
-use Rattle.std.specs.Prelude.{◌&&◌, slice_get}
+use Rattle.std.proofs.Common.{◌≡◌, ◌≢◌, ℕ, Bool, true, false, not, List, [], ◌∷◌, Some, refl, sym, ap, ◌∙◌, subst, arith}
+use Rattle.std.specs.Prelude.{◌&&◌}
 use Rattle.std.specs.List.{Contains, list_all}
 use Rattle.std.specs.Str.{bytes_eq}
 use Rattle.std.proofs.lemmas.Bool.{false≢true, and_parts}
@@ -25,9 +25,9 @@ use Rattle.chain.specs.Checks.{transaction_refusal}
 use Rattle.commit.specs.Keys.{keys_of}
 use Rattle.commit.specs.Order.{output_cmp, in_order}
 use Rattle.commit.specs.Outputs.{to_local_script, to_remote_script, htlc_script, outputs_of}
-use Rattle.commit.specs.Commitments.{Contents, commitment_of, transaction_of, id_of, htlcs_from, htlc_tx_of}
+use Rattle.commit.specs.Commitments.{Contents, commitment_of, transaction_of, htlcs_from, htlc_tx_of}
 use Rattle.commit.specs.Signing.{funding_script}
-use Rattle.penalty.specs.Claimable.{Claimable, claims_by}
+use Rattle.penalty.specs.Claimable.{claims_by}
 use Rattle.resolve.specs.Due.{peers_due}
 use Rattle.tx.specs.Fields.{Transaction}
 use Rattle.tx.proofs.Witnesses.{same_id}

@@ -15,14 +15,11 @@ use Rattle.terms.specs.Scripts.{number_push}
 use Rattle.terms.specs.declared.agreement.Terms.{Terms}
 use Rattle.commit.specs.Outputs.{to_local_script, to_remote_script, htlc_script}
 use Rattle.commit.specs.Commitments.{Contents, transaction_of, htlcs_from, htlcs_of, htlc_tx_of}
-use Rattle.commit.specs.Signing.{funding_script, input_of}
+use Rattle.commit.specs.Signing.{funding_script}
 use Rattle.penalty.specs.Claimable.{claims_by}
 use Rattle.channel.specs.declared.commitments.CommitmentState.{CommitmentState}
-use Rattle.channel.specs.Tokens.{funding_key}
 use Rattle.safety.specs.Spending.{peer_keys}
-use Rattle.safety.specs.Fates.{htlc_signed}
 use Rattle.safety.specs.Holdings.{Release, Holding}
-use Rattle.safety.specs.Given.{GivenToken, with_release}
 use Rattle.safety.specs.Premises.{LockedOutput, funding_lock, locks_of, locks_by, owner_keys, keys_by}
 use Rattle.safety.proofs.Examples.{key}
 use Rattle.safety.proofs.Unbroken.{own_strings, htlc_strings, strings_in, payment_hashes}
@@ -193,17 +190,3 @@ hashes_begin = 0xb566a3ee ∷ 0x9d4c1c21 ∷ 0x7d81f275 ∷ []
 pub hashes_hashed : beginnings ripemd160 hashes ≡ hashes_begin
 unfolding sha256 digest_bytes hash_after compress rounds schedule first_words ripemd160 left_words right_words left_rotations right_rotations left_constants right_constants block_words left_line right_line blocks ripemd_compress ripemd_hash_after ripemd_digest_bytes htlcs_from
 hashes_hashed = refl
-
--- ---- tokens
-
--- those that the node gives out with a commitment of these contents
-abbrev given_one : Terms → CommitmentState → Contents → List GivenToken
-given_one terms k c =
-    record { key = funding_key terms k; over = record { transaction = transaction_of c; input = input_of c.funding c.hidden.sequence; code = funding_script terms; value = terms.capacity_sat } }
-    ∷ map (λ x. record { key = c.keys.remote_htlc; over = htlc_signed c x }) (htlcs_of c)
-
--- with those of what it released, and those of a close of the second channel with its own commitment
-abbrev pub given_from : (first second : List Release) (closing : Contents → List GivenToken) (a b c d e f : Contents) → List GivenToken
-given_from first second closing a b c d e f =
-    (((given_one first_terms first_opened a ++ (given_one first_terms first_newest b ++ [])) ++ flat_map with_release first) ++ [])
-    ++ ((((given_one second_terms second_opened d ++ (given_one second_terms second_newest e ++ [])) ++ flat_map with_release second) ++ closing f) ++ [])

@@ -1,6 +1,6 @@
 -- One test of a node's channels and of a chain: the chain passes its own tests, the node gave out the tokens of its keys that stand there, and no two strings have one hash. So one computation shows what the laws on
 -- one node against everybody ask of a chain, and that none of their cases holds by a collision.
-use Rattle.std.proofs.Common.{◌≡◌, ℕ, Bool, true, false, not, List, refl}
+use Rattle.std.proofs.Common.{◌≡◌, Bool, true, false, not, List, refl}
 use Rattle.std.specs.Prelude.{◌&&◌, ◌==◌}
 use Rattle.std.specs.List.{list_all}
 use Rattle.std.specs.Str.{bytes_eq}

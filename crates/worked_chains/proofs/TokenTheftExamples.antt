@@ -1,6 +1,6 @@
 -- Thefts, on a chain that passes all tests. A thief has tokens of the node's that no channel gave out: that premise alone fails. What the laws say fails too. What the thief took is in none of the cases that they have
 -- for an output, each of which is refuted, and no two strings have one hash.
-use Rattle.std.proofs.Common.{◌≡◌, ℕ, true, false, List, [], ◌∷◌, map, replicate, Some, None, refl, sym, ap, ◌∙◌, subst, lit<}
+use Rattle.std.proofs.Common.{◌≡◌, ℕ, true, false, List, [], ◌∷◌, ◌++◌, map, replicate, Some, None, refl, sym, ap, ◌∙◌, subst, lit<}
 use Rattle.std.specs.Str.{bytes_eq}
 use Rattle.std.proofs.lemmas.Bool.{false≢true}
 use Rattle.sha2.specs.Sha256.{sha256, digest_bytes, hash_after, compress, rounds, schedule, first_words}
@@ -14,16 +14,13 @@ use Rattle.tx.specs.declared.input.TxIn.{TxIn}
 use Rattle.tx.specs.Fields.{Transaction}
 use Rattle.tx.specs.Spelling.{number, compact_size, bytes_with_length, outpoint, input, output, body, stripped_spelling, transaction_id}
 use Rattle.sighash.specs.Signing.{all_outpoints, all_sequences, all_outputs, signed_list}
-use Rattle.sighash.specs.Programs.{single_op, script_ops, script_hash_program, given_of, run_of}
+use Rattle.sighash.specs.Programs.{single_op, script_ops, given_of, run_of}
 use Rattle.chain.specs.Blocks.{Contents as Block, Coin, grant_id, coin_at, has_id}
 use Rattle.chain.specs.Checks.{coin_refusal, transaction_refusal}
 use Rattle.chain.specs.Checked.{is_checked}
 use Rattle.chain.specs.Conserving.{GrantsAreApart}
-use Rattle.terms.specs.Scripts.{number_push}
 use Rattle.commit.specs.declared.fees.Direction.TheVariants.{Offered, Received}
-use Rattle.commit.specs.Outputs.{to_local_script, to_remote_script, htlc_script}
-use Rattle.commit.specs.Commitments.{Contents, tx_output, transaction_of, htlcs_from, htlc_tx_of}
-use Rattle.commit.specs.Signing.{funding_script}
+use Rattle.commit.specs.Commitments.{Contents, tx_output, transaction_of, htlcs_from}
 use Rattle.penalty.specs.Claimable.{Claimable, penalty_on, payment_on}
 use Rattle.resolve.specs.Due.{direct_on}
 use Rattle.safety.specs.Signing.{list_of}
@@ -36,13 +33,17 @@ use Rattle.safety.specs.Resolutions.{Resolution, IsSlept, IsPaidOrLate}
 use Rattle.safety.proofs.Examples.{key}
 use Rattle.safety.proofs.Worked.{all_fit, two_grants, paid_or_late, has_waited, is_stolen, stolen_claim, stolen_penalty}
 use Rattle.safety.proofs.WorkedChannels.{htlc, block, empty}
+use Rattle.std.proofs.lemmas.List.{map-append}
 use Rattle.worked_chains.proofs.Marks.{beginnings, marked, are_apart, NoneCollide, none_collide, shorter}
-use Rattle.worked_chains.proofs.Spends.{Naming, naming, digest_over, namings, shown, items_of, codes_of, inputs_by, tokens_by, signed_over, tokens_with, tokens_from, inputs_from, lists_from, outpoints_in, sequences_in, outputs_paid, AreWhole, whole_chain}
+use Rattle.worked_chains.proofs.Spends.{Naming, naming, over, digest_over, namings, shown, items_of, codes_of, inputs_by, tokens_by, signed_over, tokens_with, tokens_from, inputs_from, lists_from, outpoints_in, sequences_in, outputs_paid, AreWhole, whole_chain}
 use Rattle.worked_chains.proofs.Checks.{lone, passes, next_one, next_block}
-use Rattle.worked_chains.proofs.Tables.{node, locks, locks_is, keys, keys_is, keys_begin, keys_hashed, once_whole, twice_whole, short_whole, hashes, hashes_is, hashes_begin, hashes_hashed, given_from, granting}
+use Rattle.worked_chains.proofs.Tables.{node, locks, locks_is, keys, keys_is, keys_begin, keys_hashed, once_whole, twice_whole, short_whole, hashes, hashes_is, hashes_begin, hashes_hashed, granting}
 use Rattle.claim.specs.declared.parts.Place.{Place}
 use Rattle.safety.specs.Premises.{shows_given}
-use Rattle.worked_chains.proofs.Recorded.{first_grant, first_funding, first_funding_program, second_grant, second_funding, second_funding_program, first_granted, second_granted, first_home_program, first_opened_digest, first_opened_contents, first_newest_id, first_newest_keys, first_newest_htlc_0, first_newest_htlc_0_program, first_newest_htlc_1, first_newest_htlc_1_program, first_newest_digest, first_newest_stage_0_digest, first_newest_stage_1_digest, first_newest_contents, first_own_contents, second_opened_id, second_opened_keys, second_opened_delayed, second_opened_delayed_program, second_opened_digest, second_opened_stage_1_digest, second_opened_contents, second_newest_digest, second_newest_contents, second_own_contents, by_contents, first_funding_lock, second_funding_lock, first_newest_lock_0, first_newest_lock_1, first_newest_lock_3, second_opened_lock_0}
+use Rattle.worked_chains.proofs.Recorded.{first_granted, second_granted, first_home_program, first_opened_digest, first_newest_id, first_newest_keys, first_newest_htlc_0, first_newest_htlc_0_program, first_newest_htlc_1, first_newest_htlc_1_program, first_newest_digest, first_newest_stage_0_digest, first_newest_stage_1_digest, first_newest_contents, second_opened_id, second_opened_keys, second_opened_delayed, second_opened_delayed_program, second_opened_digest, second_opened_stage_1_digest, second_opened_contents, second_newest_digest, by_contents, first_funding_lock, second_funding_lock, first_newest_lock_0, first_newest_lock_1, first_newest_lock_3, second_opened_lock_0}
+use Rattle.worked_chains.proofs.Closings.{closes_first_input, closes_first, closes_first_is, closes_first_coin, closes_first_runs, closes_second_input, closes_second, closes_second_is, closes_second_coin, closes_second_runs}
+use Rattle.worked_chains.proofs.Numbered.{at, none_numbered, hashed_at}
+use Rattle.worked_chains.proofs.Tokens.{joined, mapped, given_from, given_recorded, first_tokens, second_tokens, points_of, ages_of, payments_of, first_signed, second_signed, first_points, second_points, first_ages, second_ages, first_payments, second_payments}
 
 -- ---- the node, which released nothing
 
@@ -54,21 +55,8 @@ channels = node 1 false (replicate 32 0x50 ∷ []) [] [] None
 abbrev until_0 : List Block
 until_0 = granting ∷ []
 
-abbrev closes_first_input : TxIn
-closes_first_input = record { outpoint = record { txid = first_grant; index = 0 }; sequence = 2157138076; witness = [] ∷ token_of (key 0x10).bytes first_newest_digest ∷ token_of (key 0x20).bytes first_newest_digest ∷ first_funding ∷ [] }
-
-abbrev closes_first : Transaction
-closes_first = lone closes_first_input (map tx_output first_newest_contents.outputs) 540886091
-
-closes_first_is : transaction_id closes_first ≡ first_newest_id
-unfolding sha256 digest_bytes hash_after compress rounds schedule first_words number compact_size bytes_with_length outpoint input output body stripped_spelling transaction_id
-closes_first_is = refl
-
 abbrev before_closes_first : List Block
 before_closes_first = empty ∷ until_0
-
-abbrev closes_first_coin : Coin
-closes_first_coin = record { output = record { value = 100000; script = first_funding_program }; height = 0; spent = false }
 
 closes_first_finds : coin_at before_closes_first closes_first_input.outpoint ≡ Some closes_first_coin
 closes_first_finds = rw first_granted refl
@@ -76,38 +64,17 @@ closes_first_finds = rw first_granted refl
 closes_first_new : has_id before_closes_first (transaction_id closes_first) ≡ false
 closes_first_new = refl
 
-closes_first_runs : coin_refusal 1 closes_first closes_first_input (Some closes_first_coin) ≡ None
-unfolding sha256 digest_bytes hash_after compress rounds schedule first_words ripemd160 left_words right_words left_rotations right_rotations left_constants right_constants block_words left_line right_line blocks ripemd_compress ripemd_hash_after ripemd_digest_bytes number_of digits minimal_bytes_of token_of is_key is_token is_signature lock_passes age_passes multi_sig effect state_after number compact_size bytes_with_length outpoint output all_outpoints all_sequences all_outputs signed_list single_op script_ops given_of run_of
-closes_first_runs = refl
-
 closes_first_passes : transaction_refusal before_closes_first closes_first ≡ None
 closes_first_passes = passes before_closes_first closes_first_input (map tx_output first_newest_contents.outputs) 540886091 closes_first_coin closes_first_new closes_first_finds closes_first_runs refl
 
-abbrev closes_second_input : TxIn
-closes_second_input = record { outpoint = record { txid = second_grant; index = 0 }; sequence = 2159067084; witness = [] ∷ token_of (key 0x30).bytes second_opened_digest ∷ token_of (key 0x40).bytes second_opened_digest ∷ second_funding ∷ [] }
-
-abbrev closes_second : Transaction
-closes_second = lone closes_second_input (map tx_output second_opened_contents.outputs) 549032011
-
-closes_second_is : transaction_id closes_second ≡ second_opened_id
-unfolding sha256 digest_bytes hash_after compress rounds schedule first_words number compact_size bytes_with_length outpoint input output body stripped_spelling transaction_id
-closes_second_is = refl
-
 abbrev before_closes_second : List Block
 before_closes_second = block (closes_first ∷ []) ∷ until_0
-
-abbrev closes_second_coin : Coin
-closes_second_coin = record { output = record { value = 100000; script = second_funding_program }; height = 0; spent = false }
 
 closes_second_finds : coin_at before_closes_second closes_second_input.outpoint ≡ Some closes_second_coin
 closes_second_finds = rw (first_granted, second_granted) refl
 
 closes_second_new : has_id before_closes_second (transaction_id closes_second) ≡ false
 closes_second_new = rw (closes_second_is, closes_first_is) refl
-
-closes_second_runs : coin_refusal 1 closes_second closes_second_input (Some closes_second_coin) ≡ None
-unfolding sha256 digest_bytes hash_after compress rounds schedule first_words ripemd160 left_words right_words left_rotations right_rotations left_constants right_constants block_words left_line right_line blocks ripemd_compress ripemd_hash_after ripemd_digest_bytes number_of digits minimal_bytes_of token_of is_key is_token is_signature lock_passes age_passes multi_sig effect state_after number compact_size bytes_with_length outpoint output all_outpoints all_sequences all_outputs signed_list single_op script_ops given_of run_of
-closes_second_runs = refl
 
 closes_second_passes : transaction_refusal before_closes_second closes_second ≡ None
 closes_second_passes = passes before_closes_second closes_second_input (map tx_output second_opened_contents.outputs) 549032011 closes_second_coin closes_second_new closes_second_finds closes_second_runs refl
@@ -310,17 +277,13 @@ named_is = refl
 abbrev digests : List (List ℕ)
 digests = takes_received_digest ∷ takes_local_digest ∷ takes_offered_digest ∷ takes_remote_digest ∷ second_opened_digest ∷ first_newest_digest ∷ []
 
-digests_are : map digest_over named ≡ digests
-unfolding sha256 digest_bytes hash_after compress rounds schedule first_words number compact_size bytes_with_length outpoint output all_outpoints all_sequences all_outputs signed_list
-digests_are = refl
-
 -- ---- the tokens that it gave out
 
 abbrev given : List GivenToken
-given = given_from [] [] not_closed first_opened_contents first_newest_contents first_own_contents second_opened_contents second_newest_contents second_own_contents
+given = joined first_tokens second_tokens [] [] []
 
 given_is : given_by channels ≡ given
-given_is = by_contents (given_from [] [] not_closed)
+given_is = by_contents (given_from [] [] not_closed) ∙ given_recorded [] [] not_closed
 
 abbrev given_digests : List (List ℕ)
 given_digests = first_opened_digest ∷ first_newest_digest ∷ first_newest_stage_0_digest ∷ first_newest_stage_1_digest ∷ second_opened_digest ∷ second_opened_stage_1_digest ∷ second_newest_digest ∷ []
@@ -329,8 +292,37 @@ abbrev tokens : List (List ℕ)
 tokens = tokens_with given given_digests
 
 given_signed : map signed_over given ≡ given_digests
-unfolding sha256 digest_bytes hash_after compress rounds schedule first_words ripemd160 left_words right_words left_rotations right_rotations left_constants right_constants block_words left_line right_line blocks ripemd_compress ripemd_hash_after ripemd_digest_bytes number compact_size bytes_with_length outpoint input output body stripped_spelling transaction_id digits minimal_bytes_of number_push script_hash_program to_local_script to_remote_script htlc_script transaction_of htlcs_from htlc_tx_of funding_script all_outpoints all_sequences all_outputs signed_list
-given_signed = refl
+given_signed = mapped signed_over first_tokens second_tokens [] [] [] first_signed second_signed refl refl refl
+
+-- each by its number among those of the tokens, or behind them
+abbrev other_lists : List (List ℕ)
+other_lists = list_of (over (naming takes_received takes_received_input first_newest_lock_1)) ∷ list_of (over (naming takes_local takes_local_input second_opened_lock_0)) ∷ list_of (over (naming takes_offered takes_offered_input first_newest_lock_0)) ∷ list_of (over (naming takes_remote takes_remote_input first_newest_lock_3)) ∷ []
+
+abbrev all_lists : List (List ℕ)
+all_lists = tokens_by list_of given ++ other_lists
+
+abbrev shown_numbers : List (List ℕ)
+shown_numbers = (7 ∷ []) ∷ (8 ∷ []) ∷ (9 ∷ []) ∷ (10 ∷ []) ∷ (4 ∷ []) ∷ (1 ∷ []) ∷ []
+
+abbrev given_numbers : List (List ℕ)
+given_numbers = (0 ∷ []) ∷ (1 ∷ []) ∷ (2 ∷ []) ∷ (3 ∷ []) ∷ (4 ∷ []) ∷ (5 ∷ []) ∷ (6 ∷ []) ∷ []
+
+are_shown : map (at [] all_lists) shown_numbers ≡ inputs_by list_of named
+unfolding all_outpoints all_sequences all_outputs signed_list
+are_shown = refl
+
+are_given_lists : map (at [] all_lists) given_numbers ≡ tokens_by list_of given
+are_given_lists = refl
+
+others_signed : map sha256d other_lists ≡ takes_received_digest ∷ takes_local_digest ∷ takes_offered_digest ∷ takes_remote_digest ∷ []
+unfolding sha256 digest_bytes hash_after compress rounds schedule first_words number compact_size bytes_with_length outpoint output all_outpoints all_sequences all_outputs signed_list
+others_signed = refl
+
+all_signed : map sha256d all_lists ≡ given_digests ++ takes_received_digest ∷ takes_local_digest ∷ takes_offered_digest ∷ takes_remote_digest ∷ []
+all_signed = map-append sha256d (tokens_by list_of given) other_lists ∙ ap (λ (ds : List (List ℕ)). ds ++ map sha256d other_lists) given_signed ∙ ap (λ (ds : List (List ℕ)). given_digests ++ ds) others_signed
+
+digests_are : map digest_over named ≡ digests
+digests_are = hashed_at sha256d all_lists shown_numbers (inputs_by list_of named) (given_digests ++ takes_received_digest ∷ takes_local_digest ∷ takes_offered_digest ∷ takes_remote_digest ∷ []) are_shown all_signed
 
 tokens_are : map token_bytes (given_by channels) ≡ tokens
 tokens_are = ap (map token_bytes) given_is ∙ tokens_from given given_digests given_signed
@@ -381,8 +373,7 @@ abbrev points_given : List ℕ
 points_given = 0x0c16bb0e ∷ 0x0c16bb0e ∷ 0x1153e5f3 ∷ 0xf1efbbf6 ∷ 0xb3dbeb72 ∷ 0x9728119d ∷ 0xb3dbeb72 ∷ []
 
 points_of_tokens : beginnings sha256d (tokens_by outpoints_in given) ≡ points_given
-unfolding sha256 digest_bytes hash_after compress rounds schedule first_words ripemd160 left_words right_words left_rotations right_rotations left_constants right_constants block_words left_line right_line blocks ripemd_compress ripemd_hash_after ripemd_digest_bytes number compact_size bytes_with_length outpoint input output body stripped_spelling transaction_id digits minimal_bytes_of number_push script_hash_program to_local_script to_remote_script htlc_script transaction_of htlcs_from htlc_tx_of funding_script all_outpoints all_sequences all_outputs signed_list
-points_of_tokens = refl
+points_of_tokens = mapped points_of first_tokens second_tokens [] [] [] first_points second_points refl refl refl
 
 abbrev ages_shown : List ℕ
 ages_shown = 0x8cb90125 ∷ 0x8cb90125 ∷ 0x8cb90125 ∷ 0x8cb90125 ∷ 0xf0328505 ∷ 0xe118709c ∷ []
@@ -395,8 +386,7 @@ abbrev ages_given : List ℕ
 ages_given = 0xe118709c ∷ 0xe118709c ∷ 0x8cb90125 ∷ 0x8cb90125 ∷ 0xf0328505 ∷ 0x8cb90125 ∷ 0xf0328505 ∷ []
 
 ages_of_tokens : beginnings sha256d (tokens_by sequences_in given) ≡ ages_given
-unfolding sha256 digest_bytes hash_after compress rounds schedule first_words ripemd160 left_words right_words left_rotations right_rotations left_constants right_constants block_words left_line right_line blocks ripemd_compress ripemd_hash_after ripemd_digest_bytes number compact_size bytes_with_length outpoint input output body stripped_spelling transaction_id digits minimal_bytes_of number_push script_hash_program to_local_script to_remote_script htlc_script transaction_of htlcs_from htlc_tx_of funding_script all_outpoints all_sequences all_outputs signed_list
-ages_of_tokens = refl
+ages_of_tokens = mapped ages_of first_tokens second_tokens [] [] [] first_ages second_ages refl refl refl
 
 abbrev payments_shown : List ℕ
 payments_shown = 0xd8aeb114 ∷ 0xd8aeb114 ∷ 0xd8aeb114 ∷ 0xd8aeb114 ∷ 0x4f88120a ∷ 0xa54faaa8 ∷ []
@@ -409,8 +399,7 @@ abbrev payments_given : List ℕ
 payments_given = 0xd64ab62f ∷ 0xa54faaa8 ∷ 0xbf4f8add ∷ 0x9699cb55 ∷ 0x4f88120a ∷ 0x1c10ab3a ∷ 0xf0d37a5d ∷ []
 
 payments_of_tokens : beginnings sha256d (tokens_by outputs_paid given) ≡ payments_given
-unfolding sha256 digest_bytes hash_after compress rounds schedule first_words ripemd160 left_words right_words left_rotations right_rotations left_constants right_constants block_words left_line right_line blocks ripemd_compress ripemd_hash_after ripemd_digest_bytes number compact_size bytes_with_length outpoint input output body stripped_spelling transaction_id digits minimal_bytes_of number_push script_hash_program to_local_script to_remote_script htlc_script transaction_of htlcs_from htlc_tx_of funding_script all_outpoints all_sequences all_outputs signed_list
-payments_of_tokens = refl
+payments_of_tokens = mapped payments_of first_tokens second_tokens [] [] [] first_payments second_payments refl refl refl
 
 scripts_apart : are_apart (marked (items_of named) items_once) (marked (codes_of named) codes_once) ≡ true
 unfolding token_of
@@ -424,20 +413,19 @@ hashes_apart : are_apart (marked (map sha256 (items_of named)) items_short) (mar
 unfolding sha256 digest_bytes hash_after compress rounds schedule first_words token_of htlcs_from
 hashes_apart = refl
 
-lists_apart : are_apart (marked (inputs_by list_of named) lists_shown) (marked (tokens_by list_of given) lists_given) ≡ true
-unfolding sha256 digest_bytes hash_after compress rounds schedule first_words ripemd160 left_words right_words left_rotations right_rotations left_constants right_constants block_words left_line right_line blocks ripemd_compress ripemd_hash_after ripemd_digest_bytes number compact_size bytes_with_length outpoint input output body stripped_spelling transaction_id digits minimal_bytes_of number_push script_hash_program to_local_script to_remote_script htlc_script transaction_of htlcs_from htlc_tx_of funding_script all_outpoints all_sequences all_outputs signed_list
+lists_apart : are_apart (marked shown_numbers lists_shown) (marked given_numbers lists_given) ≡ true
 lists_apart = refl
 
 points_apart : are_apart (marked (inputs_by outpoints_in named) points_shown) (marked (tokens_by outpoints_in given) points_given) ≡ true
-unfolding sha256 digest_bytes hash_after compress rounds schedule first_words ripemd160 left_words right_words left_rotations right_rotations left_constants right_constants block_words left_line right_line blocks ripemd_compress ripemd_hash_after ripemd_digest_bytes number compact_size bytes_with_length outpoint input output body stripped_spelling transaction_id digits minimal_bytes_of number_push script_hash_program to_local_script to_remote_script htlc_script transaction_of htlcs_from htlc_tx_of funding_script all_outpoints all_sequences all_outputs signed_list
+unfolding number compact_size bytes_with_length outpoint output all_outpoints all_sequences all_outputs
 points_apart = refl
 
 ages_apart : are_apart (marked (inputs_by sequences_in named) ages_shown) (marked (tokens_by sequences_in given) ages_given) ≡ true
-unfolding sha256 digest_bytes hash_after compress rounds schedule first_words ripemd160 left_words right_words left_rotations right_rotations left_constants right_constants block_words left_line right_line blocks ripemd_compress ripemd_hash_after ripemd_digest_bytes number compact_size bytes_with_length outpoint input output body stripped_spelling transaction_id digits minimal_bytes_of number_push script_hash_program to_local_script to_remote_script htlc_script transaction_of htlcs_from htlc_tx_of funding_script all_outpoints all_sequences all_outputs signed_list
+unfolding number compact_size bytes_with_length outpoint output all_outpoints all_sequences all_outputs
 ages_apart = refl
 
 payments_apart : are_apart (marked (inputs_by outputs_paid named) payments_shown) (marked (tokens_by outputs_paid given) payments_given) ≡ true
-unfolding sha256 digest_bytes hash_after compress rounds schedule first_words ripemd160 left_words right_words left_rotations right_rotations left_constants right_constants block_words left_line right_line blocks ripemd_compress ripemd_hash_after ripemd_digest_bytes number compact_size bytes_with_length outpoint input output body stripped_spelling transaction_id digits minimal_bytes_of number_push script_hash_program to_local_script to_remote_script htlc_script transaction_of htlcs_from htlc_tx_of funding_script all_outpoints all_sequences all_outputs signed_list
+unfolding number compact_size bytes_with_length outpoint output all_outpoints all_sequences all_outputs
 payments_apart = refl
 
 whole_strings : AreWhole channels keys given named
@@ -448,7 +436,7 @@ whole_strings = record {
   scripts = none_collide sha256 (items_of named) (codes_of named) items_once codes_once items_are codes_are scripts_apart;
   keys_shown = none_collide hash160 (items_of named) keys items_short keys_begin items_are_short keys_hashed keys_apart;
   preimages = subst (λ (xs : List (List ℕ)). NoneCollide ripemd160 (map sha256 (items_of named)) xs) (sym (hashes_is 1 false (replicate 32 0x50 ∷ []) [] [] None)) (none_collide ripemd160 (map sha256 (items_of named)) hashes items_short hashes_begin (shorter (items_of named) ∙ items_are_short) hashes_hashed hashes_apart);
-  lists = none_collide sha256d (inputs_by list_of named) (tokens_by list_of given) lists_shown lists_given lists_are lists_of_tokens lists_apart;
+  lists = none_numbered sha256d all_lists shown_numbers given_numbers (inputs_by list_of named) (tokens_by list_of given) lists_shown lists_given are_shown are_given_lists lists_are lists_of_tokens lists_apart;
   points = none_collide sha256d (inputs_by outpoints_in named) (tokens_by outpoints_in given) points_shown points_given points_are points_of_tokens points_apart;
   ages = none_collide sha256d (inputs_by sequences_in named) (tokens_by sequences_in given) ages_shown ages_given ages_are ages_of_tokens ages_apart;
   payments = none_collide sha256d (inputs_by outputs_paid named) (tokens_by outputs_paid given) payments_shown payments_given payments_are payments_of_tokens payments_apart;

@@ -1,6 +1,6 @@
 -- Why an HTLC that the node offers has to expire above 0, on a chain. The peer takes it with the node's own token on the HTLC-success transaction, and shows no preimage: the way that is the node's once the HTLC
 -- expired asks for that token and for a lock time of at least the expiry. All else that the laws ask is met, and what they say of the output is refuted.
-use Rattle.std.proofs.Common.{◌≡◌, ℕ, Bool, true, false, not, List, [], ◌∷◌, ◌++◌, map, replicate, Some, None, refl}
+use Rattle.std.proofs.Common.{◌≡◌, ℕ, Bool, true, false, not, List, [], ◌∷◌, replicate, None, refl}
 use Rattle.std.specs.Prelude.{◌&&◌}
 use Rattle.std.proofs.lemmas.Bool.{and_parts}
 use Rattle.chain.specs.Blocks.{Contents as Block, grant_id}
