@@ -1,0 +1,2 @@
+pub mod Books
+mod BookExamples

@@ -1,0 +1,10 @@
+pub mod Lists
+pub mod Known
+pub mod Twins
+pub mod Verdicts
+pub mod Counting
+pub mod Filling
+pub mod Passing
+mod DueExamples
+mod WorkedExamples
+mod WorkedPassing

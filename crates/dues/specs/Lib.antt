@@ -1,0 +1,6 @@
+pub mod Breaks
+pub mod Knowing
+pub mod Verdicts
+pub mod Counting
+pub mod Filling
+pub mod Passing
