@@ -187,7 +187,7 @@ ROWS = [
     ("witness --text", ONE + f"0.1 {PROGRAM}\n", "refused BadLine 2\nnote: a value is a whole number of satoshis: 0.1 bitcoins are 10000000\n", 1),
     ("witness --text", ONE + "5 bc1qw508d6qejxtdg4y5r3zarvary0c5xw7kv8f3t4\n", "refused BadLine 2\nnote: this looks like an address: give the output's program, in hexadecimal\n", 1),
     ("witness --text", ONE + "5 0014\n", OTHER_PROGRAM, 1),
-    ("witness --text", ONE + f"5 {PROGRAM}\r\n", "input 0 runs clean on path 0: 0 opcodes counted, 1 elements at most\n", 0),
+    ("witness --text", ONE + f"5 {PROGRAM}\r\n", "input 0 runs clean on path 0: 0 opcodes counted, 1 entry at most\n", 0),
     # first lines that are no transaction
     ("witness --text", "0g\n", "refused BadHex\nnote: the first line has the transaction in hexadecimal (BIP 144)\n", 1),
     ("witness --text", "0x02\n", "refused BadHex\nnote: the transaction begins with 0x: leave that out\n", 1),

@@ -20,7 +20,7 @@ use Rattle.claim.specs.Claims.{ClaimParts, FitsClaim, IsWhole}
 use Rattle.forms.specs.Forms.{to_local_form}
 use Rattle.commit.specs.Commitments.{Contents}
 use Rattle.penalty.specs.Claimable.{Claimable}
-use Rattle.world.specs.Enforcement.{IsDue, Passes, ClaimsSpend}
+use Rattle.safety.specs.Enforcement.{IsDue, Passes, ClaimsSpend}
 use Rattle.world.specs.Taken.{HasWaitedOn}
 use Rattle.bounds.proofs.Samples.{empty}
 

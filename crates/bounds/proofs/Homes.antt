@@ -17,6 +17,7 @@ use Rattle.running.specs.Crews.{payments_in, IsKeepOrRelease, KeepsAndReleases}
 use Rattle.running.specs.Playing.{AreAllPlayed}
 use Rattle.running.specs.Homes.{ends_a, ends_b, IsHome, IsNoSeats, AreHome}
 use Rattle.running.specs.Reports.{IsLeft, IsOfThreads, IsCounted, IsTurns, AreTurns, MakesTurns, IsRun}
+use Rattle.running.specs.Outcomes.{IsChainPlayed}
 use Rattle.bounds.proofs.Samples.{argument_of}
 
 -- yes: IsHome, by crates/running/proofs/ReportExamples.antt: home
@@ -30,6 +31,40 @@ use Rattle.bounds.proofs.Samples.{argument_of}
 -- no: KeepsAndReleases, by crates/running/proofs/ReportExamples.antt: signs_too
 -- yes: IsKeepOrRelease, by crates/running/proofs/ReportExamples.antt: pays_itself
 -- no: IsKeepOrRelease, by crates/running/proofs/ReportExamples.antt: in_no_channel
+-- yes: IsReorgOutcome, by crates/running/proofs/OutcomeExamples.antt: none_replaced
+-- no: IsReorgOutcome, by crates/running/proofs/OutcomeExamples.antt: told_as_replaced
+-- yes: IsOutcome, by crates/running/proofs/OutcomeExamples.antt: blocks_made
+-- no: IsOutcome, by crates/running/proofs/OutcomeExamples.antt: told_as_another
+-- yes: PlaysChain, by crates/running/proofs/OutcomeExamples.antt: one_played
+-- no: PlaysChain, by crates/running/proofs/OutcomeExamples.antt: untold
+-- yes: IsChainPlayed, by crates/running/proofs/OutcomeExamples.antt: all_told
+-- no: IsChainPlayed, by crates/running/proofs/OutcomeExamples.antt: one_untold
+-- yes: MaySignIf, by crates/publish/proofs/KnownExamples.antt: a_key
+-- no: MaySignIf, by crates/publish/proofs/KnownExamples.antt: no_key
+-- yes: IsSignedWhere, by crates/publish/proofs/KnownExamples.antt: given
+-- no: IsSignedWhere, by crates/publish/proofs/KnownExamples.antt: not_without_right
+-- yes: IsKnownIn, by crates/running/proofs/BroadcastExamples.antt: known_there
+-- no: IsKnownIn, by crates/running/proofs/BroadcastExamples.antt: known_nowhere
+-- yes: GoesOnWith, by crates/running/proofs/BroadcastExamples.antt: shown_later
+-- no: GoesOnWith, by crates/running/proofs/BroadcastExamples.antt: forgotten
+-- yes: IsCommitmentOf, by crates/running/proofs/BroadcastExamples.antt: no_commitment
+-- no: IsCommitmentOf, by crates/running/proofs/BroadcastExamples.antt: a_commitment
+-- yes: IsHtlcTxOf, by crates/running/proofs/BroadcastExamples.antt: no_htlc
+-- no: IsHtlcTxOf, by crates/running/proofs/BroadcastExamples.antt: an_htlc
+-- yes: IsSignedBy, by crates/running/proofs/BroadcastExamples.antt: none_signed
+-- no: IsSignedBy, by crates/running/proofs/BroadcastExamples.antt: one_signed
+-- yes: IsFoundBy, by crates/running/proofs/BroadcastExamples.antt: not_found
+-- no: IsFoundBy, by crates/running/proofs/BroadcastExamples.antt: found
+-- yes: IsBroadcastOf, by crates/running/proofs/BroadcastExamples.antt: not_there
+-- no: IsBroadcastOf, by crates/running/proofs/BroadcastExamples.antt: refused_otherwise
+-- yes: IsBroadcast, by crates/running/proofs/BroadcastExamples.antt: no_channel
+-- no: IsBroadcast, by crates/running/proofs/BroadcastExamples.antt: no_transaction
+-- yes: IsBroadcastOutcome, by crates/running/proofs/BroadcastExamples.antt: told
+-- no: IsBroadcastOutcome, by crates/running/proofs/BroadcastExamples.antt: not_told
+-- yes: IsMiningOutcome, by crates/running/proofs/BroadcastExamples.antt: mined
+-- no: IsMiningOutcome, by crates/running/proofs/BroadcastExamples.antt: too_deep
+-- yes: IsOutcomeOf, by crates/running/proofs/BroadcastExamples.antt: of_no_broadcast
+-- no: IsOutcomeOf, by crates/running/proofs/BroadcastExamples.antt: refused_without_one
 
 -- what a channel's thread gives back
 abbrev PlayedLine : Type 0
@@ -158,9 +193,19 @@ signed_by_a_worker t =
 module _ (a b : History) (channels : ℕ) (events : List Event) (r : Report) where
   -- yes: IsRun
   is_run : (lines : List PlayedLine) → IsLeft a r.a → IsLeft b r.b → AreAllPlayed a b channels events lines → map (λ p. p.counts) lines ≡ r.channels.items → All IsCounted lines → All MakesTurns lines
-      → IsOfThreads a r.a (ends_a lines) → IsOfThreads b r.b (ends_b lines) → IsRun a b channels events r
-  is_run lines left_a left_b played counts entered turns of_a of_b =
-      record { a_left = left_a; b_left = left_b; lines = lines; played = played; counts = counts; entered = entered; turns = turns; a_threads = of_a; b_threads = of_b }
+      → IsChainPlayed a b events r.outcomes.items r.a r.b → IsOfThreads a r.a (ends_a lines) → IsOfThreads b r.b (ends_b lines) → IsRun a b channels events r
+  is_run lines left_a left_b played counts entered turns chain of_a of_b = record {
+    a_left = left_a;
+    b_left = left_b;
+    lines = lines;
+    played = played;
+    counts = counts;
+    entered = entered;
+    turns = turns;
+    chain = chain;
+    a_threads = of_a;
+    b_threads = of_b;
+  }
 
   -- no: IsRun
   b_forgets : length b ≡ 2 → length r.b ≡ 1 → IsRun a b channels events r → ⊥

@@ -7,6 +7,7 @@ mod Scripts
 mod Claims
 mod Views
 mod Takers
+mod Strings
 mod Sides
 mod Dues
 mod Events

@@ -49,7 +49,7 @@ use Rattle.world.specs.Worlds.{World, Node, Line}
 use Rattle.world.specs.Pairing.{AreEnds, IsShutOut}
 use Rattle.world.specs.Releasing.{IsFillingIn}
 use Rattle.world.specs.Taken.{IsRevokedTo, HasWaitedOn, IsHashedIn}
-use Rattle.world.specs.Enforcement.{IsDue, Passes}
+use Rattle.safety.specs.Enforcement.{IsDue, Passes}
 use Rattle.world.specs.Steps.{receipt_refusal, refusal_of, Runs, ends, goes_on}
 use Rattle.world.specs.Theorem.{claims_of, ShutsOut, HoldsAt, IsPlay, WorldsHold}
 use Rattle.bounds.proofs.Samples.{nobody, empty, world_of}

@@ -54,7 +54,7 @@ use Rattle.safety.specs.Takers.{IsHtlcTransaction, AreOneByNumber, OwnersWay}
 use Rattle.safety.specs.Taken.{ChannelRecord, IsIn, IsOwn, IsSound, ChannelRecords, AreSound, IsDueTo, of_own, of_peers, of_revoked as of_revoked_claim, IsFilledBy, Fillings, AreFilled, IsFrom, from_commitment, from_htlc, from_filling, IsHashedForChannels, of_commitment, of_seed, of_grant, IsTaker, IsTakenOn}
 use Rattle.safety.specs.Waiting.{FitsOne}
 use Rattle.safety.proofs.Lists.{none_some, contains_none}
-use Rattle.world.specs.Enforcement.{IsTime}
+use Rattle.safety.specs.Enforcement.{IsTime}
 use Rattle.bounds.proofs.Samples.{empty}
 
 -- yes: HasCommitment, by crates/safety/proofs/ChainExamples.antt: chain

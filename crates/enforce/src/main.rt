@@ -38,7 +38,14 @@ fn main(rt: HostRuntime) -> ExitCode {
     }
     let mut input = Kept::new(rt.alloc(), rt.stdin());
     let status = match workers_in(words.as_slice()) {
-        Some(workers) => run_word(&rt, rt.alloc(), workers, &mut input, &mut rt.stdout()),
+        Some(workers) => run_word(
+            &rt,
+            rt.alloc(),
+            workers,
+            &mut input,
+            &mut rt.stdout(),
+            &mut rt.stderr(),
+        ),
         None => run_words(
             rt.alloc(),
             words.as_slice(),

@@ -26,6 +26,7 @@ use crate::answers::{Command, answer};
 pub use endings::push_all_kept;
 pub use errors::CommandError;
 pub use playing::scenario_in;
+pub use refused::note_refused;
 pub use script_words::{USAGE, finish, refuse_memory, refuse_words};
 use std::alloc::Global;
 use std::io::{Read, Write};
@@ -48,13 +49,13 @@ pub fn run_words<R: Read, W: Write, E: Write>(
     let mut note = String::new(alloc);
     let text = answer(alloc, &command, input, &mut note);
     let status = finish(alloc, out, text);
-    say(err, note.as_str());
+    say_notes(err, note.as_str());
     status
 }
 
-// Writes a note, if there is one.
-fn say<E: Write>(err: &mut E, note: &str) {
-    if !note.is_empty() {
-        let _ = err.write_all(note.as_bytes());
+/// Writes notes, if there are any. Where that fails, nothing else changes.
+pub fn say_notes<E: Write>(err: &mut E, notes: &str) {
+    if !notes.is_empty() {
+        let _ = err.write_all(notes.as_bytes());
     }
 }

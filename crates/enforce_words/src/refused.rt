@@ -29,6 +29,17 @@ pub fn first_refused(
     Ok(note)
 }
 
+/// Notes an event that was refused, as it stands in the scenario, and why. The only error is that memory ran out.
+pub fn note_refused(
+    note: &mut String,
+    index: usize,
+    event: &Event,
+    error: &EventError,
+) -> Result<(), AllocError> {
+    write!(note, "note: event {index} was refused, {error}: ")?;
+    write_event(note, event)
+}
+
 // Notes which event was refused, and why.
 fn note_event(
     note: &mut String,

@@ -1,14 +1,14 @@
 //! The word `node` of the program `enforce`: it plays a scenario in threads and prints how things stand at the end.
 //!
 //! `enforce node N` runs N workers a side, from 1 to 16. [`workers_in`] tells the word, and [`run_word`] does what it says,
-//! over any reader and writer. It reads and refuses input as `enforce run` does. Its text is tested, not proved. It stands
+//! over any reader and writers. It reads and refuses input as `enforce run` does. Its text is tested, not proved. It stands
 //! apart from the other words, since it alone starts threads and may wait.
 //!
 //! `enforce_words` reads the scenario and writes the text, and `running` plays it. The program `enforce` calls it.
 //!
 //! ```text
 //! let status = match workers_in(words) {
-//!     Some(workers) => run_word(&rt, alloc, workers, &mut input, &mut out),
+//!     Some(workers) => run_word(&rt, alloc, workers, &mut input, &mut out, &mut err),
 //!     None => run_words(alloc, words, &mut input, &mut out, &mut err),
 //! };
 //! ```
@@ -22,8 +22,8 @@ mod gates;
 mod lines;
 
 use crate::gates::Open;
-use crate::lines::text_of;
-use enforce_words::{CommandError, finish, scenario_in};
+use crate::lines::{notes_of, text_of};
+use enforce_words::{CommandError, finish, say_notes, scenario_in};
 use running::run_node;
 use std::alloc::Global;
 use std::io::{Read, Write};
@@ -76,34 +76,43 @@ pub fn workers_in(words: &[String]) -> Option<u16>
     }
 }
 
-// The text that is printed. Blocks until all threads of the node have ended.
+// The text that is printed. The notes on refused events of the chain are appended to `notes`, unless memory runs out in them. Blocks until all threads of the node have ended.
 fn answer<R: Threads + Wait + Sync, I: Read>(
     rt: &R,
     alloc: Global,
     workers: u16,
     input: &mut I,
+    notes: &mut String,
 ) -> Result<String, CommandError>
     requires some { 0 < workers }
     requires few { workers ≤ 16 }
 {
     let scenario = scenario_in(alloc, input)?;
     let report = run_node(rt, alloc, &scenario, workers, &Open)?;
-    Ok(text_of(alloc, &report)?)
+    let text = text_of(alloc, &report)?;
+    if let Ok(lines) = notes_of(alloc, scenario.events.values(), &report) {
+        let _ = notes.push_str(lines.as_str());
+    }
+    Ok(text)
 }
 
 /// Plays the scenario in the input with this number of workers a side, and returns the status: 0 when played, 1 where the input is refused, memory ran out, a thread can't be started,
-/// or a write fails.
-pub fn run_word<R: Threads + Wait + Sync, I: Read, W: Write>(
+/// or a write fails. A note on each event of the chain that was refused is written to `err` after it; where these notes can't be made or written, nothing else changes.
+pub fn run_word<R: Threads + Wait + Sync, I: Read, W: Write, E: Write>(
     rt: &R,
     alloc: Global,
     workers: u16,
     input: &mut I,
     out: &mut W,
+    err: &mut E,
 ) -> u8
     requires some { 0 < workers }
     requires few { workers ≤ 16 }
     ensures { result ≤ 1 }
 {
-    let text = answer(rt, alloc, workers, input);
-    finish(alloc, out, text)
+    let mut notes = String::new(alloc);
+    let text = answer(rt, alloc, workers, input, &mut notes);
+    let status = finish(alloc, out, text);
+    say_notes(err, notes.as_str());
+    status
 }

@@ -1,7 +1,8 @@
 // The lines that are printed.
 
-use enforce_words::push_all_kept;
+use enforce_words::{note_refused, push_all_kept};
 use running::Report;
+use scenario::Event;
 use std::alloc::{AllocError, Global};
 use std::fmt::Write;
 
@@ -14,6 +15,21 @@ pub(crate) fn text_of(alloc: Global, report: &Report) -> Result<String, AllocErr
     push_all_kept(&mut text, "A", &report.a)?;
     push_all_kept(&mut text, "B", &report.b)?;
     Ok(text)
+}
+
+/// The notes on the events of the chain that were refused, a line each. The only error is that memory ran out.
+pub(crate) fn notes_of(
+    alloc: Global,
+    events: &[Event],
+    report: &Report,
+) -> Result<String, AllocError> {
+    let mut notes = String::new(alloc);
+    for (index, event) in events.iter().enumerate() {
+        if let Some(Some(error)) = report.outcomes.get(index) {
+            note_refused(&mut notes, index, event, error)?;
+        }
+    }
+    Ok(notes)
 }
 
 // Appends how many events of each channel were played and refused.

@@ -10,8 +10,11 @@ pub mod Finding
 pub mod Payments
 pub mod Seating
 pub mod Broadcasting
+pub mod Outcomes
 pub mod Entered
 pub mod Serving
 pub mod Homing
 pub mod Turns
 mod ReportExamples
+mod OutcomeExamples
+mod BroadcastExamples

@@ -1,15 +1,16 @@
 -- What a whole run leaves.
-use Rattle.std.proofs.Common.{◌≡◌, ℕ, ◌+◌, List, [], ◌∷◌, ◌++◌, length, map, All, Result, Ok, Err, refl, ◌∙◌, subst, arith, length-append}
+use Rattle.std.proofs.Common.{◌≡◌, ℕ, ◌+◌, List, [], ◌∷◌, ◌++◌, length, map, All, Result, Ok, Err, Option, Some, refl, sym, ◌∙◌, subst, arith, append_assoc, length-append}
 use Rattle.std.specs.declared.alloc.AllocError.{AllocError}
 use Rattle.std.specs.Prelude.{IfOk}
 use Rattle.std.proofs.lemmas.List.{length-map}
-use Rattle.std.proofs.lemmas.List.Elements.{All-nil, All-cons, All-append, All-map, All-weaker}
+use Rattle.std.proofs.lemmas.List.Elements.{All-nil, All-cons, All-append, All-pop, All-map, All-weaker}
 use Rattle.scenario.specs.declared.events.Event.{Event}
 use Rattle.scenario.specs.declared.scenarios.Scenario.{Scenario}
 use Rattle.book.specs.Books.{replay}
 use Rattle.desk.specs.declared.desk.Seat.{Seat}
-use Rattle.desk.specs.Histories.{History}
-use Rattle.desk.specs.Seats.{opening_in}
+use Rattle.desk.specs.Histories.{History, GoesOn}
+use Rattle.desk.specs.Seats.{last_in, opening_in}
+use Rattle.world.specs.declared.errors.EventError.{EventError}
 use Rattle.world.specs.declared.taken_apart.BooksAndChain.{BooksAndChain}
 use Rattle.running.specs.declared.beginning.Opened.{Opened}
 use Rattle.running.specs.declared.houses.Office.{Office}
@@ -21,7 +22,8 @@ use Rattle.running.specs.declared.homes.Returned.{Returned}
 use Rattle.running.specs.declared.runs.Report.{Report}
 use Rattle.running.specs.Beginning.{IsBegun, IsOpened}
 use Rattle.running.specs.Crews.{payments_in, payment_bytes, PaysItself, ClosesAfter, IsLone, KeepsAndReleases, HasServed, seat_in}
-use Rattle.running.specs.Homes.{IsLonePair, IsIdleSeat, HaveServed, ends_a, ends_b, seats_a, seats_b}
+use Rattle.running.specs.Homes.{IsLonePair, IsIdleSeat, HaveServed, IsHome, AreHome, ends_a, ends_b, seats_a, seats_b}
+use Rattle.running.specs.Outcomes.{PlaysChain}
 use Rattle.running.specs.Reports.{IsLeft, IsPlayedOut, IsSettled, IsOfThreads, IsRun, IsReport}
 use Rattle.running.proofs.Playing.{counted_all, channels_many}
 use Rattle.running.proofs.Entered.{entered}
@@ -48,20 +50,33 @@ all_worked office keys staff player same served idle =
     (All-weaker (HasServed office) (λ (s : Served). P (seat_in s)) (λ s is. subst (λ (ks : List (List ℕ)). KeepsAndReleases ks (seat_in s)) same is.work) staff served))
     (All-cons P player [] (idle_worked keys player idle.calls) (All-nil P))
 
-of_threads : (office : Office) (closer player : Seat) (channels workers : ℕ) (ends : List Seat) (staff : List Served) (book : History) → ClosesAfter office (channels + workers + 2) closer → PaysItself office closer
-    → length ends ≡ channels → All (IsLone office.desk) ends → HaveServed office (workers + 1) staff → IsIdleSeat office.desk player
-    → IsSettled office closer (ends ++ (map seat_in staff ++ player ∷ [])) book → IsOfThreads (opening_in closer) book ends
-of_threads office closer player channels workers ends staff book closes pays many lines served idle settled =
+all_home : (office : Office) (closer player : Seat) (channels workers : ℕ) (ends : List Seat) (staff : List Served) (book : History) → ClosesAfter office (channels + workers + 2) closer → length ends ≡ channels
+    → All (IsLone office.desk) ends → HaveServed office (workers + 1) staff → IsIdleSeat office.desk player → IsSettled office closer (ends ++ (map seat_in staff ++ player ∷ [])) book
+    → AreHome (opening_in closer) book (ends ++ (map seat_in staff ++ player ∷ []))
+all_home office closer player channels workers ends staff book closes many lines served idle settled =
     let others = map seat_in staff ++ player ∷ [] in
     let few : length (map seat_in staff ++ player ∷ []) ≡ workers + 2 = omega (arith, length-append (map seat_in staff) (player ∷ []), length-map staff seat_in, served.many) in
     let all : length (ends ++ (map seat_in staff ++ player ∷ [])) ≡ channels + workers + 2 = omega (arith, length-append ends (map seat_in staff ++ player ∷ []), few, many) in
     let top = closes.top in
-    record {
-      others = others;
-      work = all_worked office (payments_in (replay (opening_in closer))) staff player pays served.each idle;
-      home = are_home office.desk closer settled.after (ends ++ others) book closes.new.calls closes.new.heard closes.last (omega (arith, all, top))
-          (all_lone office ends staff player lines served.each idle) settled.takes settled.closed;
-    }
+    are_home office.desk closer settled.after (ends ++ others) book closes.new.calls closes.new.heard closes.last (omega (arith, all, top)) (all_lone office ends staff player lines served.each idle) settled.takes
+    settled.closed
+
+of_threads : (office : Office) (closer player : Seat) (ends : List Seat) (staff : List Served) (book : History) → PaysItself office closer → All (HasServed office) staff → IsIdleSeat office.desk player
+    → AreHome (opening_in closer) book (ends ++ (map seat_in staff ++ player ∷ [])) → IsOfThreads (opening_in closer) book ends
+of_threads office closer player ends staff book pays served idle home = record {
+  others = map seat_in staff ++ player ∷ [];
+  work = all_worked office (payments_in (replay (opening_in closer))) staff player pays served idle;
+  home = home;
+}
+
+-- the book goes on from what the player last saw
+player_since : (opening book : History) (player : Seat) (ends : List Seat) (staff : List Served) → AreHome opening book (ends ++ (map seat_in staff ++ player ∷ [])) → GoesOn (last_in player) book
+player_since opening book player ends staff are =
+    let P : Seat → Type 0 = IsHome opening book in
+    let before = ends ++ map seat_in staff in
+    let all : All P (before ++ player ∷ []) = subst (All P) (sym (append_assoc ends (map seat_in staff) (player ∷ []))) are.home in
+    let own : IsHome opening book player = (All-pop P (before ++ player ∷ []) before (Some player) refl all).1 in
+    own.since
 
 -- ---- both sides
 
@@ -74,11 +89,14 @@ lone_b house lines all = All-map (IsLone house.b.desk) (λ (p : PlayedLine). p.b
 pub has_run : (house : House) (closers : Closers) (channels workers : ℕ) (events : List Event) (r : Returned) (result : Result Report AllocError) → ClosesAfter house.a (channels + workers + 2) closers.a
     → ClosesAfter house.b (channels + workers + 2) closers.b → PaysItself house.a closers.a → PaysItself house.b closers.b → IsPlayedOut house closers channels workers events r
     → IfOk result (λ x. IsSettled house.a closers.a (seats_a r) x.a) → IfOk result (λ x. IsSettled house.b closers.b (seats_b r) x.b) → IfOk result (λ x. map (λ p. p.counts) r.played.lines.items ≡ x.channels.items)
-    → IfOk result (IsRun (opening_in closers.a) (opening_in closers.b) channels events)
-has_run house closers channels workers events r (Err e) a b pays_a pays_b out settled_a settled_b counts = settled_a
-has_run house closers channels workers events r (Ok x) a b pays_a pays_b out settled_a settled_b counts =
+    → IfOk result (λ x. x.outcomes.items ≡ r.played.outcomes.items) → IfOk result (IsRun (opening_in closers.a) (opening_in closers.b) channels events)
+has_run house closers channels workers events r (Err e) a b pays_a pays_b out settled_a settled_b counts outcomes = settled_a
+has_run house closers channels workers events r (Ok x) a b pays_a pays_b out settled_a settled_b counts outcomes =
     let lines = r.played.lines.items in
     let many = channels_many (opening_in closers.a) (opening_in closers.b) channels events lines out.played in
+    let player = r.played.player in
+    let home_a = all_home house.a closers.a player.a channels workers (ends_a lines) r.staff_a.items x.a a (length-map lines (λ (p : PlayedLine). p.a) ∙ many) (lone_a house lines out.lines) out.staff_a out.player.a settled_a in
+    let home_b = all_home house.b closers.b player.b channels workers (ends_b lines) r.staff_b.items x.b b (length-map lines (λ (p : PlayedLine). p.b) ∙ many) (lone_b house lines out.lines) out.staff_b out.player.b settled_b in
     record {
       a_left = subst (λ (h : History). IsLeft h x.a) settled_a.takes.opening settled_a.left;
       b_left = subst (λ (h : History). IsLeft h x.b) settled_b.takes.opening settled_b.left;
@@ -87,8 +105,15 @@ has_run house closers channels workers events r (Ok x) a b pays_a pays_b out set
       counts = counts;
       entered = entered (opening_in closers.a) (opening_in closers.b) events out.played.lines lines out.played.first out.played.each;
       turns = each_makes (opening_in closers.a) (opening_in closers.b) events out.played.lines lines out.played.first out.played.each;
-      a_threads = of_threads house.a closers.a r.played.player.a channels workers (ends_a lines) r.staff_a.items x.a a pays_a (length-map lines (λ (p : PlayedLine). p.a) ∙ many) (lone_a house lines out.lines) out.staff_a out.player.a settled_a;
-      b_threads = of_threads house.b closers.b r.played.player.b channels workers (ends_b lines) r.staff_b.items x.b b pays_b (length-map lines (λ (p : PlayedLine). p.b) ∙ many) (lone_b house lines out.lines) out.staff_b out.player.b settled_b;
+      chain = record {
+        after_a = last_in player.a;
+        after_b = last_in player.b;
+        plays = subst (λ (os : List (Option EventError)). PlaysChain events (opening_in closers.a) (opening_in closers.b) os (last_in player.a) (last_in player.b)) (sym outcomes) out.chain;
+        since_a = player_since (opening_in closers.a) x.a player.a (ends_a lines) r.staff_a.items home_a;
+        since_b = player_since (opening_in closers.b) x.b player.b (ends_b lines) r.staff_b.items home_b;
+      };
+      a_threads = of_threads house.a closers.a player.a (ends_a lines) r.staff_a.items x.a pays_a out.staff_a.each out.player.a home_a;
+      b_threads = of_threads house.b closers.b player.b (ends_b lines) r.staff_b.items x.b pays_b out.staff_b.each out.player.b home_b;
     }
 
 -- ---- the report

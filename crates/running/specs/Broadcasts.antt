@@ -1,5 +1,5 @@
 -- What a side broadcasts.
-use Rattle.std.specs.Prelude.{◌≡◌, ℕ, List, ◌++◌, length, Option, Some, None, slice_get}
+use Rattle.std.specs.Prelude.{◌≡◌, ℕ, List, ◌++◌, length, Option, Some, None, Result, Err, ok_or, slice_get}
 use Rattle.tx.specs.Fields.{Transaction}
 use Rattle.resolve.specs.declared.known.Known.{Known}
 use Rattle.publish.specs.Known.{commitment_known, htlc_tx_known, commitment_key, htlc_key, MaySignIf, IsSignedWhere}
@@ -8,6 +8,8 @@ use Rattle.scenario.specs.declared.events.Event.TheVariants as events
 use Rattle.book.specs.Books.{ChannelBook, replay}
 use Rattle.book.specs.Knowing.{IsKnownIn}
 use Rattle.desk.specs.Histories.{History}
+use Rattle.world.specs.declared.errors.EventError.{EventError}
+use Rattle.world.specs.declared.errors.EventError.TheVariants.{NoSuchChannel, NoSuchTx}
 use Rattle.running.specs.declared.players.Broadcast.{Broadcast}
 use Rattle.running.specs.declared.players.Choice.{Choice}
 use Rattle.running.specs.declared.players.Choice.TheVariants.{Commitment, Newest, HtlcTx}
@@ -43,10 +45,14 @@ IsSignedBy known (Commitment number) answer = IsCommitmentOf known number answer
 IsSignedBy known Newest answer = IsCommitmentOf known (newest_of known) answer
 IsSignedBy known (HtlcTx number htlc) answer = IsHtlcTxOf known number htlc answer
 
--- the same of a channel in a history; nothing where there is no such channel
-abbrev pub IsBroadcastOf : History → Broadcast → Option ChannelBook → Option Transaction → Type 0
-IsBroadcastOf history b None answer = answer ≡ None
-IsBroadcastOf history b (Some ch) answer = (known : Known) × IsKnownIn history b.channel (Some ch) known × IsSignedBy known b.choice answer
+-- the same, or NoSuchTx where the side does not have it
+abbrev pub IsFoundBy : Known → Choice → Result Transaction EventError → Type 0
+IsFoundBy known choice answer = (tx : Option Transaction) × IsSignedBy known choice tx × (answer ≡ ok_or tx NoSuchTx)
 
-abbrev pub IsBroadcast : History → Broadcast → Option Transaction → Type 0
+-- the same of a channel in a history: NoSuchChannel, NoSuchTx
+abbrev pub IsBroadcastOf : History → Broadcast → Option ChannelBook → Result Transaction EventError → Type 0
+IsBroadcastOf history b None answer = answer ≡ Err NoSuchChannel
+IsBroadcastOf history b (Some ch) answer = (known : Known) × IsKnownIn history b.channel (Some ch) known × IsFoundBy known b.choice answer
+
+abbrev pub IsBroadcast : History → Broadcast → Result Transaction EventError → Type 0
 IsBroadcast history b answer = IsBroadcastOf history b (slice_get (replay history) b.channel) answer

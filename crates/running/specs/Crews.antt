@@ -11,8 +11,8 @@ use Rattle.board.specs.declared.board.Board.{Board}
 use Rattle.board.specs.Seats as board_seats
 use Rattle.desk.specs.declared.desk.Seat.{Seat}
 use Rattle.desk.specs.declared.desk.Desk.{Desk}
-use Rattle.desk.specs.Histories.{first_seat}
-use Rattle.desk.specs.Seats.{IsSeatOf, IsNewSeatOf, HasSameCalls, number_in, calls_in, opening_in, heard_in, is_last_in}
+use Rattle.desk.specs.Histories.{GoesOn, first_seat}
+use Rattle.desk.specs.Seats.{IsSeatOf, IsNewSeatOf, HasSameCalls, number_in, calls_in, last_in, opening_in, heard_in, is_last_in}
 use Rattle.side.specs.declared.due.DueClaim.{DueClaim}
 use Rattle.side.specs.Batches.{claims_in, preimages_for, output_for}
 use Rattle.jobs.specs.Ends.{PutsWith, TakesWith, IsOneQueue}
@@ -114,10 +114,12 @@ pub record IsPlayer (house : House) (p : Player) : Type 0 where
   pub b : IsSeatOf house.b.desk p.b
   pub place : board_seats.IsSeatOf house.board p.place
 
--- the thread that plays the events of the chain makes no call
+-- the thread that plays the events of the chain makes no call, and what it sees of the two books goes on
 pub record GoesOnPlaying (house : House) (before after : Player) : Type 0 where
   pub a : HasSameCalls house.a.desk before.a after.a
   pub b : HasSameCalls house.b.desk before.b after.b
+  pub since_a : GoesOn (last_in before.a) (last_in after.a)
+  pub since_b : GoesOn (last_in before.b) (last_in after.b)
   pub place : board_seats.IsSeatOf house.board after.place
 
 -- the funding outputs that a side's watcher follows are those of the book with which the seat's desk was made

@@ -20,6 +20,7 @@ use Rattle.running.specs.declared.homes.Returned.{Returned}
 use Rattle.running.specs.declared.crews.Crew.{Crew}
 use Rattle.running.specs.Crews.{IsLone, HasServed, seat_in}
 use Rattle.running.specs.Playing.{ArePlayed}
+use Rattle.running.specs.Outcomes.{PlaysChain}
 
 -- ---- the seats of a side
 
@@ -95,11 +96,12 @@ pub record IsLonePair (house : House) (p : PlayedLine) : Type 0 where
   pub a : IsLone house.a.desk p.a
   pub b : IsLone house.b.desk p.b
 
--- what the threads that play events give back, which had these lines: the channels' threads, and the one that played the events of the chain
-pub record HavePlayed (house : House) (events : List Event) (lines : List Line) (p : PlayedEvents) : Type 0 where
+-- what the threads that play events give back, which had these lines and this player: the channels' threads, and the one that played the events of the chain
+pub record HavePlayed (house : House) (events : List Event) (lines : List Line) (first : Player) (p : PlayedEvents) : Type 0 where
   pub each : ArePlayed events lines p.lines.items
   pub seats : All (IsLonePair house) p.lines.items
   pub player : IsHandedBack house p.player
+  pub chain : PlaysChain events (last_in first.a) (last_in first.b) p.outcomes.items (last_in p.player.a) (last_in p.player.b)
 
 -- what a side's workers and its watcher give back, which are as many
 pub record HaveServed (office : Office) (count : ℕ) (staff : List Served) : Type 0 where
@@ -108,6 +110,6 @@ pub record HaveServed (office : Office) (count : ℕ) (staff : List Served) : Ty
 
 -- what all threads of a crew give back
 pub record HasReturned (house : House) (events : List Event) (c : Crew) (r : Returned) : Type 0 where
-  pub played : HavePlayed house events c.lines.items r.played
+  pub played : HavePlayed house events c.lines.items c.player r.played
   pub staff_a : HaveServed house.a (length c.staff_a.items) r.staff_a.items
   pub staff_b : HaveServed house.b (length c.staff_b.items) r.staff_b.items

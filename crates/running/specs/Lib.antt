@@ -5,5 +5,6 @@ pub mod Acting
 pub mod Playing
 pub mod Homes
 pub mod Broadcasts
+pub mod Outcomes
 pub mod Beginning
 pub mod Reports

@@ -8,7 +8,7 @@ use Rattle.book.specs.declared.calls.Call.{Call}
 use Rattle.book.specs.declared.calls.Call.TheVariants.{Open, Keep, Release}
 use Rattle.desk.specs.declared.desk.Seat.{Seat}
 use Rattle.desk.specs.Histories.{History, GoesOn}
-use Rattle.desk.specs.Seats.{calls_in, opening_in}
+use Rattle.desk.specs.Seats.{calls_in, last_in, opening_in}
 use Rattle.scenario.specs.declared.events.Event.{Event}
 use Rattle.scenario.specs.declared.scenarios.Scenario.{Scenario}
 use Rattle.world.specs.Worlds.{World}
@@ -23,6 +23,7 @@ use Rattle.running.specs.declared.runs.Report.{Report}
 use Rattle.running.specs.Events.{all_turns}
 use Rattle.running.specs.Crews.{payments_in, KeepsAndReleases}
 use Rattle.running.specs.Playing.{AreAllPlayed}
+use Rattle.running.specs.Outcomes.{PlaysChain, IsChainPlayed}
 use Rattle.running.specs.Homes.{TakesEach, IsClosedBy, AreHome, IsLonePair, IsHandedBack, HaveServed, ends_a, ends_b}
 
 -- a book that threads leave: it goes on from the one that was opened, each call in it was accepted, none is a signature that the penalties of a revoked commitment had to come before, and each
@@ -41,6 +42,7 @@ pub record IsPlayedOut (house : House) (closers : Closers) (channels workers : �
   pub played : AreAllPlayed (opening_in closers.a) (opening_in closers.b) channels events r.played.lines.items
   pub lines : All (IsLonePair house) r.played.lines.items
   pub player : IsHandedBack house r.played.player
+  pub chain : PlaysChain events (opening_in closers.a) (opening_in closers.b) r.played.outcomes.items (last_in r.played.player.a) (last_in r.played.player.b)
   pub staff_a : HaveServed house.a (workers + 1) r.staff_a.items
   pub staff_b : HaveServed house.b (workers + 1) r.staff_b.items
 
@@ -77,7 +79,8 @@ abbrev pub MakesTurns : PlayedLine → Type 0
 MakesTurns p = AreTurns (calls_in p.a) × AreTurns (calls_in p.b)
 
 -- What threads leave of two books with these histories: both go on from them. Each channel's updates, signatures, deliveries and closes were played in order, each with the book's own reply at a
--- beginning of the book that is left, and each accepted one is an entry there. All other later entries are keeps and releases.
+-- beginning of the book that is left, and each accepted one is an entry there. All other later entries are keeps and releases. Of each event it is told why it was refused as one of the chain, if it
+-- was: a broadcast and a close by the side's book at such a beginning.
 pub record IsRun (a b : History) (channels : ℕ) (events : List Event) (r : Report) : Type 0 where
   pub a_left : IsLeft a r.a
   pub b_left : IsLeft b r.b
@@ -86,6 +89,7 @@ pub record IsRun (a b : History) (channels : ℕ) (events : List Event) (r : Rep
   pub counts : map (λ p. p.counts) lines ≡ r.channels.items
   pub entered : All IsCounted lines
   pub turns : All MakesTurns lines
+  pub chain : IsChainPlayed a b events r.outcomes.items r.a r.b
   pub a_threads : IsOfThreads a r.a (ends_a lines)
   pub b_threads : IsOfThreads b r.b (ends_b lines)
 

@@ -6,6 +6,7 @@ ghost use Rattle.board.specs.Seats as board_seats;
 ghost use Rattle.running.specs.Crews.{IsOwnSeat, IsStock, IsUnused, IsWorker, IsWatcher, IsMember, IsEnd, IsLine, IsNewPlayer, IsCrew};
 ghost use Rattle.desk.specs.Seats.{opening_in};
 ghost use Rattle.running.specs.Playing.{IsFirstEnd, IsFirstLineIn};
+ghost use Rattle.running.specs.Outcomes.{HasSeen};
 
 use crate::ends::End;
 use crate::houses::{Closers, House, Office};
@@ -278,7 +279,8 @@ fn player_of(
     requires a { IsStock house.now.a closers.now.a a.old × (0 < length a.old.seats.items) }
     requires b { IsStock house.now.b closers.now.b b.old × (0 < length b.old.seats.items) }
     requires place { board_seats.IsSeatOf house.now.board place }
-    ensures { IsNewPlayer house.now result }
+    ensures player { IsNewPlayer house.now result }
+    ensures first { HasSeen (opening_in closers.now.a) (opening_in closers.now.b) result }
 {
     Player {
         a: next_seat(&house.a, &closers.a, &mut a.seats),
@@ -310,6 +312,8 @@ fn crew_from(
     ensures first { IfOk result (λ c. All (IsFirstLineIn closers.now) c.lines.items) }
     ensures channels { IfOk result (λ c. map (λ l. l.channel) c.lines.items
         ≡ range_with_len 0 channels) }
+    ensures seen { IfOk result (λ c. HasSeen (opening_in closers.now.a)
+        (opening_in closers.now.b) c.player) }
 {
     let board = &house.board;
     let staff_a = staff_of(alloc, &house.a, &closers.a, board, a, places, workers)?;
@@ -348,6 +352,8 @@ pub(crate) fn crew_of(
     ensures first { IfOk result (λ c. All (IsFirstLineIn closers.now) c.lines.items) }
     ensures channels { IfOk result (λ c. map (λ l. l.channel) c.lines.items
         ≡ range_with_len 0 channels) }
+    ensures seen { IfOk result (λ c. HasSeen (opening_in closers.now.a)
+        (opening_in closers.now.b) c.player) }
 {
     let mut a = a;
     let mut b = b;

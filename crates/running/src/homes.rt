@@ -13,12 +13,15 @@ use crate::staff::Served;
 use desk::Seat;
 use node::Hands;
 use std::alloc::{AllocError, Global};
+use world::errors::EventError;
 
 /// What the threads give back that play events.
 #[derive(Drop)]
 pub(crate) struct PlayedEvents {
     pub(crate) lines: Vec<PlayedLine>,
     pub(crate) player: Player,
+    /// Why each event was refused as one of the chain, if it was.
+    pub(crate) outcomes: Vec<Option<EventError>>,
 }
 
 /// What all threads give back.
@@ -98,8 +101,12 @@ fn player_home(house: &House, closers: &mut Closers, player: Player)
     house.b.desk.absorb(&mut closers.b, b);
 }
 
-/// All seats come home to those that close the desks.
-pub(crate) fn all_home(house: &House, closers: &mut Closers, returned: Returned)
+/// All seats come home to those that close the desks. Returns why each event was refused as one of the chain, if it was.
+pub(crate) fn all_home(
+    house: &House,
+    closers: &mut Closers,
+    returned: Returned,
+) -> Vec<Option<EventError>>
     requires a { IsSeatOf house.now.a.desk closers.old.a }
     requires b { IsSeatOf house.now.b.desk closers.old.b }
     requires lines { All (IsLonePair house.now) returned.played.lines.items }
@@ -108,15 +115,21 @@ pub(crate) fn all_home(house: &House, closers: &mut Closers, returned: Returned)
     requires staff_b { All (HasServed house.now.b) returned.staff_b.items }
     ensures a { TakesEach house.now.a.desk closers.old.a (seats_a returned) closers.new.a }
     ensures b { TakesEach house.now.b.desk closers.old.b (seats_b returned) closers.new.b }
+    ensures outcomes { result.items ≡ returned.played.outcomes.items }
 {
     let Returned {
         played,
         staff_a,
         staff_b,
     } = returned;
-    let PlayedEvents { lines, player } = played;
+    let PlayedEvents {
+        lines,
+        player,
+        outcomes,
+    } = played;
     lines_home(house, closers, lines);
     staff_home(&house.a, &mut closers.a, staff_a);
     staff_home(&house.b, &mut closers.b, staff_b);
     player_home(house, closers, player);
+    outcomes
 }

@@ -1,12 +1,18 @@
 //! The events of the chain: broadcasts, closes, blocks and reorganisations.
 
-ghost use Rattle.std.specs.Prelude.{◌≡◌, None, IfOk};
-ghost use Rattle.book.specs.declared.errors.KnowError.TheVariants.{NoSuchChannel};
+ghost use Rattle.std.specs.Prelude.{◌≡◌, Option, Err, IfOk};
+ghost use Rattle.book.specs.declared.errors.KnowError.TheVariants.{NoSuchChannel as not_known};
 ghost use Rattle.board.specs.Seats as board_seats;
+ghost use Rattle.mempool.specs.declared.errors.ReorgError.{ReorgError as ReorgRefusal};
+ghost use Rattle.mempool.specs.Reorganising.{IsRefusal, reorg_refusal};
+ghost use Rattle.world.specs.declared.errors.EventError.TheVariants.{NoSuchChannel};
+ghost use Rattle.world.specs.Publishing.{refusal_by};
 ghost use Rattle.desk.specs.Seats.{IsSeatOf, HasSameCalls, number_in, calls_in, last_in};
+ghost use Rattle.desk.specs.Histories.{GoesOn};
 ghost use Rattle.desk.specs.Answers.{IsHistoryFor};
 ghost use Rattle.running.specs.Crews.{IsPlayer, GoesOnPlaying};
-ghost use Rattle.running.specs.Broadcasts.{GoesOnWith, IsHtlcTxOf, IsSignedBy, IsBroadcast, broadcast_in, newest_of};
+ghost use Rattle.running.specs.Broadcasts.{GoesOnWith, IsHtlcTxOf, IsSignedBy, IsFoundBy, IsBroadcast, broadcast_in, newest_of};
+ghost use Rattle.running.specs.Outcomes.{refusal_as, history_of, reorg_in, IsBroadcastOutcome, IsReorgOutcome, IsMiningOutcome, IsOutcome, PlaysChain};
 
 use crate::houses::{House, Office};
 use crate::stages::Stage;
@@ -23,6 +29,7 @@ use std::alloc::{AllocError, Global};
 use std::sync::Wait;
 use terms::Side;
 use tx::Tx;
+use world::errors::EventError;
 
 /// What the thread that plays the events of the chain has of its own.
 #[derive(Drop)]
@@ -57,6 +64,15 @@ struct Broadcast {
     choice: Choice,
 }
 
+/// The newest blocks that are to be replaced.
+#[derive(Drop)]
+struct Reorg {
+    /// How many blocks they are.
+    depth: u64,
+    /// How many of their transactions are forgotten.
+    forgotten: u64,
+}
+
 // What an event broadcasts, if it does. A close broadcasts the side's newest commitment.
 fn broadcast_in(event: &Event) -> Option<Broadcast>
     ensures { result ≡ broadcast_in event.now }
@@ -86,6 +102,16 @@ fn broadcast_in(event: &Event) -> Option<Broadcast>
             channel,
             choice: Choice::Newest,
         }),
+        _ => None,
+    }
+}
+
+// Which blocks an event replaces, if it does.
+fn reorg_in(event: &Event) -> Option<Reorg>
+    ensures { result ≡ reorg_in event.now }
+{
+    match *event {
+        Event::Reorg { depth, forgotten } => Some(Reorg { depth, forgotten }),
         _ => None,
     }
 }
@@ -144,17 +170,33 @@ fn tx_by<R: Wait>(
     }
 }
 
+// The same, or that the side does not have it.
+fn found_by<R: Wait>(
+    rt: &R,
+    alloc: Global,
+    office: &Office,
+    known: &Known,
+    broadcast: &Broadcast,
+) -> Result<Result<Tx, EventError>, AllocError>
+    ensures { IfOk result (IsFoundBy known.now broadcast.now.choice) }
+{
+    match tx_by(rt, alloc, office, known, broadcast) {
+        Ok(tx) => Ok(tx.ok_or(EventError::NoSuchTx)),
+        Err(error) => Err(error),
+    }
+}
+
 // What is broadcast where nothing is known of the channel.
-fn no_tx(error: KnowError) -> Result<Option<Tx>, AllocError>
-    ensures { IfOk result (λ tx. (tx ≡ None) × (error ≡ NoSuchChannel)) }
+fn no_tx(error: KnowError) -> Result<Result<Tx, EventError>, AllocError>
+    ensures { IfOk result (λ answer. (answer ≡ Err NoSuchChannel) × (error ≡ not_known)) }
 {
     match error {
-        KnowError::NoSuchChannel => Ok(None),
+        KnowError::NoSuchChannel => Ok(Err(EventError::NoSuchChannel)),
         KnowError::NoMemory => Err(AllocError),
     }
 }
 
-// The transaction to broadcast. `None` if the side does not have it; the only error is that memory ran out.
+// The transaction to broadcast. It refuses `NoSuchChannel`, and `NoSuchTx` where the side does not have it; the only other error is that memory ran out.
 #[tactic(auto, using(crate::proofs::Broadcasting::broadcast_known, crate::proofs::Broadcasting::no_broadcast))]
 fn tx_of<R: Wait>(
     rt: &R,
@@ -162,7 +204,7 @@ fn tx_of<R: Wait>(
     office: &Office,
     seat: &mut Seat,
     broadcast: &Broadcast,
-) -> Result<Option<Tx>, AllocError>
+) -> Result<Result<Tx, EventError>, AllocError>
     requires { IsSeatOf office.now.desk seat.old }
     ensures seat { HasSameCalls office.now.desk seat.old seat.new }
     ensures history { IsHistoryFor (number_in seat.old) (calls_in seat.old) (last_in seat.old)
@@ -171,9 +213,9 @@ fn tx_of<R: Wait>(
 {
     match office.desk.known(rt, seat, broadcast.channel) {
         Ok(known) => {
-            let tx = tx_by(rt, alloc, office, &known, broadcast);
+            let answer = found_by(rt, alloc, office, &known, broadcast);
             drop(known);
-            tx
+            answer
         }
         Err(error) => no_tx(error),
     }
@@ -185,7 +227,24 @@ fn publish<R: Wait>(rt: &R, stage: &Stage, tx: Tx) -> Result<(), AllocError> {
     pool.broadcast(tx)
 }
 
-// A side broadcasts a transaction, if it has it. The only error is that memory ran out.
+// A transaction that was found is broadcast. Returns why it was not found, if so. The only error is that memory ran out.
+fn send<R: Wait>(
+    rt: &R,
+    stage: &Stage,
+    answer: Result<Tx, EventError>,
+) -> Result<Option<EventError>, AllocError>
+    ensures { IfOk result (λ outcome. outcome ≡ refusal_by answer) }
+{
+    match answer {
+        Ok(tx) => match publish(rt, stage, tx) {
+            Ok(()) => Ok(None),
+            Err(error) => Err(error),
+        },
+        Err(error) => Ok(Some(error)),
+    }
+}
+
+// A side broadcasts a transaction, if it has it. Returns why not, if it has it not. The only error is that memory ran out.
 fn play_broadcast<R: Wait>(
     rt: &R,
     alloc: Global,
@@ -193,13 +252,14 @@ fn play_broadcast<R: Wait>(
     stage: &Stage,
     seat: &mut Seat,
     broadcast: &Broadcast,
-) -> Result<(), AllocError>
+) -> Result<Option<EventError>, AllocError>
     requires { IsSeatOf office.now.desk seat.old }
-    ensures { HasSameCalls office.now.desk seat.old seat.new }
+    ensures seat { HasSameCalls office.now.desk seat.old seat.new }
+    ensures since { GoesOn (last_in seat.old) (last_in seat.new) }
+    ensures outcome { IfOk result (IsBroadcastOutcome (last_in seat.new) broadcast.now) }
 {
     match tx_of(rt, alloc, office, seat, broadcast) {
-        Ok(Some(tx)) => publish(rt, stage, tx),
-        Ok(None) => Ok(()),
+        Ok(answer) => send(rt, stage, answer),
         Err(error) => Err(error),
     }
 }
@@ -235,32 +295,54 @@ fn play_blocks<R: Wait>(
     Ok(())
 }
 
-// Replaces the newest blocks, unless that is refused, and tells the watchers. The only error is that memory ran out.
+// The refusal of a chain, as that of an event. The only error is that memory ran out.
+fn refusal_as(error: ReorgError) -> Result<Option<EventError>, AllocError>
+    ensures { IfOk result (λ outcome. (first : Option ReorgRefusal) → IsRefusal first error
+        → outcome ≡ refusal_as first) }
+{
+    match error {
+        ReorgError::NoMemory => Err(AllocError),
+        ReorgError::TooDeep => Ok(Some(EventError::TooDeep)),
+        ReorgError::NoSuchTx => Ok(Some(EventError::NoSuchTx)),
+    }
+}
+
+// Replaces the newest blocks. Returns why that is refused, if so. The only error is that memory ran out.
+fn replaced(alloc: Global, pool: &mut Pool, reorg: &Reorg) -> Result<Option<EventError>, AllocError>
+    ensures { IfOk result (λ outcome. outcome
+        ≡ refusal_as (reorg_refusal pool.old.chain reorg.now.depth reorg.now.forgotten)) }
+{
+    match pool.reorganise(alloc, reorg.depth, reorg.forgotten) {
+        Ok(_txs) => Ok(None),
+        Err(error) => refusal_as(error),
+    }
+}
+
+// Replaces the newest blocks, and tells the watchers. Returns why that is refused, if so. The only error is that memory ran out.
 fn play_reorg<R: Wait>(
     rt: &R,
     alloc: Global,
     house: &House,
     place: &mut board::Seat,
-    depth: u64,
-    forgotten: u64,
-) -> Result<(), AllocError>
+    reorg: &Reorg,
+) -> Result<Option<EventError>, AllocError>
     requires { board_seats.IsSeatOf house.now.board place.old }
-    ensures { board_seats.IsSeatOf house.now.board place.new }
+    ensures place { board_seats.IsSeatOf house.now.board place.new }
+    ensures outcome { IfOk result (IsReorgOutcome reorg.now) }
 {
     let mut pool = house.stage.pool.lock(rt);
-    match pool.reorganise(alloc, depth, forgotten) {
-        Ok(_txs) => {}
-        Err(ReorgError::NoMemory) => return Err(AllocError),
-        Err(_) => return Ok(()),
+    let outcome = replaced(alloc, &mut *pool, reorg)?;
+    if outcome.is_some() {
+        return Ok(outcome);
     }
     raise(&house.board, place, &*pool);
     drop(pool);
     house.stage.notify();
-    Ok(())
+    Ok(outcome)
 }
 
-// Plays an event, if it makes or replaces blocks. The only error is that memory ran out.
-fn play_mining<R: Wait>(
+// Plays an event, if it makes blocks. The only error is that memory ran out.
+fn play_making<R: Wait>(
     rt: &R,
     alloc: Global,
     house: &House,
@@ -272,23 +354,44 @@ fn play_mining<R: Wait>(
 {
     match *event {
         Event::Blocks { count } => play_blocks(rt, alloc, house, place, count),
-        Event::Reorg { depth, forgotten } => {
-            play_reorg(rt, alloc, house, place, depth, forgotten)
-        }
         _ => Ok(()),
     }
 }
 
-// A side broadcasts a transaction by its seat, if it has it. The only error is that memory ran out.
+// Plays an event, if it makes or replaces blocks. Returns why it is refused, if so. The only error is that memory ran out.
+fn play_mining<R: Wait>(
+    rt: &R,
+    alloc: Global,
+    house: &House,
+    place: &mut board::Seat,
+    event: &Event,
+) -> Result<Option<EventError>, AllocError>
+    requires { board_seats.IsSeatOf house.now.board place.old }
+    ensures place { board_seats.IsSeatOf house.now.board place.new }
+    ensures outcome { IfOk result (IsMiningOutcome (reorg_in event.now)) }
+{
+    match reorg_in(event) {
+        Some(reorg) => play_reorg(rt, alloc, house, place, &reorg),
+        None => match play_making(rt, alloc, house, place, event) {
+            Ok(()) => Ok(None),
+            Err(error) => Err(error),
+        },
+    }
+}
+
+// A side broadcasts a transaction by its seat, if it has it. Returns why not, if it has it not. The only error is that memory ran out.
 fn broadcast_by<R: Wait>(
     rt: &R,
     alloc: Global,
     house: &House,
     player: &mut Player,
     broadcast: &Broadcast,
-) -> Result<(), AllocError>
+) -> Result<Option<EventError>, AllocError>
     requires { IsPlayer house.now player.old }
-    ensures { GoesOnPlaying house.now player.old player.new }
+    ensures player { GoesOnPlaying house.now player.old player.new }
+    ensures outcome { IfOk result (IsBroadcastOutcome
+        (history_of broadcast.now.side (last_in player.new.a) (last_in player.new.b))
+        broadcast.now) }
 {
     let stage = &house.stage;
     match broadcast.side {
@@ -297,16 +400,18 @@ fn broadcast_by<R: Wait>(
     }
 }
 
-// Plays an event, if it is one of the chain. The only error is that memory ran out.
+// Plays an event, if it is one of the chain. Returns why it is refused, if so. The only error is that memory ran out.
 fn play_event<R: Wait>(
     rt: &R,
     alloc: Global,
     house: &House,
     player: &mut Player,
     event: &Event,
-) -> Result<(), AllocError>
+) -> Result<Option<EventError>, AllocError>
     requires { IsPlayer house.now player.old }
-    ensures { GoesOnPlaying house.now player.old player.new }
+    ensures player { GoesOnPlaying house.now player.old player.new }
+    ensures outcome { IfOk result (IsOutcome event.now (last_in player.new.a)
+        (last_in player.new.b)) }
 {
     match broadcast_in(event) {
         Some(broadcast) => broadcast_by(rt, alloc, house, player, &broadcast),
@@ -314,7 +419,8 @@ fn play_event<R: Wait>(
     }
 }
 
-/// Plays the events of the chain, in their order. A refused one changes nothing. The only error is that memory ran out.
+/// Plays the events of the chain, in their order. Returns of each event why it was refused as one of the chain, if it was; a refused one changes nothing. The only error is that memory ran
+/// out.
 #[tactic(auto, using(crate::proofs::Same::plays_on, crate::proofs::Same::is_player, crate::proofs::Same::still_plays))]
 pub(crate) fn play_chain<R: Wait>(
     rt: &R,
@@ -322,12 +428,16 @@ pub(crate) fn play_chain<R: Wait>(
     house: &House,
     events: &[Event],
     player: &mut Player,
-) -> Result<(), AllocError>
+) -> Result<Vec<Option<EventError>>, AllocError>
     requires { IsPlayer house.now player.old }
-    ensures { GoesOnPlaying house.now player.old player.new }
+    ensures player { GoesOnPlaying house.now player.old player.new }
+    ensures plays { IfOk result (λ v. PlaysChain events.now (last_in player.old.a)
+        (last_in player.old.b) v.items (last_in player.new.a) (last_in player.new.b)) }
 {
-    for event in events {
-        play_event(rt, alloc, house, player, event)?;
+    let mut outcomes = Vec::new(alloc);
+    for index in 0..events.len() {
+        let outcome = play_event(rt, alloc, house, player, &events[index])?;
+        outcomes.push(outcome)?;
     }
-    Ok(())
+    Ok(outcomes)
 }

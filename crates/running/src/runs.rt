@@ -29,6 +29,7 @@ use std::sync::Wait;
 use std::thread;
 use std::thread::Threads;
 use world::BooksAndChain;
+use world::errors::EventError;
 
 /// What a node leaves once all its threads have ended.
 #[derive(Drop)]
@@ -41,6 +42,9 @@ pub struct Report {
     pub height: u64,
     /// How many of the updates, signatures, deliveries and closes of each channel were played.
     pub channels: Vec<Counts>,
+    /// Of each event of the scenario, in order, why it was refused as one of the chain, if it was: `NoSuchChannel` or `NoSuchTx` for a broadcast or a close whose transaction the side does not
+    /// have, `TooDeep` or `NoSuchTx` for a reorganisation.
+    pub outcomes: Vec<Option<EventError>>,
 }
 
 // ---- the threads
@@ -95,12 +99,16 @@ fn play_events<R: Threads + Wait + Sync>(
 ) -> Result<PlayedEvents, AllocError>
     requires lines { All (IsLine house.now) lines.items }
     requires player { IsNewPlayer house.now player }
-    ensures { IfOk result (HavePlayed house.now events.now lines.items) }
+    ensures { IfOk result (HavePlayed house.now events.now lines.items player) }
 {
     let mut player = player;
     match play_lines(rt, alloc, house, events, lines) {
         Ok(lines) => match play_chain(rt, alloc, house, events, &mut player) {
-            Ok(()) => Ok(PlayedEvents { lines, player }),
+            Ok(outcomes) => Ok(PlayedEvents {
+                lines,
+                player,
+                outcomes,
+            }),
             Err(error) => {
                 drop(lines);
                 drop(player);
@@ -128,7 +136,8 @@ fn play_beside_b<R: Threads + Wait + Sync, G: Gate + Sync>(
     requires staff { All (IsMember house.now.b house.now.board) staff.items }
     requires lines { All (IsLine house.now) lines.items }
     requires player { IsNewPlayer house.now player }
-    ensures played { IfOk result (λ r. HavePlayed house.now events.now lines.items r.0) }
+    ensures played { IfOk result (λ r. HavePlayed house.now events.now lines.items
+        player r.0) }
     ensures staff { IfOk result (λ r. HaveServed house.now.b (length staff.items) r.1.items) }
 {
     beside(
@@ -140,7 +149,8 @@ fn play_beside_b<R: Threads + Wait + Sync, G: Gate + Sync>(
         staff,
         move || -> Result<PlayedEvents, AllocError>
             requires { All (IsLine house.now) lines.items × IsNewPlayer house.now player }
-            ensures { IfOk result (HavePlayed house.entry.now events.entry.now lines.items) }
+            ensures { IfOk result (HavePlayed house.entry.now events.entry.now lines.items
+                player) }
         { play_events(rt, alloc, house, events, lines, player) },
     )
 }
@@ -174,7 +184,7 @@ fn run_crew<R: Threads + Wait + Sync, G: Gate + Sync>(
             requires { All (IsMember house.now.b house.now.board) staff_b.items
                 × All (IsLine house.now) lines.items × IsNewPlayer house.now player }
             ensures { IfOk result (λ r. HavePlayed house.entry.now events.entry.now
-                lines.items r.0 × HaveServed house.entry.now.b (length staff_b.items) r.1.items) }
+                lines.items player r.0 × HaveServed house.entry.now.b (length staff_b.items) r.1.items) }
         { play_beside_b(rt, alloc, house, events, gate, staff_b, lines, player) },
     ) {
         Ok(((played, staff_b), staff_a)) => Ok(Returned {
@@ -230,12 +240,19 @@ fn closed<R: Wait>(rt: &R, office: Office, closer: Seat) -> Book
 }
 
 // The two books and the height, once all seats are home to those that close the desks.
-fn report_with<R: Wait>(rt: &R, house: House, closers: Closers, channels: Vec<Counts>) -> Report
+fn report_with<R: Wait>(
+    rt: &R,
+    house: House,
+    closers: Closers,
+    channels: Vec<Counts>,
+    outcomes: Vec<Option<EventError>>,
+) -> Report
     requires a { IsSeatOf house.a.desk closers.a }
     requires b { IsSeatOf house.b.desk closers.b }
     ensures a { IsLeft (opening_in closers.a) result.a × IsClosedBy closers.a result.a }
     ensures b { IsLeft (opening_in closers.b) result.b × IsClosedBy closers.b result.b }
     ensures channels { result.channels.items ≡ channels.items }
+    ensures outcomes { result.outcomes.items ≡ outcomes.items }
 {
     let House { a, b, stage, .. } = house;
     let Closers {
@@ -248,6 +265,7 @@ fn report_with<R: Wait>(rt: &R, house: House, closers: Closers, channels: Vec<Co
         b: closed(rt, b, closer_b),
         height,
         channels,
+        outcomes,
     }
 }
 
@@ -268,10 +286,11 @@ fn report_home<R: Wait>(
     ensures a { IsSettled house.a closers.a (seats_a returned) result.a }
     ensures b { IsSettled house.b closers.b (seats_b returned) result.b }
     ensures channels { result.channels.items ≡ channels.items }
+    ensures outcomes { result.outcomes.items ≡ returned.played.outcomes.items }
 {
     let mut closers = closers;
-    all_home(&house, &mut closers, returned);
-    report_with(rt, house, closers, channels)
+    let outcomes = all_home(&house, &mut closers, returned);
+    report_with(rt, house, closers, channels, outcomes)
 }
 
 // The same with the counts that the channels' threads give back. The only error is that memory ran out, here or in a watcher.
@@ -292,6 +311,7 @@ fn report_of<R: Wait>(
     ensures b { IfOk result (λ r. IsSettled house.b closers.b (seats_b returned) r.b) }
     ensures channels { IfOk result (λ r. map (λ p. p.counts) returned.played.lines.items
         ≡ r.channels.items) }
+    ensures outcomes { IfOk result (λ r. r.outcomes.items ≡ returned.played.outcomes.items) }
 {
     if house.stage.has_failed() {
         drop(house);
@@ -374,7 +394,8 @@ fn run_sides<R: Threads + Wait + Sync, G: Gate + Sync>(
 ///
 /// The channels play side by side, each its own updates, signatures, deliveries and closes in the order of the scenario. A signature that finds penalties missing waits for the workers, until
 /// no job is left that may keep them. Then broadcasts, blocks and reorganisations are played, beside the watchers and the workers; there each close broadcasts the side's newest commitment. Events that keep, look, take and release are skipped: threads
-/// do that by themselves. The gate comes before and after each job of each worker.
+/// do that by themselves. The gate comes before and after each job of each worker. No clause says that a signature waits, that the gate is asked, that watchers read the blocks, that blocks are
+/// made or replaced, or that what is broadcast or released reaches the pool: that is tested.
 ///
 /// The error is that memory ran out, or that a thread could not be started. All threads have ended when it returns. A worker that is refused memory tries its job again, and a
 /// thread that puts a job puts it again, without a bound: while memory stays refused there, the call does not return.

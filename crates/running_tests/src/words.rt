@@ -71,6 +71,7 @@ fn prints<R: Threads + Wait + Abort + Sync>(
     workers: u16,
     text: &str,
     lines: &str,
+    notes: &str,
     status: u8,
 ) -> bool
     requires some { 0 < workers }
@@ -78,8 +79,10 @@ fn prints<R: Threads + Wait + Abort + Sync>(
 {
     let mut input = text.as_bytes();
     let mut printed: Vec<u8> = Vec::new(alloc);
-    run_word(rt, alloc, workers, &mut input, &mut printed) == status
+    let mut noted: Vec<u8> = Vec::new(alloc);
+    run_word(rt, alloc, workers, &mut input, &mut printed, &mut noted) == status
         && printed.as_slice() == lines.as_bytes()
+        && noted.as_slice() == notes.as_bytes()
 }
 
 #[test]
@@ -87,10 +90,28 @@ fn prints_the_end(rt: HostRuntime) {
     let alloc = rt.alloc();
     let text = text_with(&rt, alloc, false, CHEATS);
     let lines = "height 7\nchannel 0 played 13 refused 0\nA kept 0 0\nB kept 0 0\nB kept 0 1\n";
-    assert!(rt; prints(&rt, alloc, 1, text.as_str(), lines, 0));
+    assert!(rt; prints(&rt, alloc, 1, text.as_str(), lines, "", 0));
     let text = text_with(&rt, alloc, false, CHEATS_THEN_REORG);
     let lines = "height 8\nchannel 0 played 13 refused 0\nA kept 0 0\nB kept 0 0\nB kept 0 1\n";
-    assert!(rt; prints(&rt, alloc, 4, text.as_str(), lines, 0));
-    assert!(rt; prints(&rt, alloc, 2, "", "refused NotJson\n", 1));
-    assert!(rt; prints(&rt, alloc, 2, "{}", "refused BadShape\n", 1));
+    assert!(rt; prints(&rt, alloc, 4, text.as_str(), lines, "", 0));
+    assert!(rt; prints(&rt, alloc, 2, "", "refused NotJson\n", "", 1));
+    assert!(rt; prints(&rt, alloc, 2, "{}", "refused BadShape\n", "", 1));
+}
+
+// B broadcasts a commitment that it does not have, in a channel that is there and in one that is not, A closes one that is not, and B broadcasts the transaction of a second HTLC, of which there is one. Then more blocks are to
+// be replaced than there are, and none, and more transactions forgotten than the block has.
+const REFUSED: &str =
+    "[\"broadcast\",\"B\",0,2],[\"broadcast\",\"B\",7,0],[\"close\",\"A\",3],[\"broadcast\",\"B\",0,1,1],[\"blocks\",1],[\"reorg\",2,0],[\"reorg\",0,0],[\"reorg\",1,1]";
+
+const REFUSED_NOTES: &str =
+    "note: event 13 was refused, NoSuchTx: [\"broadcast\", \"B\", 0, 2]\nnote: event 14 was refused, NoSuchChannel: [\"broadcast\", \"B\", 7, 0]\nnote: event 15 was refused, NoSuchChannel: [\"close\", \"A\", 3]\nnote: event 16 was refused, NoSuchTx: [\"broadcast\", \"B\", 0, 1, 1]\nnote: event 18 was refused, TooDeep: [\"reorg\", 2, 0]\nnote: event 19 was refused, TooDeep: [\"reorg\", 0, 0]\nnote: event 20 was refused, NoSuchTx: [\"reorg\", 1, 1]\n";
+
+#[test]
+fn names_refused_events_of_the_chain(rt: HostRuntime) {
+    let alloc = rt.alloc();
+    let text = text_with(&rt, alloc, false, REFUSED);
+    let lines = "height 1\nchannel 0 played 13 refused 0\nA kept 0 0\nB kept 0 0\nB kept 0 1\n";
+    for workers in [1, 4] {
+        assert!(rt; prints(&rt, alloc, workers, text.as_str(), lines, REFUSED_NOTES, 0));
+    }
 }

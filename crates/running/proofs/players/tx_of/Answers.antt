@@ -8,4 +8,4 @@ pub returns-in-Ok-clause-tx : goal.returns-in-Ok-clause-tx
 returns-in-Ok-clause-tx g c =
     let b = c.args.broadcast.now in
     let history = last_in c.known.new.seat in
-    broadcast_known history b (slice_get (replay history) b.channel) c.in-Ok.known c.tx_by-tx.result c.in-Ok.ensures.known c.tx_by-tx.ensures
+    broadcast_known history b (slice_get (replay history) b.channel) c.in-Ok.known c.found_by-answer.result c.in-Ok.ensures.known c.found_by-answer.ensures

@@ -17,4 +17,4 @@ returns-in-Ok-run_house g c =
     let many_a : length a.stock.seats.items ≡ c.args.channels + c.args.workers + 2 = omega (arith, of_a.many) in
     let many_b : length b.stock.seats.items ≡ c.args.channels + c.args.workers + 2 = omega (arith, of_b.many) in
     has_run _ _ c.args.channels c.args.workers c.args.events.now c.in-Ok-run_house.returned c.report_of.result (subst (λ (n : ℕ). ClosesAfter a.office n a.closer) many_a of_a.closer)
-    (subst (λ (n : ℕ). ClosesAfter b.office n b.closer) many_b of_b.closer) of_a.stock.payments of_b.stock.payments c.in-Ok-run_house.ensures c.report_of.ensures.a c.report_of.ensures.b c.report_of.ensures.channels
+    (subst (λ (n : ℕ). ClosesAfter b.office n b.closer) many_b of_b.closer) of_a.stock.payments of_b.stock.payments c.in-Ok-run_house.ensures c.report_of.ensures.a c.report_of.ensures.b c.report_of.ensures.channels c.report_of.ensures.outcomes
