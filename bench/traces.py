@@ -36,7 +36,10 @@ FEW_KEYS, MANY_KEYS = (f"0000{'7675' * pairs}{swap}21{KEY}{'76' * 19}0114ae" for
 # an item that is a preimage and true, one that is true and a preimage, and one of two bytes
 HASH = "5a" * 20
 HASHED, TRUE, BYTES = f"76a914{HASH}88", f"766368a914{HASH}87", "7602aabb88"
-MORE = [*SIZES, NUMBERS, FEW_KEYS, MANY_KEYS, HASHED, TRUE, BYTES, "", "6351", "5193", "5102ff", "0g", "00", "0181", "01ff75", "02ff0075", "4b" + "00" * 75 + "75", "63" * 3 + "68" * 3, "67", "68", "5167", "63676768", "51758282",
+# absolute locks of the greatest lock time and of the next number, which have 5 bytes; relative ones of no, one and two units of time, and of one block
+LAST, NEVER = "05ffffffff00b17551", "050000000001b17551"
+UNITS, BLOCK = [f"030{count}0040b27551" for count in range(3)], "51b27551"
+MORE = [*SIZES, NUMBERS, FEW_KEYS, MANY_KEYS, HASHED, TRUE, BYTES, LAST, NEVER, *UNITS, BLOCK, "", "6351", "5193", "5102ff", "0g", "00", "0181", "01ff75", "02ff0075", "4b" + "00" * 75 + "75", "63" * 3 + "68" * 3, "67", "68", "5167", "63676768", "51758282",
         "01000000", "7675" * 101, "51" * 1001, "636768" * 7, "51" * 10001]
 REFUSED = {"6351": "OpenBranch", "5193": "BadOpcode 1", "5102ff": "Truncated 1", "0g": "BadHex", "67": "OpenBranch", "68": "OpenBranch", "5167": "OpenBranch", "63676768": "OpenBranch", "51758282": "Undecided 3",
            "7675" * 101: "TooManyOps", MANY_KEYS: "TooManyOps", "51" * 1001: "TooTall", "636768" * 7: "TooManyPaths", "51" * 10001: "TooLong"}
@@ -47,6 +50,9 @@ LISTED = {
     HASHED: ["path 0 arity 1 counted 3 height 3 lock - age -", f"  hash 0 {HASH} yes", "  truth 0 yes"],
     TRUE: ["path 0 arity 1 counted 5 height 2 lock - age -", "  truth 0 yes", f"  hash 0 {HASH} yes", "path 1 arity 1 counted 5 height 2 lock - age -", "  truth 0 no", f"  hash 0 {HASH} yes"],
     BYTES: ["path 0 arity 1 counted 2 height 3 lock - age -", "  is 0 aabb yes", "  truth 0 yes"],
+    **{it: [f"path 0 arity 0 counted 2 height 1 lock {lock} age -", f"  lock {lock}"] for it, lock in ((LAST, 4294967295), (NEVER, 4294967296))},
+    **{it: ["path 0 arity 0 counted 2 height 1 lock - age -", f"  age {0x400000 + count}"] for count, it in enumerate(UNITS)},
+    BLOCK: ["path 0 arity 0 counted 2 height 1 lock - age 1", "  age 1"],
     "": ["path 0 arity 1 counted 0 height 1 lock - age -", "  truth 0 yes"],
     "00": [],
     "0181": ["path 0 arity 0 counted 0 height 1 lock - age -"],
@@ -61,7 +67,9 @@ FINDER = "whoever sees such a witness can spend too by path {}: what has a given
 NONE = "no witness satisfies the script by the rules of this profile: each branch ends as in consensus"
 # what enforce notes of the scripts above
 NOTES = {
-    **{it: [ANYONE] for it in [*SIZES, NUMBERS, FEW_KEYS, "", "0181", "01ff75", "02ff0075", "4b" + "00" * 75 + "75"]},
+    **{it: [ANYONE] for it in [*SIZES, NUMBERS, FEW_KEYS, LAST, *UNITS, BLOCK, "", "0181", "01ff75", "02ff0075", "4b" + "00" * 75 + "75"]},
+    NEVER: ["no transaction has the lock time of path 0: a lock time has 4 bytes, so it is at most 4294967295"],
+    UNITS[0]: [ANYONE, "opcode 1, CHECKSEQUENCEVERIFY of 4194304, asks for an age of 0 units of 512 seconds: of a number only bits 0 to 15, 22 and 31 count (BIP 68)"],
     HASHED: [FINDER.format("0")],
     TRUE: [FINDER.format("0, 1")],
     BYTES: [ANYONE],
@@ -78,7 +86,7 @@ NOTES = {
     "63676768": ["the ELSE at opcode 2 is the second one of the IF or NOTIF at opcode 0: consensus takes it, and it can be written as a further IF"],
     "51758282": ["opcode 3 is OP_SIZE: no rule decides it on what stands on the stack there, so the listing gives up: the script may be sound"],
     "7675" * 101: ["the script has 202 counted opcodes, and at most 201 are allowed"],
-    "51" * 1001: ["a path needs more than 1000 entries on the stack: no run of it is clean"],
+    "51" * 1001: ["a path needs more than 1000 elements on the stack: no run of it is clean"],
     "636768" * 7: ["a 65th path begins, and at most 64 are listed"],
     "51" * 10001: ["the script has 10001 bytes, and at most 10000 are allowed (BIP 141)"],
 }
@@ -175,10 +183,12 @@ def fact_object(line):
         one.update(role="when", value=n)
         if kind == "lock":
             at_time = f"once the median time past is above {n} seconds since 1970 (BIP 113)"
-            one["says"] = f"in block {n + 1} at the earliest" if n < 500_000_000 else at_time
+            never = "never: no transaction has a lock time above 4294967295"
+            one["says"] = f"in block {n + 1} at the earliest" if n < 500_000_000 else at_time if n < 1 << 32 else never
         else:
-            units = " units of 512 seconds of median time past (BIP 68)" if n >> 22 & 1 else " blocks"
-            one["says"] = f"after {n & 0xFFFF}{units}"
+            count, unit = n & 0xFFFF, "unit of 512 seconds of median time past (BIP 68)" if n >> 22 & 1 else "block"
+            several = f"after {count} " + unit.replace("unit", "units").replace("block", "blocks")
+            one["says"] = ("at once", f"after 1 {unit}")[count] if count < 2 else several
         return one
     one["slots"] = [int(it) for it in words[1].split(",")]
     slot = f"slot {words[1]} is{verb}"

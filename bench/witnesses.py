@@ -44,23 +44,23 @@ def counting(pairs):
 # scripts whose lengths stand on both sides of the second form of a length, and of an item's limit
 SIZES = {252: signed(75, 75, 61), 253: signed(75, 75, 62), 300: signed(75, 75, 75, 32), 520: signed(75, 75, 75, 75, 75, 75, 21)}
 SAYS = {
-    "MissingOperand": "the stack has too few elements",
-    "FailedCheck Number": "an element is no number: it is too long, or not minimally encoded",
+    "MissingOperand": "the stack has too few entries",
+    "FailedCheck Number": "an entry is no number: it is too long, or not minimally encoded",
     "FailedCheck KeyCount": "the number of keys is negative or above 20",
     "FailedCheck SigCount": "the number of signatures is negative or above that of the keys",
     "FailedCheck KeyForm": "a key is not 33 bytes that begin with 02 or 03",
     "FailedCheck Extra": "the extra item of CHECKMULTISIG is not empty",
     "TooManyOps": "more than 201 opcodes are counted",
-    "StackTooTall": "more than 1,000 elements would stand on the stack",
+    "StackTooTall": "more than 1,000 entries would stand on the stack",
     "ItemTooLong": "an item of the witness has more than 520 bytes",
     "Truncated 1": "the last item of the witness is no script of the opcodes here",
-    "FailedCheck Verify": "the two elements on top differ",
+    "FailedCheck Verify": "the two entries on top differ",
     "FailedCheck TokenForm": "a signature is neither empty nor a token of 66 bytes",
     "FailedCheck LockTime": "the lock on top is negative, of the other kind or above the transaction's lock time, or the input is final",
     "FailedCheck Sequence": "the version is below 2, the input's sequence is disabled, or the relative lock on top is negative, of the other kind or above it",
     "OpenBranch": "an IF, ELSE or ENDIF stands alone",
-    "NotOneValue": "the run ends with another number of elements than one",
-    "FalseEnd": "the run ends with a false element, as after a signature that is not the key's over the digest",
+    "NotOneValue": "the run ends with another number of entries than one",
+    "FalseEnd": "the run ends with a false entry, as after a signature that is not the key's over the digest",
     "OtherProgram": "the program is not of version 0 with the hash of a key or of a script",
     "NotTwoItems": "the program has the hash of a key, and the witness has not two items",
     "NoScript": "the program has the hash of a script, and the witness has no item",
@@ -226,7 +226,7 @@ def page_of(rows, index):
     if "path" in it:
         on = "its paths are not listed" if it["path"] is None else f"on path {it['path']}"
         comma = "," if it["path"] is None else ""
-        return f"input {index} runs clean{comma} {on}: {it['counted']} opcodes counted, {it['height']} elements at most\n"
+        return f"input {index} runs clean{comma} {on}: {it['counted']} opcode{'' if it['counted'] == 1 else 's'} counted, {it['height']} {'entry' if it['height'] == 1 else 'entries'} at most\n"
     stack = "".join(f"  stack   {item or '-'}\n" for item in it["stack"])
     return f"input {index} stops at opcode {it['opcode']} ({it['op'] or 'end'}), byte {it['byte']}: {it['stopped']}: {it['says']}\n{stack}  digest  {it['digest']}\n"
 

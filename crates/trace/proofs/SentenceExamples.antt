@@ -80,15 +80,31 @@ others : (i j : ℕ) → map sentence_of (yes (Is i []) ∷ no (Is i []) ∷ yes
     ∷ []
 others i j = refl
 
--- the greatest lock by height and the least by time, the greatest number of blocks, and units of time
-locks : map sentence_of (yes (Lock 499999999) ∷ yes (Lock 500000000) ∷ yes (Age 0xffff) ∷ yes (Age 0x10003) ∷ yes (Age 0x400003) ∷ []) ≡
+-- the greatest lock by height and the least by time, and the greatest that a transaction can have, of 32 bits, and the least that none has
+locks : map sentence_of (yes (Lock 499999999) ∷ yes (Lock 500000000) ∷ yes (Lock 4294967295) ∷ yes (Lock 4294967296) ∷ no (Lock 4294967296) ∷ []) ≡
     (codes "in block " ++ (decimal 500000000 ++ codes " at the earliest"))
     ∷ (codes "once the median time past is above " ++ (decimal 500000000 ++ codes " seconds since 1970 (BIP 113)"))
-    ∷ (codes "after " ++ (decimal 65535 ++ codes " blocks"))
-    ∷ (codes "after " ++ (decimal 3 ++ codes " blocks"))
-    ∷ (codes "after " ++ (decimal 3 ++ codes " units of 512 seconds of median time past (BIP 68)"))
+    ∷ (codes "once the median time past is above " ++ (decimal 4294967295 ++ codes " seconds since 1970 (BIP 113)"))
+    ∷ codes "never: no transaction has a lock time above 4294967295"
+    ∷ (codes "while the check of the lock time " ++ (decimal 4294967296 ++ codes " fails"))
     ∷ []
 locks = refl
+
+-- no block, one, two, the greatest number, and bit 16, which does not count; the same of units of time; and none of them where the check fails
+ages : map sentence_of (yes (Age 0) ∷ yes (Age 1) ∷ yes (Age 2) ∷ yes (Age 0xffff) ∷ yes (Age 0x10000) ∷ yes (Age 0x10001) ∷ yes (Age 0x10003) ∷ yes (Age 0x400000) ∷ yes (Age 0x400001) ∷ yes (Age 0x400002) ∷ no (Age 0) ∷ []) ≡
+    codes "at once"
+    ∷ (codes "after " ++ (decimal 1 ++ codes " block"))
+    ∷ (codes "after " ++ (decimal 2 ++ codes " blocks"))
+    ∷ (codes "after " ++ (decimal 65535 ++ codes " blocks"))
+    ∷ codes "at once"
+    ∷ (codes "after " ++ (decimal 1 ++ codes " block"))
+    ∷ (codes "after " ++ (decimal 3 ++ codes " blocks"))
+    ∷ codes "at once"
+    ∷ (codes "after " ++ (decimal 1 ++ codes " unit of 512 seconds of median time past (BIP 68)"))
+    ∷ (codes "after " ++ (decimal 2 ++ codes " units of 512 seconds of median time past (BIP 68)"))
+    ∷ (codes "while the check of the relative lock " ++ (decimal 0 ++ codes " fails"))
+    ∷ []
+ages = refl
 
 -- a signature that must be there says who, a lock says when, all else says with what
 roles : (i j : ℕ) → (map role_of (map yes (facts i j)) ≡ With ∷ With ∷ With ∷ With ∷ With ∷ With ∷ Who ∷ Who ∷ When ∷ When ∷ [])

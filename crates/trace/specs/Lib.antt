@@ -5,7 +5,6 @@ pub mod Names
 pub mod Looks
 pub mod Weights
 pub mod Sentences
-pub mod InputRefusals
 pub mod Meeting
 pub mod Verdicts
 pub mod VerdictRefusals

@@ -1,6 +1,6 @@
 -- The numbers of the refusals.
 use Rattle.std.specs.Prelude.{ℕ}
-use Rattle.trace.specs.InputRefusals.{input_number}
+use Rattle.streams.specs.InputRefusals.{input_number}
 use Rattle.trace.specs.declared.witnesses.errors.SpentError.{SpentError}
 use Rattle.trace.specs.declared.witnesses.errors.SpentError.TheVariants.{Input, Decode, BadCount, BadLine}
 

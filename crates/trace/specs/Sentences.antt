@@ -24,48 +24,55 @@ role_text Who = codes "who"
 role_text With = codes "with"
 role_text When = codes "when"
 
-abbrev pub is_words : Bool → List ℕ
-is_words true = codes "is"
-is_words false = codes "is not"
+-- what follows on the slot, or the slots, that a fact is about, up to what it compares with
+abbrev pub about : Fact → Bool → List ℕ
+about (Hash i h) true = codes " is a preimage of the HASH160 "
+about (Hash i h) false = codes " is not a preimage of the HASH160 "
+about (Size i n) true = codes " is "
+about (Size i n) false = codes " is not "
+about (Truth i) true = codes " is true"
+about (Truth i) false = codes " is false, as the empty item is"
+about (Is i []) true = codes " is the empty item"
+about (Is i []) false = codes " is not the empty item"
+about (Is i (b ∷ bytes)) true = codes " is the bytes "
+about (Is i (b ∷ bytes)) false = codes " is not the bytes "
+about (KeyForm i) true = codes " is a public key of 33 bytes"
+about (KeyForm i) false = codes " is not a public key of 33 bytes"
+about (Form i) true = codes " is a signature or the empty item"
+about (Form i) false = codes " is not a signature or the empty item"
+about (Token i (FixedKey key)) true = codes " is a signature by the key "
+about (Token i (FixedKey key)) false = codes " is not a signature by the key "
+about (Token i (SlotKey j)) true = codes " is a signature by the key in slot "
+about (Token i (SlotKey j)) false = codes " is not a signature by the key in slot "
+about (Assigned slots keys) true = codes " are signatures by keys of "
+about (Assigned slots keys) false = codes " are not signatures by keys of "
+about (Lock n) p = []
+about (Age n) p = []
 
-abbrev pub are_words : Bool → List ℕ
-are_words true = codes "are"
-are_words false = codes "are not"
-
-abbrev pub truth_words : Bool → List ℕ
-truth_words true = codes "true"
-truth_words false = codes "false, as the empty item is"
-
-abbrev pub key_words : KeySource → List ℕ
-key_words (FixedKey key) = codes "the key " ++ hex_text key
-key_words (SlotKey i) = codes "the key in slot " ++ decimal i
-
-abbrev pub item_words : List ℕ → List ℕ
-item_words [] = codes "the empty item"
-item_words (b ∷ bytes) = codes "the bytes " ++ hex_text (b ∷ bytes)
-
--- An output that is locked to height n is spent in block n + 1 at the earliest, and one that is locked to a time in a block after which the median time of eleven blocks is past it (BIP 65, 113)
+-- An output that is locked to height n is spent in block n + 1 at the earliest, and one that is locked to a time in a block after which the median time of eleven blocks is past it (BIP 65, 113).
+-- A transaction's lock time has 32 bits, so that no greater one is ever reached
 abbrev pub lock_words : ℕ → List ℕ
 lock_words n =
     if nat_lt n LOCKTIME_THRESHOLD
     then codes "in block " ++ (decimal (n + 1) ++ codes " at the earliest")
-    else codes "once the median time past is above " ++ (decimal n ++ codes " seconds since 1970 (BIP 113)")
+    else if nat_lt n 0x100000000
+    then codes "once the median time past is above " ++ (decimal n ++ codes " seconds since 1970 (BIP 113)")
+    else codes "never: no transaction has a lock time above 4294967295"
 
--- the low 16 bits count blocks, or units of 512 seconds where bit 22 is set (BIP 68)
-abbrev pub age_words : ℕ → List ℕ
-age_words n =
+-- what a relative lock counts: blocks, or units of 512 seconds where bit 22 is set (BIP 68), one of them or several
+abbrev pub unit_words : ℕ → List ℕ
+unit_words n =
     if n / 0x400000 % 2 == 0
-    then codes "after " ++ (decimal (n % 0x10000) ++ codes " blocks")
-    else codes "after " ++ (decimal (n % 0x10000) ++ codes " units of 512 seconds of median time past (BIP 68)")
+    then (if n % 0x10000 == 1 then codes " block" else codes " blocks")
+    else (if n % 0x10000 == 1 then codes " unit of 512 seconds of median time past (BIP 68)" else codes " units of 512 seconds of median time past (BIP 68)")
 
--- the words about one slot
-abbrev pub slot_words : ℕ → List ℕ → List ℕ → List ℕ
-slot_words i verb rest = codes "slot " ++ (decimal i ++ (codes " " ++ (verb ++ rest)))
+-- the low 16 bits count; an output is old enough at once for a count of 0
+abbrev pub age_words : ℕ → List ℕ
+age_words n = if n % 0x10000 == 0 then codes "at once" else codes "after " ++ (decimal (n % 0x10000) ++ unit_words n)
 
--- the words about several slots
-abbrev pub assigned_words : List ℕ → List ℕ → List KeySource → List ℕ
-assigned_words slots verb keys =
-    codes "slots " ++ (comma_separated decimal slots ++ (codes " " ++ (verb ++ (codes " signatures by keys of " ++ (comma_separated key_text keys ++ codes " in their order")))))
+-- words about one slot
+abbrev pub slot_words : ℕ → List ℕ → List ℕ
+slot_words i rest = codes "slot " ++ (decimal i ++ rest)
 
 abbrev pub lock_sentence : ℕ → Bool → List ℕ
 lock_sentence n true = lock_words n
@@ -75,15 +82,20 @@ abbrev pub age_sentence : ℕ → Bool → List ℕ
 age_sentence n true = age_words n
 age_sentence n false = codes "while the check of the relative lock " ++ (decimal n ++ codes " fails")
 
+-- the bytes in hexadecimal or the number of the slot that a key comes from
+abbrev pub key_words : KeySource → List ℕ
+key_words (FixedKey key) = hex_text key
+key_words (SlotKey i) = decimal i
+
 abbrev pub sentence_by : Fact → Bool → List ℕ
-sentence_by (Hash i h) p = slot_words i (is_words p) (codes " a preimage of the HASH160 " ++ hex_text h)
-sentence_by (Size i n) p = slot_words i (is_words p) (codes " " ++ (decimal n ++ codes " bytes long"))
-sentence_by (Truth i) p = slot_words i (codes "is ") (truth_words p)
-sentence_by (Is i b) p = slot_words i (is_words p) (codes " " ++ item_words b)
-sentence_by (KeyForm i) p = slot_words i (is_words p) (codes " a public key of 33 bytes")
-sentence_by (Form i) p = slot_words i (is_words p) (codes " a signature or the empty item")
-sentence_by (Token i key) p = slot_words i (is_words p) (codes " a signature by " ++ key_words key)
-sentence_by (Assigned slots keys) p = assigned_words slots (are_words p) keys
+sentence_by (Hash i h) p = slot_words i (about (Hash i h) p ++ hex_text h)
+sentence_by (Size i n) p = slot_words i (about (Size i n) p ++ (decimal n ++ codes " bytes long"))
+sentence_by (Truth i) p = slot_words i (about (Truth i) p)
+sentence_by (Is i b) p = slot_words i (about (Is i b) p ++ hex_text b)
+sentence_by (KeyForm i) p = slot_words i (about (KeyForm i) p)
+sentence_by (Form i) p = slot_words i (about (Form i) p)
+sentence_by (Token i key) p = slot_words i (about (Token i key) p ++ key_words key)
+sentence_by (Assigned slots keys) p = codes "slots " ++ (comma_separated decimal slots ++ (about (Assigned slots keys) p ++ (comma_separated key_text keys ++ codes " in their order")))
 sentence_by (Lock n) p = lock_sentence n p
 sentence_by (Age n) p = age_sentence n p
 

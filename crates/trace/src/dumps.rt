@@ -21,8 +21,7 @@ mod standing;
 mod telling;
 
 use crate::dumps::telling::tell_book;
-use crate::input::{InputError, read_all};
-use crate::replies::{refuse_memory, refuse_words, write_refusal, write_told};
+use crate::replies::refuse_words;
 use book::Book;
 use book_dump::errors::LoadError;
 use loading::load_dump;
@@ -30,6 +29,7 @@ use page::Page;
 use std::alloc::Global;
 use std::io::{Read, Write};
 use std::mem;
+use streams::{InputError, read_all, refuse_memory, write_refusal, write_told};
 
 // The note after wrong words.
 const HELP: &str =
@@ -47,17 +47,9 @@ pub fn run_words(
 ) -> u8
     ensures { result ≤ 2 }
 {
-    if words.is_empty() {
-        run(alloc, input, out)
-    } else {
-        refuse_words(err, HELP)
+    if !words.is_empty() {
+        return refuse_words(err, HELP);
     }
-}
-
-// Writes the lines of the dump in the input, and returns the status.
-fn run(alloc: Global, input: &mut dyn Read, out: &mut dyn Write) -> u8
-    ensures { result ≤ 1 }
-{
     match read_all(alloc, input) {
         Ok(bytes) => tell_dump(alloc, bytes.as_slice(), out),
         Err(InputError::NoMemory) => refuse_memory(out),

@@ -7,7 +7,6 @@
 
 mod dumps;
 mod formats;
-mod input;
 mod names;
 mod notes;
 mod replies;
@@ -16,11 +15,12 @@ mod scripts;
 mod verdict;
 mod witnesses;
 
-use crate::replies::{refuse_memory, refuse_words};
+use crate::replies::refuse_words;
 use std::alloc::Global;
 use std::env;
 use std::io::{self, Read, Write};
 use std::process::ExitCode;
+use streams::refuse_memory;
 
 // The note after words of which the first is none.
 const HELP: &str = "note: trace --help says which words there are\n";

@@ -28,8 +28,9 @@ mod playing;
 mod pool;
 mod wishes;
 
-use crate::input::{InputError, read_all};
-use crate::replies::{refuse_memory, refuse_words, write_noted, write_refusal, write_told};
+use crate::formats::Form;
+use crate::notes::tell_notes;
+use crate::replies::refuse_words;
 use crate::scenarios::coins::Told;
 use crate::scenarios::dumping::dump_played;
 use crate::scenarios::endings::tell_end;
@@ -46,6 +47,7 @@ use std::alloc::Global;
 use std::fmt::Display;
 use std::io::{Read, Write};
 use std::mem;
+use streams::{InputError, read_all, refuse_memory, write_refusal, write_told};
 use world::World;
 use world::errors::WorldError;
 
@@ -116,69 +118,40 @@ fn words_in(value: &Value) -> &[Value] {
     }
 }
 
-// Writes the lines of a world and the events of its scenario, and returns the status: strictly, also 1 where an event was refused.
+// Writes the lines of a world and the events of its scenario, and returns the status: where that is wished, also 1 where an event was refused.
 fn tell_world(
     alloc: Global,
     out: &mut dyn Write,
     world: &mut World,
-    scenario: &Scenario,
-    value: &Value,
-    is_strict: bool,
-) -> u8
-    ensures { result ≤ 1 }
-{
-    let (events, words) = (scenario.events.values(), words_in(value));
-    let mut line = Page::new(alloc);
-    let mut told = Told::new(alloc);
-    let status = tell_events(alloc, out, &mut line, world, &mut told, events, words);
-    if is_strict && told.has_refused {
-        1
-    } else {
-        status
-    }
-}
-
-// Writes what is wished of a world and the events of its scenario, and returns the status.
-fn tell_wish(
-    alloc: Global,
-    out: &mut dyn Write,
-    world: &mut World,
-    scenario: &Scenario,
-    value: &Value,
+    events: &[Event],
+    words: &[Value],
     wish: Wish,
 ) -> u8
     ensures { result ≤ 1 }
 {
+    let mut line = Page::new(alloc);
+    let mut told = Told::new(alloc);
+    let status = tell_events(alloc, out, &mut line, world, &mut told, events, words);
     match wish {
-        Wish::Lines => tell_world(alloc, out, world, scenario, value, false),
-        Wish::Strictly => tell_world(alloc, out, world, scenario, value, true),
-        Wish::Dump(side) => dump_played(alloc, out, world, scenario.events.values(), side),
+        Wish::Strictly if told.has_refused => 1,
+        _ => status,
     }
 }
 
-// Reports why a scenario that was read from these bytes has no world, and returns the status.
-fn refuse_world(alloc: Global, out: &mut dyn Write, error: WorldError, bytes: &[u8]) -> u8
+// Reports why these bytes are refused: an object on a line, with the notes on them, of which there may be none. Returns the status.
+fn refuse_scenario<D: Display>(alloc: Global, out: &mut dyn Write, refusal: &D, bytes: &[u8]) -> u8
     ensures { result ≤ 1 }
 {
-    match error {
-        WorldError::NoMemory => refuse_memory(out),
-        _ => refuse_scenario(alloc, out, error, bytes),
-    }
-}
-
-// Reports why these bytes are refused, with the notes on them, and returns the status.
-fn refuse_scenario<D: Display + Drop>(
-    alloc: Global,
-    out: &mut dyn Write,
-    refusal: D,
-    bytes: &[u8],
-) -> u8
-    ensures { result ≤ 1 }
-{
+    let mut line = Page::new(alloc);
+    line.push(r#"{"refused":""#);
+    line.show(refusal);
+    line.push("\"");
     match scenario_notes(alloc, bytes) {
-        Ok(notes) => write_noted(alloc, out, refusal, notes.as_str()),
-        Err(_) => refuse_memory(out),
+        Ok(notes) => tell_notes(&mut line, Form::Json, notes.as_str()),
+        Err(_) => line.fail(),
     }
+    line.push("}\n");
+    write_told(out, &mut line, 1)
 }
 
 // Writes what is wished of a scenario that was read from these bytes, of which `value` is the JSON, and returns the status.
@@ -194,28 +167,17 @@ fn tell_scenario(
 {
     match World::new(alloc, &scenario.seeds, scenario.channels.values()) {
         Ok(mut world) => {
-            let status = tell_wish(alloc, out, &mut world, scenario, value, wish);
-            // not dropped: the program ends now, which frees all at once
-            mem::forget(world);
+            let events = scenario.events.values();
+            let status = match wish {
+                Wish::Dump(side) => dump_played(alloc, out, &mut world, events, side),
+                _ => tell_world(alloc, out, &mut world, events, words_in(value), wish),
+            };
+            // its books and its chain are not dropped: the program ends now, which frees all at once
+            mem::forget(world.into_parts());
             status
         }
-        Err(error) => refuse_world(alloc, out, error, bytes),
-    }
-}
-
-// Writes what is wished of a scenario that was read from these bytes, and returns the status.
-fn tell_read(
-    alloc: Global,
-    out: &mut dyn Write,
-    scenario: &Scenario,
-    bytes: &[u8],
-    wish: Wish,
-) -> u8
-    ensures { result ≤ 1 }
-{
-    match Value::from_slice(alloc, bytes) {
-        Ok(value) => tell_scenario(alloc, out, scenario, &value, bytes, wish),
-        Err(_) => refuse_memory(out),
+        Err(WorldError::NoMemory) => refuse_memory(out),
+        Err(error) => refuse_scenario(alloc, out, &error, bytes),
     }
 }
 
@@ -224,22 +186,14 @@ fn tell_bytes(alloc: Global, out: &mut dyn Write, bytes: &[u8], wish: Wish) -> u
     ensures { result ≤ 1 }
 {
     match Scenario::read(alloc, bytes) {
-        Ok(scenario) => tell_read(alloc, out, &scenario, bytes, wish),
-        Err(error) => match error {
-            ScenarioError::NoMemory => refuse_memory(out),
-            _ => refuse_scenario(alloc, out, error, bytes),
-        },
-    }
-}
-
-// Plays the scenario in the input, writes what is wished of it, and returns the status.
-fn run(alloc: Global, input: &mut dyn Read, out: &mut dyn Write, wish: Wish) -> u8
-    ensures { result ≤ 1 }
-{
-    match read_all(alloc, input) {
-        Ok(bytes) => tell_bytes(alloc, out, bytes.as_slice(), wish),
-        Err(InputError::NoMemory) => refuse_memory(out),
-        Err(error) => write_refusal(alloc, out, error.text(), None),
+        Ok(scenario) => {
+            match Value::from_slice(alloc, bytes) {
+                Ok(value) => tell_scenario(alloc, out, &scenario, &value, bytes, wish),
+                Err(_) => refuse_memory(out),
+            }
+        }
+        Err(ScenarioError::NoMemory) => refuse_memory(out),
+        Err(error) => refuse_scenario(alloc, out, &error, bytes),
     }
 }
 
@@ -254,8 +208,12 @@ pub fn run_words(
 ) -> u8
     ensures { result ≤ 2 }
 {
-    match Wish::read(words) {
-        Some(wish) => run(alloc, input, out, wish),
-        None => refuse_words(err, HELP),
+    let Some(wish) = Wish::read(words) else {
+        return refuse_words(err, HELP);
+    };
+    match read_all(alloc, input) {
+        Ok(bytes) => tell_bytes(alloc, out, bytes.as_slice(), wish),
+        Err(InputError::NoMemory) => refuse_memory(out),
+        Err(error) => write_refusal(alloc, out, error.text(), None),
     }
 }

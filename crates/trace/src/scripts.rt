@@ -21,6 +21,7 @@ mod looks;
 mod names;
 mod opcodes;
 mod pages;
+mod parts;
 mod places;
 mod reading;
 mod sentences;
@@ -28,13 +29,13 @@ mod templates;
 mod weights;
 
 use crate::formats::Form;
-use crate::input::read_all;
 use crate::replies::refuse_words;
 use crate::scripts::lines::{refuse_input, tell_text, told};
 pub use names::opcode_name;
 pub use places::byte_of;
 use std::alloc::Global;
 use std::io::{Read, Write};
+use streams::read_all;
 
 // The note after wrong words.
 const HELP: &str =

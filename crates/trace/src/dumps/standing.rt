@@ -44,9 +44,13 @@ pub fn htlcs(channel: &Channel, source: Source, offerer: Side) -> &[Htlc]
 pub fn stands(channel: &Channel, source: Source, offerer: Side, id: u64) -> bool
     ensures { result ≡ stands_in source offerer channel.now id }
 {
-    htlcs(channel, source, offerer)
-        .iter()
-        .any(|htlc| htlc.id == id)
+    let held = htlcs(channel, source, offerer);
+    for htlc in held {
+        if htlc.id == id {
+            return true;
+        }
+    }
+    false
 }
 
 /// Whether an HTLC of a commitment stands in none of the commitments before it.
@@ -77,7 +81,13 @@ fn is_close_of(entry: &Entry, index: u64) -> bool
 fn has_close(book: &Book, index: u64) -> bool
     ensures { result ≡ list_any (λ e. is_close_of index e.call) book.now }
 {
-    book.entries().iter().any(|entry| is_close_of(entry, index))
+    let entries = book.entries();
+    for entry in entries {
+        if is_close_of(entry, index) {
+            return true;
+        }
+    }
+    false
 }
 
 /// The number of the commitment with which this side closed its channel of an index, if it did.

@@ -5,7 +5,7 @@ use crate::dumps::standing::{Source, closed_with, commitment, htlcs, is_new, sta
 use crate::names::{explorer_id, side_name};
 use book::Book;
 use channel::{Channel, CommitmentState};
-use commit::{Amounts, commitment_amounts};
+use commit::commitment_amounts;
 use page::Piece::{Count, Hash, Text};
 use page::{Page, Piece};
 use std::alloc::Global;
@@ -116,24 +116,6 @@ fn tell_claim(line: &mut Page, claim: &Claimable) {
     );
 }
 
-// Writes what this side can claim of these amounts.
-fn tell_amounts(
-    alloc: Global,
-    line: &mut Page,
-    close: Close,
-    hashes: &[[u8; 32]],
-    amounts: &Amounts,
-) {
-    match claims_of(alloc, close, hashes, amounts) {
-        Ok(claims) => {
-            for claim in &claims {
-                tell_claim(line, claim);
-            }
-        }
-        Err(_) => line.fail(),
-    }
-}
-
 // Writes a commitment of the peer that may close the channel, and what this side can claim of it.
 fn tell_closing(
     alloc: Global,
@@ -150,7 +132,14 @@ fn tell_closing(
         &[Text(name), Count(state.number), kept],
     );
     match commitment_amounts(alloc, channel.terms(), &state.view, state.owner) {
-        Ok(amounts) => tell_amounts(alloc, line, close, hashes, &amounts),
+        Ok(amounts) => match claims_of(alloc, close, hashes, &amounts) {
+            Ok(claims) => {
+                for claim in &claims {
+                    tell_claim(line, claim);
+                }
+            }
+            Err(_) => line.fail(),
+        },
         Err(_) => line.fail(),
     }
     line.push("]}");

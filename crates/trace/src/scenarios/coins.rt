@@ -145,13 +145,13 @@ impl Told {
     /// the ids of their transactions, the last first.
     pub fn back_to(&mut self, line: &mut Page, height: u64) {
         for _ in 0..self.changes.len() {
-            if let Some(Change::Mined { height: at, .. }) = self.changes.last() {
-                if *at <= height {
-                    return;
+            match self.changes.last().copied() {
+                Some(Change::Mined { height: at, txid }) => {
+                    if at <= height {
+                        return;
+                    }
+                    line.element(r#""%""#, &[Hash(txid)]);
                 }
-            }
-            match self.changes.pop() {
-                Some(Change::Mined { txid, .. }) => line.element(r#""%""#, &[Hash(txid)]),
                 Some(Change::Came(outpoint)) => {
                     if let Some(coin) = self.coins.remove(&outpoint) {
                         self.count(&coin, false);
@@ -162,8 +162,9 @@ impl Told {
                         self.count(&coin, true);
                     }
                 }
-                None => {}
+                None => return,
             }
+            self.changes.pop();
         }
     }
 

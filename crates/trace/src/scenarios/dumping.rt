@@ -2,12 +2,12 @@
 
 ghost use Rattle.std.specs.Prelude.{◌≤◌};
 
-use crate::replies::{refuse_memory, write_told};
 use book_dump::Dump as _;
 use page::Page;
 use scenario::Event;
 use std::alloc::Global;
 use std::io::Write;
+use streams::{refuse_memory, write_told};
 use terms::Side;
 use world::World;
 
@@ -21,16 +21,9 @@ pub fn dump_played(
 ) -> u8
     ensures { result ≤ 1 }
 {
-    match world.play(events) {
-        Ok(_) => dump_book(alloc, out, world, side),
-        Err(_) => refuse_memory(out),
+    if world.play(events).is_err() {
+        return refuse_memory(out);
     }
-}
-
-// Writes the dump of a side's book, a line, and returns the status.
-fn dump_book(alloc: Global, out: &mut dyn Write, world: &World, side: Side) -> u8
-    ensures { result ≤ 1 }
-{
     match world.book(side).dump(alloc) {
         Ok(text) => {
             let mut line = Page::new(alloc);

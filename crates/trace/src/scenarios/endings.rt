@@ -2,32 +2,11 @@
 
 use crate::scenarios::coins::Told;
 use book::Book;
-use chain::{Coins as _, Index};
+use chain::Coins as _;
 use page::Page;
 use page::Piece::{Count, Sum};
 use terms::Side;
 use world::World;
-
-// Writes the chain's height, its unspent outputs and its fees, and begins the penalties that are kept.
-fn tell_chain(line: &mut Page, chain: &Index) {
-    let Ok(unspent) = chain.unspent() else {
-        line.fail();
-        return;
-    };
-    let Ok(fees) = chain.fees() else {
-        line.fail();
-        return;
-    };
-    line.write(
-        r#"{"end":{"height":%,"unspent":%,"value":%,"fees":%,"kept":{"A":["#,
-        &[
-            Count(chain.height()),
-            Count(unspent.count),
-            Sum(unspent.value),
-            Sum(fees),
-        ],
-    );
-}
 
 // Writes the revoked commitments whose penalties a book keeps: of each its channel and its number.
 fn tell_kept(line: &mut Page, book: &Book) {
@@ -45,8 +24,20 @@ fn tell_kept(line: &mut Page, book: &Book) {
 /// Writes the end: the chain, the penalties that each side keeps, the lengths of their histories, and the value that is
 /// each side's alone.
 pub fn tell_end(line: &mut Page, told: &Told, world: &World) {
-    let (a, b) = (world.book(Side::A), world.book(Side::B));
-    tell_chain(line, world.chain());
+    let (a, b, chain) = (world.book(Side::A), world.book(Side::B), world.chain());
+    let (Ok(unspent), Ok(fees)) = (chain.unspent(), chain.fees()) else {
+        line.fail();
+        return;
+    };
+    line.write(
+        r#"{"end":{"height":%,"unspent":%,"value":%,"fees":%,"kept":{"A":["#,
+        &[
+            Count(chain.height()),
+            Count(unspent.count),
+            Sum(unspent.value),
+            Sum(fees),
+        ],
+    );
     tell_kept(line, a);
     line.push(r#"],"B":["#);
     tell_kept(line, b);

@@ -113,18 +113,6 @@ pub fn tell_signed(line: &mut Page, world: &World, side: Side, channel: u64) {
     }
 }
 
-// Writes that a side received a revocation.
-fn tell_revoked(line: &mut Page, world: &World, side: Side, channel: u64) {
-    tell_message(line, world, DELIVERED, side, channel, "revoke_and_ack");
-    if let Some(own) = world.book(side).channel(channel) {
-        let number = own.peer_number().saturating_sub(1);
-        line.write(
-            r#","revoked":{"channel":%,"owner":"%","number":%}"#,
-            &[Count(channel), side_name(side.other()), Count(number)],
-        );
-    }
-}
-
 /// Writes that a side received a message, which its book took. It answers a signature with a revocation.
 pub fn tell_delivered(line: &mut Page, world: &World, side: Side, channel: u64) {
     let Some(entry) = world.book(side).entries().last() else {
@@ -140,7 +128,16 @@ pub fn tell_delivered(line: &mut Page, world: &World, side: Side, channel: u64) 
             tell_message(line, world, SENT, side.other(), channel, "revoke_and_ack");
             tell_held(line, world, side, channel);
         }
-        Call::Revoke { .. } => tell_revoked(line, world, side, channel),
+        Call::Revoke { .. } => {
+            tell_message(line, world, DELIVERED, side, channel, "revoke_and_ack");
+            if let Some(own) = world.book(side).channel(channel) {
+                let number = own.peer_number().saturating_sub(1);
+                line.write(
+                    r#","revoked":{"channel":%,"owner":"%","number":%}"#,
+                    &[Count(channel), side_name(side.other()), Count(number)],
+                );
+            }
+        }
         _ => {}
     }
 }

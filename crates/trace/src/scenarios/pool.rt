@@ -15,7 +15,7 @@ impl Told {
             return;
         }
         line.push(r#","joined":["#);
-        for tx in pool.iter().skip(self.waiting.len()) {
+        for tx in &pool[self.waiting.len()..] {
             let id = txid(tx);
             line.element(
                 r#"{"txid":"%","explorer":"%","spends":["#,
@@ -38,23 +38,18 @@ impl Told {
         let mut kept = Vec::new(*self.waiting.allocator());
         line.push(r#","left":["#);
         for id in &self.waiting {
-            keep_or_tell(line, pool, &mut kept, id);
+            // one that still waits is the next of the pool after those kept
+            let is_next = match pool.get(kept.len()) {
+                Some(tx) => txid(tx) == *id,
+                None => false,
+            };
+            if !is_next {
+                line.element(r#""%""#, &[Hash(*id)]);
+            } else if kept.push(*id).is_err() {
+                line.fail();
+            }
         }
         line.push("]");
         drop(mem::replace(&mut self.waiting, kept));
-    }
-}
-
-// Keeps a transaction that still waits, which is then the next of the pool after those kept; else
-// writes that it left.
-fn keep_or_tell(line: &mut Page, pool: &[Tx], kept: &mut Vec<[u8; 32]>, id: &[u8; 32]) {
-    let is_next = match pool.get(kept.len()) {
-        Some(tx) => txid(tx) == *id,
-        None => false,
-    };
-    if !is_next {
-        line.element(r#""%""#, &[Hash(*id)]);
-    } else if kept.push(*id).is_err() {
-        line.fail();
     }
 }

@@ -19,19 +19,16 @@ impl Wish {
         match words {
             [] => Some(Wish::Lines),
             [word] if word.as_str() == "--strict" => Some(Wish::Strictly),
-            [word, side] if word.as_str() == "--dump" => named(side.as_str()),
+            [word, side] if word.as_str() == "--dump" => {
+                if side.as_str() == "A" {
+                    Some(Wish::Dump(Side::A))
+                } else if side.as_str() == "B" {
+                    Some(Wish::Dump(Side::B))
+                } else {
+                    None
+                }
+            }
             _ => None,
         }
-    }
-}
-
-// The dump of the side of this name.
-fn named(side: &str) -> Option<Wish> {
-    if side == "A" {
-        Some(Wish::Dump(Side::A))
-    } else if side == "B" {
-        Some(Wish::Dump(Side::B))
-    } else {
-        None
     }
 }

@@ -1,5 +1,6 @@
 // Paths as JSON.
 
+use crate::scripts::parts::{keys, slots};
 use crate::scripts::sentences::{Role, Sentence};
 use crate::scripts::templates::tell_witness;
 use crate::scripts::weights::{SIGNATURE_SIZE, TOKEN_SIZE, witness_weight};
@@ -8,39 +9,17 @@ use facts::{Fact, KeySource, Stated};
 use page::Piece::{Count, Hash, Sum, Text};
 use page::{Page, Piece};
 use paths::Path;
-use std::slice;
 use warnings::{Look, Taker, look_of, taker_of, takes_hashed_key};
-
-// The slots of a fact.
-fn slots(fact: &Fact) -> &[usize] {
-    match fact {
-        Fact::Hash(slot, _) | Fact::Is(slot, _) => slice::from_ref(slot),
-        Fact::Size(slot, _) => slice::from_ref(slot),
-        Fact::Token(slot, _) => slice::from_ref(slot),
-        Fact::Truth(slot) | Fact::KeyForm(slot) | Fact::Form(slot) => slice::from_ref(slot),
-        Fact::Assigned(slots, _) => slots.values(),
-        Fact::Lock(_) | Fact::Age(_) => &[],
-    }
-}
-
-// Writes bytes in hexadecimal, a text.
-fn tell_hex(line: &mut Page, bytes: &[u8]) {
-    line.push(r#"""#);
-    line.hex("", bytes);
-    line.push(r#"""#);
-}
 
 // Writes the keys of a fact, elements of an array: texts in hexadecimal, or the numbers of the slots that have them.
 fn tell_keys(line: &mut Page, fact: &Fact) {
-    let keys: &[KeySource] = match fact {
-        Fact::Token(_, key) => slice::from_ref(key),
-        Fact::Assigned(_, keys) => keys.values(),
-        _ => &[],
-    };
-    for key in keys {
+    for key in keys(fact) {
         line.element("", &[]);
         match key {
-            KeySource::Const(key) => tell_hex(line, key.bytes()),
+            KeySource::Const(key) => {
+                line.hex("\"", key.bytes());
+                line.push("\"");
+            }
             KeySource::Slot(slot) => line.show(slot),
         }
     }
@@ -49,7 +28,10 @@ fn tell_keys(line: &mut Page, fact: &Fact) {
 // Writes the value that a fact compares with: bytes, a number, or nothing.
 fn tell_value(line: &mut Page, fact: &Fact) {
     match fact {
-        Fact::Hash(_, bytes) | Fact::Is(_, bytes) => tell_hex(line, bytes.bytes()),
+        Fact::Hash(_, bytes) | Fact::Is(_, bytes) => {
+            line.hex("\"", bytes.bytes());
+            line.push("\"");
+        }
         Fact::Size(_, n) | Fact::Age(n) => line.show(n),
         Fact::Lock(n) => line.show(n),
         _ => line.push("null"),
@@ -94,8 +76,8 @@ fn tell_fact(line: &mut Page, stated: &Stated) {
     line.push(r#""}"#);
 }
 
-// Writes a path through a script of this number of bytes, an element of an array.
-fn tell_path(line: &mut Page, path: &Path, size: usize) {
+/// Writes a path through a script of this number of bytes, an element of an array.
+pub fn tell_path(line: &mut Page, path: &Path, size: usize) {
     let facts = path.facts.values();
     let age = match path.age {
         Some(age) => Count(u64::from(age)),
@@ -114,26 +96,19 @@ fn tell_path(line: &mut Page, path: &Path, size: usize) {
         ],
     );
     tell_witness(line, facts, path.arity, "\"", "\",");
+    let taker = match taker_of(facts) {
+        Taker::Signer => "signer",
+        Taker::Finder => "finder",
+        Taker::Anyone => "anyone",
+    };
     line.write(
         r#""],"taker":"%","hashed_key":%,"facts":["#,
-        &[
-            Text(taker_name(taker_of(facts))),
-            Piece::flag(takes_hashed_key(facts)),
-        ],
+        &[Text(taker), Piece::flag(takes_hashed_key(facts))],
     );
     for stated in facts {
         tell_fact(line, stated);
     }
     line.push("]}");
-}
-
-/// Writes the paths through a script of this number of bytes.
-pub fn tell_paths(line: &mut Page, paths: &[Path], size: usize) {
-    line.push(r#","paths":["#);
-    for path in paths {
-        tell_path(line, path, size);
-    }
-    line.push("]");
 }
 
 /// Writes with what a script's object begins: its number of bytes, what they look like that is no witness script, and the program of an output to it.
@@ -142,42 +117,20 @@ pub fn tell_bytes(line: &mut Page, bytes: Option<&[u8]>) {
         line.push(r#"{"bytes":null,"looks":null,"program":null,"opcodes":["#);
         return;
     };
-    let (before, name, after) = match look_of(bytes) {
-        Some(look) => ("\"", look_name(look), "\""),
-        None => ("", "null", ""),
+    let look = match look_of(bytes) {
+        None => "null",
+        Some(Look::KeyHash) => "\"P2PKH\"",
+        Some(Look::ScriptHash) => "\"P2SH\"",
+        Some(Look::Key) => "\"P2PK\"",
+        Some(Look::WitnessKeyHash) => "\"P2WPKH\"",
+        Some(Look::WitnessScriptHash) => "\"P2WSH\"",
+        Some(Look::Taproot) => "\"P2TR\"",
+        Some(Look::WitnessProgram(_)) => "\"program\"",
+        Some(Look::Transaction) => "\"transaction\"",
+        Some(Look::Psbt) => "\"PSBT\"",
     };
     line.write(
-        r#"{"bytes":%,"looks":%%%,"program":"0020%","opcodes":["#,
-        &[
-            Count(bytes.len() as u64),
-            Text(before),
-            Text(name),
-            Text(after),
-            Hash(sha256(bytes)),
-        ],
+        r#"{"bytes":%,"looks":%,"program":"0020%","opcodes":["#,
+        &[Count(bytes.len() as u64), Text(look), Hash(sha256(bytes))],
     );
-}
-
-// The name of what bytes look like.
-fn look_name(look: Look) -> &'static str {
-    match look {
-        Look::KeyHash => "P2PKH",
-        Look::ScriptHash => "P2SH",
-        Look::Key => "P2PK",
-        Look::WitnessKeyHash => "P2WPKH",
-        Look::WitnessScriptHash => "P2WSH",
-        Look::Taproot => "P2TR",
-        Look::WitnessProgram(_) => "program",
-        Look::Transaction => "transaction",
-        Look::Psbt => "PSBT",
-    }
-}
-
-// The name of who can take what a path spends.
-fn taker_name(taker: Taker) -> &'static str {
-    match taker {
-        Taker::Signer => "signer",
-        Taker::Finder => "finder",
-        Taker::Anyone => "anyone",
-    }
 }

@@ -3,29 +3,23 @@
 ghost use Rattle.std.specs.Prelude.{◌≤◌};
 
 use crate::formats::Form;
-use crate::input::InputError;
-use crate::replies::write_told;
-use crate::scripts::reading::{end, refuse, tell};
+use crate::scripts::reading::{refuse, tell};
 use page::Page;
 use std::alloc::Global;
 use std::io::Write;
+use streams::{InputError, write_told};
 
-// Begins what people are told of one of several scripts: its number, after an empty line but for the first.
-fn tell_number(line: &mut Page, number: usize) {
-    if number > 0 {
-        line.push("\n");
-    }
-    line.count("script ", number as u64);
-    line.push("\n");
-}
-
-/// Explains a script, for people with its number where it is one of several, and returns the status.
+/// Explains a script, for people with its number where it is one of several, after an empty line but for the first. Returns the status.
 pub fn told(alloc: Global, text: &str, number: Option<usize>, form: Form, out: &mut dyn Write) -> u8
     ensures { result ≤ 1 }
 {
     let mut line = Page::new(alloc);
     if let (Form::Text, Some(number)) = (form, number) {
-        tell_number(&mut line, number);
+        line.count(
+            if number > 0 { "\nscript " } else { "script " },
+            number as u64,
+        );
+        line.push("\n");
     }
     let status = if tell(alloc, &mut line, form, text) {
         0
@@ -46,17 +40,13 @@ pub fn tell_text(alloc: Global, bytes: &[u8], form: Form, out: &mut dyn Write) -
     let mut status = 0;
     let mut number = 0usize;
     for line in text.lines() {
-        if told(alloc, line, numbered(number, several), form, out) == 1 {
+        let numbered = if several { Some(number) } else { None };
+        if told(alloc, line, numbered, form, out) == 1 {
             status = 1;
         }
         number = number.saturating_add(1);
     }
     status
-}
-
-// The number of a script, where it is one of several.
-fn numbered(number: usize, several: bool) -> Option<usize> {
-    if several { Some(number) } else { None }
 }
 
 /// Reports that the input is refused, and returns the status.
@@ -67,8 +57,10 @@ pub fn refuse_input(alloc: Global, form: Form, refusal: InputError, out: &mut dy
     match refusal {
         InputError::NoMemory => line.fail(),
         _ => {
-            refuse(&mut line, form, None, &[], refusal.text(), None);
-            end(&mut line, form, "");
+            refuse(&mut line, form, None, &[], &refusal.text(), None);
+            if let Form::Json = form {
+                line.push("}\n");
+            }
         }
     }
     write_told(out, &mut line, 1)

@@ -3,10 +3,9 @@
 use crate::scripts::sentences::{Role, Sentence};
 use crate::scripts::templates::tell_witness;
 use crate::scripts::weights::{SIGNATURE_SIZE, TOKEN_SIZE, witness_weight};
-use digest::sha256;
 use facts::Stated;
 use page::Page;
-use page::Piece::{Count, Hash, Sum, Text};
+use page::Piece::{Count, Sum, Text};
 use paths::Path;
 
 // Writes the sentences of one role after a label, a line each, or another line if there are none.
@@ -25,8 +24,8 @@ fn tell_role(line: &mut Page, facts: &[Stated], role: &str, label: &str, otherwi
     }
 }
 
-// Writes the path of this number through a script of this number of bytes.
-fn tell_path(line: &mut Page, path: &Path, number: usize, size: usize) {
+/// Writes the path of this number through a script of this number of bytes.
+pub fn tell_path(line: &mut Page, path: &Path, number: usize, size: usize) {
     let facts = path.facts.values();
     line.write(
         "path %: % item%, % weight units (% with tokens)\n",
@@ -44,21 +43,4 @@ fn tell_path(line: &mut Page, path: &Path, number: usize, size: usize) {
     tell_role(line, facts, "who", "  who   ", "  who   anyone\n");
     tell_role(line, facts, "with", "  with  ", "");
     tell_role(line, facts, "when", "  when  ", "  when  at once\n");
-}
-
-/// Writes the program of an output to a script with these bytes (P2WSH, BIP 141), a line.
-pub fn tell_program(line: &mut Page, bytes: Option<&[u8]>) {
-    if let Some(bytes) = bytes {
-        line.write("program 0020%\n", &[Hash(sha256(bytes))]);
-    }
-}
-
-/// Writes the paths through a script of this number of bytes, each with its number.
-pub fn tell_paths(line: &mut Page, paths: &[Path], size: usize) {
-    if paths.is_empty() {
-        line.push("no path: by the rules here no witness satisfies this script\n");
-    }
-    for (number, path) in paths.iter().enumerate() {
-        tell_path(line, path, number, size);
-    }
 }

@@ -1,35 +1,33 @@
 // Reads and explains a script.
 
 use crate::formats::Form;
-use crate::input::InputError;
 use crate::notes::tell_notes;
 use crate::scripts::names::branches;
 use crate::scripts::opcodes::tell_op;
 use crate::scripts::places::place;
 use crate::scripts::{json, pages};
+use digest::sha256;
 use hex::FromHexError;
 use page::{Page, Piece};
-use paths::{CheckError, Path, check};
+use paths::{Path, check};
 use script::limits::MAX_SCRIPT_SIZE;
 use script::{Op, ParseError, Script};
 use script_notes::notes;
 use std::alloc::Global;
 use std::fmt::Display;
 
-// A text without blanks at its ends, and without `0x` at its front.
-fn trimmed(text: &str) -> &str {
-    let text = text.trim();
-    text.strip_prefix("0x").unwrap_or(text)
-}
-
 /// Explains a script in hexadecimal, which may stand between blanks and begin with `0x`: its opcodes, then its paths, or why it is refused, and at last the notes of `enforce` on it. Returns
 /// whether its paths are listed.
 pub fn tell(alloc: Global, line: &mut Page, form: Form, text: &str) -> bool {
-    let text = trimmed(text);
+    let text = text.trim();
+    let text = text.strip_prefix("0x").unwrap_or(text);
     let is_listed = tell_text(alloc, line, form, text);
     match notes(alloc, text) {
-        Ok(notes) => end(line, form, notes.as_str()),
+        Ok(notes) => tell_notes(line, form, notes.as_str()),
         Err(_) => line.fail(),
+    }
+    if let Form::Json = form {
+        line.push("}\n");
     }
     is_listed
 }
@@ -43,7 +41,7 @@ fn tell_text(alloc: Global, line: &mut Page, form: Form, text: &str) -> bool {
             false
         }
         Err(_) => {
-            refuse(line, form, None, &[], InputError::BadHex.text(), None);
+            refuse(line, form, None, &[], &"BadHex", None);
             false
         }
     }
@@ -73,7 +71,7 @@ fn tell_part(alloc: Global, line: &mut Page, form: Form, bytes: &[u8], error: Pa
     match Script::parse(alloc, &bytes[..read.min(bytes.len())]) {
         Ok(part) => {
             let fault = Some(fault as u64);
-            refuse(line, form, Some(bytes), part.ops(), error, fault);
+            refuse(line, form, Some(bytes), part.ops(), &error, fault);
         }
         Err(_) => line.fail(),
     }
@@ -91,20 +89,15 @@ fn tell_script(alloc: Global, line: &mut Page, form: Form, script: &Script) -> b
             true
         }
         Err(error) => {
-            tell_unlisted(alloc, line, form, script, error);
+            match place(alloc, script.ops(), &error) {
+                Ok(byte) => {
+                    let bytes = Some(script.bytes());
+                    refuse(line, form, bytes, script.ops(), &error, byte);
+                }
+                Err(_) => line.fail(),
+            }
             false
         }
-    }
-}
-
-// Explains a script that is not listed, for this reason.
-fn tell_unlisted(alloc: Global, line: &mut Page, form: Form, script: &Script, error: CheckError) {
-    match place(alloc, script.ops(), &error) {
-        Ok(byte) => {
-            let bytes = Some(script.bytes());
-            refuse(line, form, bytes, script.ops(), error, byte);
-        }
-        Err(_) => line.fail(),
     }
 }
 
@@ -113,8 +106,21 @@ fn tell_listed(line: &mut Page, form: Form, script: &Script, paths: &[Path]) {
     let size = script.bytes().len();
     begin(line, form, Some(script.bytes()), script.ops());
     match form {
-        Form::Json => json::tell_paths(line, paths, size),
-        Form::Text => pages::tell_paths(line, paths, size),
+        Form::Json => {
+            line.push(r#","paths":["#);
+            for path in paths {
+                json::tell_path(line, path, size);
+            }
+            line.push("]");
+        }
+        Form::Text => {
+            if paths.is_empty() {
+                line.push("no path: by the rules here no witness satisfies this script\n");
+            }
+            for (number, path) in paths.iter().enumerate() {
+                pages::tell_path(line, path, number, size);
+            }
+        }
     }
 }
 
@@ -132,25 +138,22 @@ fn begin(line: &mut Page, form: Form, bytes: Option<&[u8]>, ops: &[Op]) {
     }
     match form {
         Form::Json => line.push("]"),
-        Form::Text => pages::tell_program(line, bytes),
-    }
-}
-
-/// Writes what comes last of each script: the notes on it.
-pub fn end(line: &mut Page, form: Form, notes: &str) {
-    tell_notes(line, form, notes);
-    if let Form::Json = form {
-        line.push("}\n");
+        // the program of an output to the script (P2WSH, BIP 141)
+        Form::Text => {
+            if let Some(bytes) = bytes {
+                line.write("program 0020%\n", &[Piece::Hash(sha256(bytes))]);
+            }
+        }
     }
 }
 
 /// Explains a refusal: the script's bytes, the opcodes that were read, the reason, and the byte at which it is refused.
-pub fn refuse<D: Display + Drop>(
+pub fn refuse<D: Display>(
     line: &mut Page,
     form: Form,
     bytes: Option<&[u8]>,
     ops: &[Op],
-    refusal: D,
+    refusal: &D,
     byte: Option<u64>,
 ) {
     begin(line, form, bytes, ops);
@@ -158,7 +161,7 @@ pub fn refuse<D: Display + Drop>(
         Form::Json => r#","refused":""#,
         Form::Text => "refused ",
     });
-    line.show(&refusal);
+    line.show(refusal);
     match (form, byte) {
         (Form::Json, _) => line.write(r#"","byte":%"#, &[Piece::or_null(byte)]),
         (Form::Text, Some(byte)) => line.write(" at byte %\n", &[Piece::Count(byte)]),

@@ -3,12 +3,15 @@
 ghost use Rattle.std.specs.Prelude.{Some, ◌≡◌, ◌++◌, codes, decimal};
 ghost use Rattle.std.specs.Fmt.{WritesOnOk};
 ghost use Rattle.facts.specs.Texts.{hex_text, key_text, comma_separated};
-ghost use Rattle.trace.specs.Sentences.{is_words, are_words, truth_words, key_words, item_words, slot_words, assigned_words, lock_sentence, age_sentence, sentence_of};
+ghost use Rattle.trace.specs.Sentences.{about, slot_words, lock_sentence, unit_words, age_sentence, sentence_of};
 
 use facts::texts::{Hex, Keys, Slots};
 use facts::{Fact, KeySource, Stated};
 use script::limits::LOCKTIME_THRESHOLD;
 use std::fmt;
+
+// The greatest lock time of a transaction, whose field has 32 bits.
+const MAX_LOCK_TIME: u64 = 0xffff_ffff;
 
 /// What a fact says about a path.
 #[derive(Clone, Copy, Drop)]
@@ -48,147 +51,85 @@ impl Role {
     }
 }
 
-// The verb of one slot.
-fn is(holds: bool) -> &'static str
-    ensures { result.now ≡ is_words holds }
+// What follows on the slot, or the slots, that a fact is about.
+fn about(stated: &Stated) -> &'static str
+    ensures { result.now ≡ about stated.now.fact stated.now.holds }
 {
-    if holds { "is" } else { "is not" }
-}
-
-// The verb of several slots.
-fn are(holds: bool) -> &'static str
-    ensures { result.now ≡ are_words holds }
-{
-    if holds { "are" } else { "are not" }
-}
-
-// The words for a slot that counts
-// as true, or that does not.
-fn truth(holds: bool) -> &'static str
-    ensures { result.now ≡ truth_words holds }
-{
-    if holds {
-        "true"
-    } else {
-        "false, as the empty item is"
-    }
-}
-
-// A key: its bytes, or the slot that holds it.
-#[derive(Drop)]
-struct Key<'a>(&'a KeySource);
-
-impl fmt::Display for Key<'_> {
-    ghost output = { λ k. Some (key_words k.0.now) };
-
-    fn fmt<W: fmt::Write>(&self, f: &mut fmt::Formatter<W>) -> fmt::Result {
-        match self.0 {
-            KeySource::Const(key) => write!(f, "the key {}", Hex(key.bytes())),
-            KeySource::Slot(slot) => write!(f, "the key in slot {slot}"),
+    let holds = stated.holds;
+    match &stated.fact {
+        Fact::Hash(_, _) if holds => " is a preimage of the HASH160 ",
+        Fact::Hash(_, _) => " is not a preimage of the HASH160 ",
+        Fact::Size(_, _) if holds => " is ",
+        Fact::Size(_, _) => " is not ",
+        Fact::Truth(_) if holds => " is true",
+        Fact::Truth(_) => " is false, as the empty item is",
+        Fact::Is(_, item) if item.is_empty() => {
+            if holds {
+                " is the empty item"
+            } else {
+                " is not the empty item"
+            }
         }
+        Fact::Is(_, _) if holds => " is the bytes ",
+        Fact::Is(_, _) => " is not the bytes ",
+        Fact::KeyForm(_) if holds => " is a public key of 33 bytes",
+        Fact::KeyForm(_) => " is not a public key of 33 bytes",
+        Fact::Form(_) if holds => " is a signature or the empty item",
+        Fact::Form(_) => " is not a signature or the empty item",
+        Fact::Token(_, KeySource::Const(_)) if holds => " is a signature by the key ",
+        Fact::Token(_, KeySource::Const(_)) => " is not a signature by the key ",
+        Fact::Token(_, KeySource::Slot(_)) if holds => " is a signature by the key in slot ",
+        Fact::Token(_, KeySource::Slot(_)) => " is not a signature by the key in slot ",
+        Fact::Assigned(_, _) if holds => " are signatures by keys of ",
+        Fact::Assigned(_, _) => " are not signatures by keys of ",
+        Fact::Lock(_) | Fact::Age(_) => "",
     }
 }
 
-// An item.
-#[derive(Drop)]
-struct Item<'a>(&'a [u8]);
-
-impl fmt::Display for Item<'_> {
-    ghost output = { λ i. Some (item_words i.0.now) };
-
-    fn fmt<W: fmt::Write>(&self, f: &mut fmt::Formatter<W>) -> fmt::Result {
-        if self.0.is_empty() {
-            return write!(f, "the empty item");
-        }
-        write!(f, "the bytes {}", Hex(self.0))
-    }
-}
-
-// Writes what a slot is or is not.
+// Writes a slot, a text, and bytes in hexadecimal.
 fn write_slot<W: fmt::Write>(
     f: &mut fmt::Formatter<W>,
     slot: usize,
-    verb: &str,
-    rest: &str,
-) -> fmt::Result
-    ensures { WritesOnOk W.write_str_gives f.old result (slot_words slot verb.now rest.now) f.new }
-{
-    write!(f, "slot {slot} {verb}{rest}")
-}
-
-// Writes that a slot is a preimage, or is not.
-fn write_hash<W: fmt::Write>(
-    f: &mut fmt::Formatter<W>,
-    slot: usize,
-    verb: &str,
-    hash: &[u8],
+    text: &str,
+    bytes: &[u8],
 ) -> fmt::Result
     ensures { WritesOnOk W.write_str_gives f.old result
-        (slot_words slot verb.now (codes " a preimage of the HASH160 " ++ hex_text hash.now))
-        f.new }
+        (slot_words slot (text.now ++ hex_text bytes.now)) f.new }
 {
-    write!(
-        f,
-        "slot {slot} {verb} a preimage of the HASH160 {}",
-        Hex(hash)
-    )
+    write!(f, "slot {slot}{text}{}", Hex(bytes))
 }
 
-// Writes that slots are signatures, or are not.
+// Writes a slot, and a number between texts.
+fn write_count<W: fmt::Write>(
+    f: &mut fmt::Formatter<W>,
+    slot: usize,
+    text: &str,
+    number: u64,
+    after: &str,
+) -> fmt::Result
+    ensures { WritesOnOk W.write_str_gives f.old result
+        (slot_words slot (text.now ++ (decimal number ++ after.now))) f.new }
+{
+    write!(f, "slot {slot}{text}{number}{after}")
+}
+
+// Writes slots, a text, and keys.
 fn write_assigned<W: fmt::Write>(
     f: &mut fmt::Formatter<W>,
     slots: &[usize],
-    verb: &str,
+    text: &str,
     keys: &[KeySource],
 ) -> fmt::Result
     ensures { WritesOnOk W.write_str_gives f.old result
-        (assigned_words slots.now verb.now keys.now) f.new }
+        (codes "slots " ++ (comma_separated decimal slots.now ++ (text.now
+        ++ (comma_separated key_text keys.now ++ codes " in their order")))) f.new }
 {
     write!(
         f,
-        "slots {} {verb} signatures by keys of {} in their order",
+        "slots {}{text}{} in their order",
         Slots(slots),
         Keys(keys)
     )
-}
-
-// Writes that a slot has a size, or has not.
-fn write_size<W: fmt::Write>(
-    f: &mut fmt::Formatter<W>,
-    slot: usize,
-    verb: &str,
-    size: u32,
-) -> fmt::Result
-    ensures { WritesOnOk W.write_str_gives f.old result
-        (slot_words slot verb.now (codes " " ++ (decimal size ++ codes " bytes long"))) f.new }
-{
-    write!(f, "slot {slot} {verb} {size} bytes long")
-}
-
-// Writes that a slot is an item, or is not.
-fn write_item<W: fmt::Write>(
-    f: &mut fmt::Formatter<W>,
-    slot: usize,
-    verb: &str,
-    item: &[u8],
-) -> fmt::Result
-    ensures { WritesOnOk W.write_str_gives f.old result
-        (slot_words slot verb.now (codes " " ++ item_words item.now)) f.new }
-{
-    write!(f, "slot {slot} {verb} {}", Item(item))
-}
-
-// Writes that a slot is a signature by a key, or is not.
-fn write_token<W: fmt::Write>(
-    f: &mut fmt::Formatter<W>,
-    slot: usize,
-    verb: &str,
-    key: &KeySource,
-) -> fmt::Result
-    ensures { WritesOnOk W.write_str_gives f.old result
-        (slot_words slot verb.now (codes " a signature by " ++ key_words key.now)) f.new }
-{
-    write!(f, "slot {slot} {verb} a signature by {}", Key(key))
 }
 
 // Writes a number between texts.
@@ -214,8 +155,23 @@ fn write_lock<W: fmt::Write>(f: &mut fmt::Formatter<W>, lock: u64, holds: bool) 
     if lock < LOCKTIME_THRESHOLD {
         return write_number(f, "in block ", lock + 1, " at the earliest");
     }
-    let start = "once the median time past is above ";
-    write_number(f, start, lock, " seconds since 1970 (BIP 113)")
+    if lock <= MAX_LOCK_TIME {
+        let start = "once the median time past is above ";
+        return write_number(f, start, lock, " seconds since 1970 (BIP 113)");
+    }
+    f.write_str("never: no transaction has a lock time above 4294967295")
+}
+
+// The unit of a relative lock, for one or several of them.
+fn unit(age: u32) -> &'static str
+    ensures { result.now ≡ unit_words age }
+{
+    match (age / 0x40_0000 % 2 == 0, age % 0x1_0000 == 1) {
+        (true, true) => " block",
+        (true, false) => " blocks",
+        (false, true) => " unit of 512 seconds of median time past (BIP 68)",
+        (false, false) => " units of 512 seconds of median time past (BIP 68)",
+    }
 }
 
 // Writes that a relative lock holds (BIP 112), or that its check fails.
@@ -226,12 +182,11 @@ fn write_age<W: fmt::Write>(f: &mut fmt::Formatter<W>, age: u32, holds: bool) ->
         let check = "while the check of the relative lock ";
         return write_number(f, check, u64::from(age), " fails");
     }
-    let units = u64::from(age % 0x1_0000);
-    if age / 0x40_0000 % 2 == 0 {
-        return write_number(f, "after ", units, " blocks");
+    let units = age % 0x1_0000;
+    if units == 0 {
+        return f.write_str("at once");
     }
-    let unit = " units of 512 seconds of median time past (BIP 68)";
-    write_number(f, "after ", units, unit)
+    write_number(f, "after ", u64::from(units), unit(age))
 }
 
 /// A fact, printed as a sentence.
@@ -242,21 +197,24 @@ impl fmt::Display for Sentence<'_> {
     ghost output = { λ s. Some (sentence_of s.0.now) };
 
     fn fmt<W: fmt::Write>(&self, f: &mut fmt::Formatter<W>) -> fmt::Result {
-        let holds = self.0.holds;
-        let is = is(holds);
+        let text = about(self.0);
         match &self.0.fact {
-            Fact::Hash(slot, hash) => write_hash(f, *slot, is, hash.bytes()),
-            Fact::Size(slot, size) => write_size(f, *slot, is, *size),
-            Fact::Truth(slot) => write_slot(f, *slot, "is ", truth(holds)),
-            Fact::Is(slot, item) => write_item(f, *slot, is, item.bytes()),
-            Fact::KeyForm(slot) => write_slot(f, *slot, is, " a public key of 33 bytes"),
-            Fact::Form(slot) => write_slot(f, *slot, is, " a signature or the empty item"),
-            Fact::Token(slot, key) => write_token(f, *slot, is, key),
-            Fact::Assigned(slots, keys) => {
-                write_assigned(f, slots.values(), are(holds), keys.values())
+            Fact::Hash(slot, bytes) | Fact::Is(slot, bytes) => {
+                write_slot(f, *slot, text, bytes.bytes())
             }
-            Fact::Lock(lock) => write_lock(f, *lock, holds),
-            Fact::Age(age) => write_age(f, *age, holds),
+            Fact::Token(slot, KeySource::Const(key)) => write_slot(f, *slot, text, key.bytes()),
+            Fact::Token(slot, KeySource::Slot(key)) => {
+                write_count(f, *slot, text, *key as u64, "")
+            }
+            Fact::Size(slot, size) => {
+                write_count(f, *slot, text, u64::from(*size), " bytes long")
+            }
+            Fact::Truth(slot) | Fact::KeyForm(slot) | Fact::Form(slot) => {
+                write_number(f, "slot ", *slot as u64, text)
+            }
+            Fact::Assigned(slots, keys) => write_assigned(f, slots.values(), text, keys.values()),
+            Fact::Lock(lock) => write_lock(f, *lock, self.0.holds),
+            Fact::Age(age) => write_age(f, *age, self.0.holds),
         }
     }
 }

@@ -1,187 +1,129 @@
 // What a witness of a path has, item by item, in the order of the witness.
 
+use crate::scripts::parts::{keys, slots};
 use facts::{Fact, KeySource, Stated};
 use page::Page;
+use page::Piece::Count;
 
-// The bytes that a fact gives to a slot.
-fn bytes_in(facts: &[Stated], slot: usize) -> Option<&[u8]> {
+// What a fact says of the slots that it is about. The first that is said of a slot decides what stands there.
+#[derive(Clone, Copy)]
+enum Says {
+    // Its bytes.
+    Bytes,
+    // Whose signature it is.
+    Signature,
+    // Its hash.
+    Hash,
+    // That it is a key.
+    Key,
+    // Its length, which is not 0.
+    Size,
+    // That it is true.
+    Truth,
+    // Nothing of these.
+    Nothing,
+    // That it is not the number 1.
+    NotOne,
+    // That it is not the empty item.
+    NotEmpty,
+}
+
+// What a fact says of the slots that it is about.
+fn said(stated: &Stated) -> Says {
+    let holds = stated.holds;
+    match &stated.fact {
+        Fact::Is(_, _) if holds => Says::Bytes,
+        Fact::Is(_, bytes) if bytes.bytes() == [1].as_slice() => Says::NotOne,
+        Fact::Is(_, bytes) if bytes.is_empty() => Says::NotEmpty,
+        Fact::Size(_, 0) if !holds => Says::NotEmpty,
+        Fact::Size(_, 1) if !holds => Says::NotOne,
+        Fact::Size(_, 1..) if holds => Says::Size,
+        Fact::Token(_, _) | Fact::Assigned(_, _) if holds => Says::Signature,
+        Fact::Hash(_, _) if holds => Says::Hash,
+        Fact::KeyForm(_) if holds => Says::Key,
+        Fact::Truth(_) if holds => Says::Truth,
+        _ => Says::Nothing,
+    }
+}
+
+// The first of the facts that say the most of a slot.
+fn telling(facts: &[Stated], slot: usize) -> Option<&Fact> {
+    let mut found = None;
+    let mut most = Says::Nothing as u8;
     for stated in facts {
-        if let Fact::Is(place, bytes) = &stated.fact {
-            if stated.holds && *place == slot {
-                return Some(bytes.bytes());
-            }
+        let says = said(stated) as u8;
+        if says < most && slots(&stated.fact).contains(&slot) {
+            found = Some(&stated.fact);
+            most = says;
         }
     }
-    None
+    found
 }
 
-// Whether a fact asks for a signature in a slot.
-fn is_signature(fact: &Fact, slot: usize) -> bool {
-    match fact {
-        Fact::Token(place, _) => *place == slot,
-        Fact::Assigned(slots, _) => slots.values().contains(&slot),
-        _ => false,
-    }
-}
-
-// The fact that asks for a signature in a slot.
-fn signature_in(facts: &[Stated], slot: usize) -> Option<&Fact> {
+// Whether a fact says this of a slot.
+fn is_said(facts: &[Stated], slot: usize, says: Says) -> bool {
     for stated in facts {
-        if stated.holds && is_signature(&stated.fact, slot) {
-            return Some(&stated.fact);
-        }
-    }
-    None
-}
-
-// The hash that a fact asks of a slot.
-fn hash_in(facts: &[Stated], slot: usize) -> Option<&[u8]> {
-    for stated in facts {
-        if let Fact::Hash(place, hash) = &stated.fact {
-            if stated.holds && *place == slot {
-                return Some(hash.bytes());
-            }
-        }
-    }
-    None
-}
-
-// The length other than 0 that a fact gives to a slot.
-fn size_in(facts: &[Stated], slot: usize) -> Option<u32> {
-    for stated in facts {
-        if let Fact::Size(place, size) = &stated.fact {
-            if stated.holds && *place == slot && *size != 0 {
-                return Some(*size);
-            }
-        }
-    }
-    None
-}
-
-// Whether a fact says that a slot is a key.
-fn is_key(facts: &[Stated], slot: usize) -> bool {
-    for stated in facts {
-        if let Fact::KeyForm(place) = &stated.fact {
-            if stated.holds && *place == slot {
-                return true;
-            }
-        }
-    }
-    false
-}
-
-// Whether a fact says that a slot is true.
-fn is_true(facts: &[Stated], slot: usize) -> bool {
-    for stated in facts {
-        if let Fact::Truth(place) = &stated.fact {
-            if stated.holds && *place == slot {
-                return true;
-            }
-        }
-    }
-    false
-}
-
-// Whether a fact rules out that a slot is this item.
-fn rules_out(fact: &Fact, slot: usize, item: &[u8]) -> bool {
-    match fact {
-        Fact::Size(place, size) => *place == slot && u64::from(*size) == item.len() as u64,
-        Fact::Is(place, bytes) => *place == slot && bytes.bytes() == item,
-        _ => false,
-    }
-}
-
-// Whether one of the facts rules out that a slot is this item.
-fn is_ruled_out(facts: &[Stated], slot: usize, item: &[u8]) -> bool {
-    for stated in facts {
-        if !stated.holds && rules_out(&stated.fact, slot, item) {
+        if said(stated) as u8 == says as u8 && slots(&stated.fact).contains(&slot) {
             return true;
         }
     }
     false
 }
 
-// Writes a key.
-fn tell_key(line: &mut Page, key: &KeySource) {
-    match key {
-        KeySource::Const(bytes) => line.hex("", bytes.bytes()),
-        KeySource::Slot(slot) => line.count("the key in slot ", *slot as u64),
-    }
-}
-
-// Writes whose signature may stand in a slot.
+// Writes whose signature may stand in a slot: of as many keys as slots each slot's own, else one of all keys.
 fn tell_signer(line: &mut Page, fact: &Fact, slot: usize) {
-    match fact {
-        Fact::Token(_, key) => tell_key(line, key),
-        Fact::Assigned(slots, keys) => tell_assigned(line, slots.values(), keys.values(), slot),
-        _ => {}
-    }
-}
-
-// Writes whose signature may stand in one of these slots: of as many keys as slots each slot's own, else one of all keys.
-fn tell_assigned(line: &mut Page, slots: &[usize], keys: &[KeySource], slot: usize) {
+    let (slots, keys) = (slots(fact), keys(fact));
     if slots.len() != keys.len() {
         line.count("one of ", keys.len() as u64);
         line.push(" keys");
         return;
     }
-    for (index, place) in slots.iter().enumerate() {
-        if *place == slot {
-            if let Some(key) = keys.get(index) {
-                tell_key(line, key);
+    for index in 0..slots.len() {
+        if slots[index] == slot {
+            match &keys[index] {
+                KeySource::Const(bytes) => line.hex("", bytes.bytes()),
+                KeySource::Slot(slot) => line.count("the key in slot ", *slot as u64),
             }
         }
     }
 }
 
-// Writes bytes that are given.
-fn tell_given(line: &mut Page, bytes: &[u8]) {
-    if bytes.is_empty() {
-        line.push("<empty>");
-    } else {
-        line.hex("", bytes);
-    }
-}
-
-// Writes an item of which a hash is asked.
-fn tell_hashed(line: &mut Page, is_key: bool, hash: &[u8]) {
-    line.push(if is_key {
-        "<key with HASH160 "
-    } else {
-        "<preimage of HASH160 "
-    });
-    line.hex("", hash);
-    line.push(">");
-}
-
-// Writes the item of a slot, by the first fact that says what it is.
+// Writes the item of a slot.
 fn tell_item(line: &mut Page, facts: &[Stated], slot: usize) {
-    if let Some(bytes) = bytes_in(facts, slot) {
-        tell_given(line, bytes);
-    } else if let Some(fact) = signature_in(facts, slot) {
-        line.push("<signature of ");
-        tell_signer(line, fact, slot);
-        line.push(">");
-    } else if let Some(hash) = hash_in(facts, slot) {
-        tell_hashed(line, is_key(facts, slot), hash);
-    } else {
-        tell_other(line, facts, slot);
-    }
-}
-
-// Writes an item of which no fact says what it is.
-fn tell_other(line: &mut Page, facts: &[Stated], slot: usize) {
-    if is_key(facts, slot) {
-        line.push("<key>");
-    } else if let Some(size) = size_in(facts, slot) {
-        line.count("<", u64::from(size));
-        line.push(if size == 1 { " byte>" } else { " bytes>" });
-    } else if is_true(facts, slot) {
-        let is_other = is_ruled_out(facts, slot, &[1]);
-        line.push(if is_other { "<true item>" } else { "01" });
-    } else {
-        let is_other = is_ruled_out(facts, slot, &[]);
-        line.push(if is_other { "<item>" } else { "<empty>" });
+    match telling(facts, slot) {
+        Some(Fact::Is(_, bytes)) => {
+            line.push(if bytes.is_empty() { "<empty>" } else { "" });
+            line.hex("", bytes.bytes());
+        }
+        Some(Fact::Hash(_, hash)) => {
+            line.push(if is_said(facts, slot, Says::Key) {
+                "<key with HASH160 "
+            } else {
+                "<preimage of HASH160 "
+            });
+            line.hex("", hash.bytes());
+            line.push(">");
+        }
+        Some(Fact::KeyForm(_)) => line.push("<key>"),
+        Some(Fact::Size(_, size)) => line.write(
+            if *size == 1 { "<% byte>" } else { "<% bytes>" },
+            &[Count(u64::from(*size))],
+        ),
+        Some(Fact::Truth(_)) => line.push(if is_said(facts, slot, Says::NotOne) {
+            "<true item>"
+        } else {
+            "01"
+        }),
+        Some(fact) => {
+            line.push("<signature of ");
+            tell_signer(line, fact, slot);
+            line.push(">");
+        }
+        None => line.push(if is_said(facts, slot, Says::NotEmpty) {
+            "<item>"
+        } else {
+            "<empty>"
+        }),
     }
 }
 

@@ -35,23 +35,13 @@ pub fn judge(
     ensures fault { IfOk result (OnRefused (IsFaultOf output.now.script input.now.witness)) }
 {
     let program = output.script().bytes();
-    let given = match given_of(alloc, program, input.witness.as_slice())? {
-        Ok(given) => given,
-        Err(fault) => return Ok(Verdict::Refused(Fault::Program(fault))),
-    };
-    let (script, items) = (given.script(), given.items());
-    let judged = judge_code(
-        alloc,
-        tx,
-        cache,
-        index,
-        input,
-        script,
-        items,
-        output.value(),
-    );
-    drop(given);
-    judged
+    match given_of(alloc, program, input.witness.as_slice())? {
+        Ok(given) => {
+            let (script, items, value) = (given.script(), given.items(), output.value());
+            judge_code(alloc, tx, cache, index, input, script, items, value)
+        }
+        Err(fault) => Ok(Verdict::Refused(Fault::Program(fault))),
+    }
 }
 
 // Judges an input whose script has these bytes, and runs on these items.

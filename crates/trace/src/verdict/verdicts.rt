@@ -43,7 +43,7 @@ pub struct Stopped {
     pub index: usize,
     /// What ran.
     pub script: Script,
-    /// The elements before that opcode.
+    /// The entries before that opcode.
     pub stack: Option<Stack<ByteString>>,
     /// What a signature of this input is over (BIP 143).
     pub digest: [u8; 32],

@@ -5,10 +5,10 @@ use script::{Cause, Kind};
 /// Why a run stops, in words.
 pub fn cause_sentence(cause: Cause) -> &'static str {
     match cause {
-        Cause::MissingOperand => "the stack has too few elements",
-        Cause::FailedCheck(Kind::Verify) => "the two elements on top differ",
+        Cause::MissingOperand => "the stack has too few entries",
+        Cause::FailedCheck(Kind::Verify) => "the two entries on top differ",
         Cause::FailedCheck(Kind::Number) =>
-            "an element is no number: it is too long, or not minimally encoded",
+            "an entry is no number: it is too long, or not minimally encoded",
         Cause::FailedCheck(Kind::KeyCount) => "the number of keys is negative or above 20",
         Cause::FailedCheck(Kind::SigCount) =>
             "the number of signatures is negative or above that of the keys",
@@ -22,10 +22,10 @@ pub fn cause_sentence(cause: Cause) -> &'static str {
             "the version is below 2, the input's sequence is disabled, or the relative lock on top is negative, of the other kind or above it",
         Cause::OpenBranch => "an IF, ELSE or ENDIF stands alone",
         Cause::TooManyOps => "more than 201 opcodes are counted",
-        Cause::StackTooTall => "more than 1,000 elements would stand on the stack",
+        Cause::StackTooTall => "more than 1,000 entries would stand on the stack",
         Cause::ItemTooLong => "an item of the witness has more than 520 bytes",
-        Cause::NotOneValue => "the run ends with another number of elements than one",
+        Cause::NotOneValue => "the run ends with another number of entries than one",
         Cause::FalseEnd =>
-            "the run ends with a false element, as after a signature that is not the key's over the digest",
+            "the run ends with a false entry, as after a signature that is not the key's over the digest",
     }
 }

@@ -3,7 +3,7 @@
 ghost use Rattle.std.specs.Prelude.{◌≡◌};
 ghost use Rattle.trace.specs.Refusals.{refusal_number};
 
-use crate::input::InputError;
+use streams::InputError;
 use tx::DecodeError;
 
 /// Why a text is not a transaction with the outputs that it spends. Checked in the order of the numbers; the first line at fault is named.

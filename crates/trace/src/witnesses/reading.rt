@@ -1,32 +1,32 @@
 // Reads a transaction with the outputs that it spends.
 
-use crate::input::InputError;
 use crate::witnesses::errors::SpentError;
 use hex::FromHexError;
 use lists::ByteString;
 use std::alloc::Global;
+use streams::InputError;
 use tx::{DecodeError, Tx, TxOut, decode};
-
-// Decodes a transaction.
-fn tx_of(alloc: Global, bytes: &[u8]) -> Result<Tx, SpentError> {
-    match decode(alloc, bytes) {
-        Ok(tx) => Ok(tx),
-        Err(DecodeError::NoMemory) => Err(SpentError::Input(InputError::NoMemory)),
-        Err(error) => Err(SpentError::Decode(error)),
-    }
-}
 
 /// Reads the transaction on the first line of a text.
 pub fn read_tx(alloc: Global, text: &str) -> Result<Tx, SpentError> {
     match hex::decode(alloc, text.lines().next().unwrap_or("")) {
-        Ok(bytes) => tx_of(alloc, bytes.as_slice()),
+        Ok(bytes) => match decode(alloc, bytes.as_slice()) {
+            Ok(tx) => Ok(tx),
+            Err(DecodeError::NoMemory) => Err(SpentError::Input(InputError::NoMemory)),
+            Err(error) => Err(SpentError::Decode(error)),
+        },
         Err(FromHexError::OutOfMemory) => Err(SpentError::Input(InputError::NoMemory)),
         Err(_) => Err(SpentError::Input(InputError::BadHex)),
     }
 }
 
-// Reads the output on the line of this number.
-fn read_output(alloc: Global, line: &str, number: usize) -> Result<TxOut, SpentError> {
+// Appends the output on the line of this number.
+fn read_output(
+    alloc: Global,
+    outputs: &mut Vec<TxOut>,
+    line: &str,
+    number: usize,
+) -> Result<(), SpentError> {
     let Some((value, program)) = line.split_once(' ') else {
         return Err(SpentError::BadLine(number));
     };
@@ -35,7 +35,10 @@ fn read_output(alloc: Global, line: &str, number: usize) -> Result<TxOut, SpentE
     };
     match hex::decode(alloc, program) {
         Ok(program) => match TxOut::new(value, ByteString::from_vec(program)) {
-            Ok(output) => Ok(output),
+            Ok(output) => match outputs.push(output) {
+                Ok(()) => Ok(()),
+                Err(_) => Err(SpentError::Input(InputError::NoMemory)),
+            },
             Err(_) => Err(SpentError::BadLine(number)),
         },
         Err(FromHexError::OutOfMemory) => Err(SpentError::Input(InputError::NoMemory)),
@@ -56,10 +59,7 @@ pub fn read_outputs(
     let mut number = 1usize;
     for line in text.lines().skip(1) {
         number = number.saturating_add(1);
-        match outputs.push(read_output(alloc, line, number)?) {
-            Ok(()) => {}
-            Err(_) => return Err(SpentError::Input(InputError::NoMemory)),
-        }
+        read_output(alloc, outputs, line, number)?;
     }
     Ok(())
 }

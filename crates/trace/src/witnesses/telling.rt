@@ -8,9 +8,8 @@ use crate::witnesses::causes::cause_sentence;
 use crate::witnesses::hints::stopped_note;
 use chain::ProgramFault;
 use lists::ByteString;
+use page::Page;
 use page::Piece::{Count, Hash, Text};
-use page::{Page, Piece};
-use script::Op;
 
 // Writes a clean run.
 fn tell_clean(line: &mut Page, form: Form, clean: &Clean) {
@@ -34,34 +33,37 @@ fn tell_clean(line: &mut Page, form: Form, clean: &Clean) {
                 None => line.push(" runs clean, its paths are not listed"),
             }
             line.write(
-                ": % opcodes counted, % elements at most\n",
-                &[counted, height],
+                ": % opcode% counted, % % at most\n",
+                &[
+                    counted,
+                    Text(if clean.run.counted == 1 { "" } else { "s" }),
+                    height,
+                    Text(if clean.run.height == 1 {
+                        "entry"
+                    } else {
+                        "entries"
+                    }),
+                ],
             );
         }
     }
 }
 
-// Writes the elements of a stack, the top first: of an array, or a line each, where the empty element is `-`.
+// Writes the entries of a stack, the top first: of an array, or a line each, where the empty entry is `-`.
 fn tell_stack(line: &mut Page, form: Form, items: &[ByteString]) {
     for item in items.iter().rev() {
         match form {
-            Form::Json => line.element("\"", &[]),
-            Form::Text if item.is_empty() => line.push("  stack   -"),
-            Form::Text => line.push("  stack   "),
+            Form::Json => {
+                line.element("\"", &[]);
+                line.hex("", item.bytes());
+                line.push("\"");
+            }
+            Form::Text if item.is_empty() => line.push("  stack   -\n"),
+            Form::Text => {
+                line.hex("  stack   ", item.bytes());
+                line.push("\n");
+            }
         }
-        line.hex("", item.bytes());
-        line.push(match form {
-            Form::Json => "\"",
-            Form::Text => "\n",
-        });
-    }
-}
-
-// The name of the opcode of this index, or the other text if the script has no such opcode. The quote stands on both sides of a name.
-fn op_name(ops: &[Op], index: usize, quote: &'static str, end: &'static str) -> (Piece, Piece) {
-    match ops.get(index) {
-        Some(op) => (Text(quote), Text(opcode_name(op))),
-        None => (Text(""), Text(end)),
     }
 }
 
@@ -71,9 +73,14 @@ fn tell_stop(line: &mut Page, form: Form, stopped: &Stopped) {
     let ops = stopped.script.ops();
     let (opcode, byte) = (Count(index as u64), Count(byte_of(ops, index)));
     let says = Text(cause_sentence(cause));
+    // the name of the opcode and what stands on both sides of it, if there is one
+    let (quote, name) = match ops.get(index) {
+        Some(op) => (Text("\""), opcode_name(op)),
+        None => (Text(""), ""),
+    };
     match form {
         Form::Json => {
-            let (quote, op) = op_name(ops, index, "\"", "null");
+            let op = Text(if name.is_empty() { "null" } else { name });
             line.push(r#","stopped":""#);
             line.show(&cause);
             line.write(
@@ -82,7 +89,7 @@ fn tell_stop(line: &mut Page, form: Form, stopped: &Stopped) {
             );
         }
         Form::Text => {
-            let (_, op) = op_name(ops, index, "", "end");
+            let op = Text(if name.is_empty() { "end" } else { name });
             line.write(" stops at opcode % (%), byte %: ", &[opcode, op, byte]);
             line.show(&cause);
             line.write(": %\n", &[says]);

@@ -3,9 +3,8 @@
 ghost use Rattle.std.specs.Prelude.{◌≡◌, ◌≤◌, Some, slice_get};
 
 use crate::formats::Form;
-use crate::input::{InputError, read_all};
 use crate::notes::tell_notes;
-use crate::replies::{refuse_memory, refuse_words, write_told};
+use crate::replies::refuse_words;
 use crate::verdict::{Verdict, judge};
 use crate::witnesses::errors::SpentError;
 use crate::witnesses::hints::refused_note;
@@ -16,6 +15,7 @@ use page::Piece::Count;
 use sighash::SighashCache;
 use std::alloc::Global;
 use std::io::{Read, Write};
+use streams::{InputError, read_all, refuse_memory, write_told};
 use tx::{Tx, TxIn, TxOut};
 
 // The note after wrong words.
