@@ -37,7 +37,8 @@ def head(it):
     start = f"input {it['input']}, {it['outpoint']},"
     if it["answer"] == "clean":
         on = "its paths are not listed" if it["path"] is None else f"path {it['path']}"
-        return f"{start} is clean: {on}; {many(it['counted'], 'opcode')} counted, {many(it['height'], 'element')} at most\n"
+        entries = f"{it['height']} {'entry' if it['height'] == 1 else 'entries'}"
+        return f"{start} is clean: {on}; {many(it['counted'], 'opcode')} counted, {entries} at most\n"
     why = f"{it['reason']}: {it['says']}\n"
     if it["answer"] == "not judged":
         return f"{start} is not judged: {why}"
