@@ -58,7 +58,10 @@ def below(uses, names):
 
 
 def at_once():
-    """The number of checks that run side by side: at most one for each processor, and one for each 5 GiB."""
+    """The number of checks that run side by side: RT_JOBS where it is set, or else at most one for each processor, and one for each 5 GiB."""
+    jobs = os.environ.get("RT_JOBS", "")
+    if jobs.isdigit() and int(jobs) > 0:
+        return int(jobs)
     memory = os.sysconf("SC_PAGE_SIZE") * os.sysconf("SC_PHYS_PAGES")
     return max(1, min(len(os.sched_getaffinity(0)), memory // MEMORY))
 

@@ -70,7 +70,7 @@ const UNKNOWN: [Unknown; 7] = [
         before: &[OFFER, COMMIT],
         index: "8",
         event: "[\"fail\", \"B\", 0, 1]",
-        meaning: "note: there is no such HTLC: A offered 1 in channel 0, of which the first has number 0\n",
+        meaning: "note: there is no such HTLC: A offered 1 in channel 0, numbered from 0\n",
     },
     Unknown {
         before: &[OFFER],
@@ -89,14 +89,14 @@ const UNKNOWN: [Unknown; 7] = [
         before: &[OFFER, COMMIT],
         index: "8",
         event: "[\"fail\", \"A\", 0, 0]",
-        meaning: "note: there is no such HTLC: B offered 0 in channel 0, of which the first has number 0\n",
+        meaning: "note: there is no such HTLC: B offered 0 in channel 0, numbered from 0\n",
     },
     // what was offered and what was failed in another channel, and what the other side failed
     Unknown {
         before: &[OFFER, COMMIT],
         index: "8",
         event: "[\"fail\", \"B\", 1, 0]",
-        meaning: "note: there is no such HTLC: A offered 0 in channel 1, of which the first has number 0\n",
+        meaning: "note: there is no such HTLC: A offered 0 in channel 1, numbered from 0\n",
     },
     Unknown {
         before: &[OFFER, COMMIT, FAIL, ",", OFFER_IN_SECOND],

@@ -268,7 +268,7 @@ fn note_unknown(
     if id >= count {
         writeln!(
             note,
-            "note: there is no such HTLC: {peer} offered {count} in channel {channel}, of which the first has number 0"
+            "note: there is no such HTLC: {peer} offered {count} in channel {channel}, numbered from 0"
         )
     } else if is_removed(events, outcomes, index, removal) {
         writeln!(
