@@ -1,6 +1,7 @@
 -- One turn of a branch, and entries that are popped.
 use Rattle.std.proofs.Common.{◌≡◌, ◌++◌, min, ℕ, suc, zero, ◌+◌, ◌-◌, ◌<◌, ◌≤◌, Bool, true, false, ◌&&◌, ◌||◌, ◌==◌, List, [], ◌∷◌, length, get_or, take, drop, Option, Some, None, sym, ap, ◌∙◌, subst, refl, arith}
-use Rattle.std.specs.Prelude.{is_some}
+use Rattle.std.specs.Prelude.{is_some, Result, Ok, Err, IfOk, IfSome}
+use Rattle.std.specs.declared.alloc.AllocError.{AllocError}
 use Rattle.std.specs.Option.{option_or}
 use Rattle.std.specs.List.{list_any}
 use Rattle.std.proofs.lemmas.List.{drop_more, length-take-le, take_min}
@@ -10,11 +11,13 @@ use Rattle.std.proofs.Math.Seq.{take-append_seam}
 use Rattle.script.specs.declared.opcode.Op.{Op}
 use Rattle.consensus.specs.declared.entries.Bytes.{Bytes}
 use Rattle.consensus.specs.declared.branches.Mode.{Mode}
-use Rattle.consensus.specs.declared.branches.Mode.TheVariants.{Lost}
+use Rattle.consensus.specs.declared.branches.Mode.TheVariants.{Skipping, Lost}
 use Rattle.consensus.specs.declared.branches.Branch.{Branch}
+use Rattle.consensus.specs.declared.branches.Turn.{Turn}
+use Rattle.consensus.specs.declared.branches.Turn.TheVariants as turns
 use Rattle.consensus.specs.Words.{Word, top_of, below}
-use Rattle.consensus.specs.Turns.{Step, next, after_else, after_end, both, ends, stops, IsTurn, is_no_key}
-use Rattle.consensus.specs.Exact.{by_step, is_exact, ends_refused, are_exact_from}
+use Rattle.consensus.specs.Turns.{Step, next, after_else, after_end, both, ends, stops, step_of, IsTurn, is_no_key}
+use Rattle.consensus.specs.Exact.{mode_after, by_step, is_exact, ends_refused, depth_of, is_exact_from, are_exact_from}
 
 -- a branch that made a turn goes on by what the definition says of it
 pub taken : (go : Mode → List Word → Bool) (s : Step) (w : List Word) (t : Step × List Word) → IsTurn s w t → by_step go t.0 t.1 ≡ by_step go s w
@@ -137,6 +140,15 @@ nothing_left ops bs true false e is t = absurd (false≢true t)
 nothing_left ops bs false true e is t = absurd (false≢true t)
 nothing_left ops bs false false e is t = absurd (false≢true t)
 
+-- a branch that was taken from those that wait is followed
+pub carried_on : (ops : List Op) (branch : Branch) (waiting rest others : List Branch) (e s r s' b r' : Bool) → e ≡ (s && (r && are_exact_from ops waiting)) → waiting ≡ branch ∷ rest
+    → (s && (is_exact_from ops branch && are_exact_from ops rest)) ≡ (s' && (b && are_exact_from ops others)) → r' ≡ (r && b) → e ≡ (s' && (r' && are_exact_from ops others))
+carried_on ops branch waiting rest others e s r s' b r' whole taken h j =
+    whole
+    ∙ ap (λ (w : List Branch). s && (r && are_exact_from ops w)) taken
+    ∙ carried s r (is_exact_from ops branch) (are_exact_from ops rest) s' b (are_exact_from ops others) h
+    ∙ ap (λ (t : Bool). s' && (t && are_exact_from ops others)) (sym j)
+
 -- the opcode at an index, and those after it
 pub here : (ops : List Op) (i : ℕ) (op : Op) → i < length ops → op ≡ get_or ops i op → drop i ops ≡ op ∷ drop (i + 1) ops
 here ops i op l is = drop_more ops i op l ∙ ap (λ x. x ∷ drop (i + 1) ops) (sym is)
@@ -156,8 +168,26 @@ pub lost_exact : (ops : List Op) (w : List Word) → is_exact ops Lost w ≡ fal
 lost_exact [] w = refl
 lost_exact (op ∷ ops) w = lost_exact ops w
 
-pub lost_from : (ops : List Op) (w : List Word) (s r : Bool) → (s && (false && r)) ≡ (s && (is_exact ops Lost w && r))
-lost_from ops w s r = ap (λ b. s && (b && r)) (sym (lost_exact ops w))
+pub lost_from : (ops : List Op) (turn : Turn) (w : List Word) (s r : Bool) → turn ≡ turns.Lost → (s && (by_step (is_exact ops) (step_of turn) w && r)) ≡ (s && (is_exact ops Lost w && r))
+lost_from ops turn w s r e = ap (λ b. s && (b && r)) (ap (λ t. by_step (is_exact ops) (step_of t) w) e ∙ sym (lost_exact ops w))
 
 pub lost_on : (ops ops' : List Op) (mode : Mode) (w : List Word) (s r : Bool) → mode ≡ Lost → (s && (is_exact ops mode w && r)) ≡ (s && (is_exact ops' Lost w && r))
 lost_on ops ops' mode w s r e = ap (λ b. s && (b && r)) (ap (λ m. is_exact ops m w) e ∙ lost_exact ops w ∙ sym (lost_exact ops' w))
+
+-- a branch that skips an opcode
+pub skipped_on : (ops : List Op) (i : ℕ) (op : Op) (mode then : Mode) (d : ℕ) (t : Bool) (w : List Word) (s r : Bool) → i < length ops → op ≡ get_or ops i op → mode ≡ Skipping d t → then ≡ mode_after op d t
+    → (s && (is_exact (drop i ops) mode w && r)) ≡ (s && (is_exact (drop (i + 1) ops) then w && r))
+skipped_on ops i op mode then d t w s r l is m e =
+    ap (λ b. s && (b && r)) (
+    ap (λ (v : List Op). is_exact v mode w) (here ops i op l is)
+    ∙ ap (λ (v : Mode). is_exact (op ∷ drop (i + 1) ops) v w) m
+    ∙ ap (λ (v : Mode). is_exact (drop (i + 1) ops) v w) (sym e))
+
+-- where a branch runs on, no IF was opened since it began to skip
+low_option : (o : Option Mode) (i : ℕ) → IfSome o (λ m. depth_of m ≡ 0) → IfSome o (λ m. depth_of m ≤ i + 1)
+low_option None i e = tt
+low_option (Some m) i e = omega (arith, e)
+
+pub low_mode : (r : Result (Option Mode) AllocError) (i : ℕ) → IfOk r (λ o. IfSome o (λ m. depth_of m ≡ 0)) → IfOk r (λ o. IfSome o (λ m. depth_of m ≤ i + 1))
+low_mode (Ok o) i e = low_option o i e
+low_mode (Err x) i e = tt

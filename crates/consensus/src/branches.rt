@@ -101,12 +101,26 @@ pub fn strict_ends(alloc: Global, ops: &[Op]) -> Result<Ends, AllocError>
 }
 
 // The same, by the walk.
-#[tactic(auto, using(crate::proofs::Steps::carried, crate::proofs::Steps::nothing_left))]
 fn all_ends(alloc: Global, ops: &[Op]) -> Result<Ends, AllocError>
     ensures { IfOk result (λ ends. ends.is_exact ≡ true → ends_as_in_consensus ops.now ≡ true) }
 {
     let mut strict = Vec::new(alloc);
     let mut waiting = Stack::new(alloc);
+    let is_exact = walk(alloc, ops, &mut waiting, &mut strict)?;
+    Ok(Ends { strict, is_exact })
+}
+
+// Follows each branch, and returns whether all of them end as in consensus.
+fn walk(
+    alloc: Global,
+    ops: &[Op],
+    waiting: &mut Stack<Branch>,
+    strict: &mut Vec<StrictEnd>,
+) -> Result<bool, AllocError>
+    requires alone { waiting.old ≡ [] }
+    requires none { length strict.old.items ≡ 0 }
+    ensures { IfOk result (λ b. b ≡ true → ends_as_in_consensus ops.now ≡ true) }
+{
     waiting.push(Branch {
         at: 0,
         skips: false,
@@ -115,17 +129,22 @@ fn all_ends(alloc: Global, ops: &[Op]) -> Result<Ends, AllocError>
     let mut is_refused = true;
     for _turn in 0..MAX_BRANCHES {
         let Some(branch) = waiting.pop() else {
-            break;
+            continue;
         };
-        let ends = follow(ops, branch, &mut waiting, &mut strict)?;
+        let ends = follow(ops, branch, waiting, strict)?;
         is_refused = is_refused && ends;
     }
-    let is_exact = is_refused && strict.as_slice().is_empty() && waiting.is_empty();
-    Ok(Ends { strict, is_exact })
+    Ok(has_ended(is_refused, strict.as_slice(), waiting))
+}
+
+// Whether no branch waits, none ended as a run may that consensus takes, and no end is recorded.
+fn has_ended(is_refused: bool, strict: &[StrictEnd], waiting: &Stack<Branch>) -> bool
+    ensures { result ≡ (is_refused && length strict.now == 0 && (length waiting.now == 0)) }
+{
+    is_refused && strict.is_empty() && waiting.is_empty()
 }
 
 // Follows a branch to its end, and returns false if it ends after the last opcode as a run may that consensus takes. Branches that split off are queued.
-#[tactic(auto, using(crate::proofs::Steps::ended))]
 fn follow(
     ops: &[Op],
     branch: Branch,
@@ -140,14 +159,30 @@ fn follow(
         skips,
         mut stack,
     } = branch;
-    let mut mode = first_mode(skips);
+    follow_from(ops, at, first_mode(skips), &mut stack, waiting, strict)
+}
+
+// The same, for a branch that is here with this stack.
+fn follow_from(
+    ops: &[Op],
+    at: usize,
+    first: Mode,
+    stack: &mut Stack<Entry>,
+    waiting: &mut Stack<Branch>,
+    strict: &mut Vec<StrictEnd>,
+) -> Result<bool, AllocError>
+    requires { depth_of first ≤ at }
+    ensures { IfOk result (λ b. (length strict.old.items == 0 && (is_exact (drop at ops.now) first (words stack.old) && are_exact_from ops.now waiting.old))
+        ≡ (length strict.new.items == 0 && (b && are_exact_from ops.now waiting.new))) }
+{
+    let mut mode = first;
     for index in at..ops.len() {
-        match go_on(ops, index, mode, &mut stack, waiting, strict)? {
+        match go_on(ops, index, mode, stack, waiting, strict)? {
             Some(then) => mode = then,
             None => return Ok(true),
         }
     }
-    Ok(has_refused_end(mode, &mut stack))
+    Ok(has_refused_end(mode, stack))
 }
 
 // Whether consensus refuses each run that ends with these entries after the last opcode.
@@ -179,7 +214,8 @@ fn is_false(entry: &Entry) -> bool
 
 // How a branch begins.
 fn first_mode(skips: bool) -> Mode
-    ensures { result ≡ mode_at_first skips }
+    ensures mode { result ≡ mode_at_first skips }
+    ensures depth { depth_of result ≡ 0 }
 {
     if skips {
         Mode::Skipping(0, true)
@@ -240,7 +276,6 @@ fn skipped(op: &Op, depth: usize, to_else: bool) -> Mode
 }
 
 // Takes a turn at an opcode, and returns how the branch goes on, if it does.
-#[tactic(auto, using(crate::proofs::Steps::lost_from))]
 fn take_turn(
     ops: &[Op],
     index: usize,
@@ -492,13 +527,9 @@ fn take_signature(signature: Entry, stack: &mut Stack<Entry>) -> Result<Turn, Al
             if !bytes.as_slice().is_empty() {
                 return Ok(Turn::EndsStrictly(Rule::Signature, bytes));
             }
-            push(stack, Entry::flag(false))?;
-            Ok(Turn::Next)
+            put(stack, Entry::flag(false))
         }
-        _ => {
-            push(stack, Entry::Answer)?;
-            Ok(Turn::Next)
-        }
+        _ => put(stack, Entry::Answer),
     }
 }
 
@@ -632,8 +663,7 @@ fn take_signatures(
     } else {
         Entry::Answer
     };
-    push(stack, answer)?;
-    Ok(Turn::Next)
+    put(stack, answer)
 }
 
 // CHECKLOCKTIMEVERIFY and CHECKSEQUENCEVERIFY.

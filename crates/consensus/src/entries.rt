@@ -116,16 +116,26 @@ impl Entry {
     pub fn equal(&self, other: &Entry) -> Self
         ensures { word_of result ≡ equal_of (word_of self.now) (word_of other.now) }
     {
-        match (self, other) {
-            (Entry::Known(a), Entry::Known(b)) => Entry::flag(a.as_slice() == b.as_slice()),
-            (Entry::Known(bytes), Entry::Hash) | (Entry::Hash, Entry::Known(bytes)) => {
-                answer_if(bytes.as_slice().len() == 20)
-            }
-            (Entry::Known(bytes), Entry::Size) | (Entry::Size, Entry::Known(bytes)) => {
-                answer_if(is_size(bytes.as_slice()))
-            }
+        match self {
+            Entry::Known(bytes) => equal_known(bytes, other),
+            Entry::Hash | Entry::Size => match other {
+                Entry::Known(bytes) => equal_known(bytes, self),
+                _ => Entry::Answer,
+            },
             _ => Entry::Answer,
         }
+    }
+}
+
+// The entry that EQUAL leaves of known bytes and another entry.
+fn equal_known(bytes: &Bytes, other: &Entry) -> Entry
+    ensures { word_of result ≡ equal_of (known (bytes_of bytes.now)) (word_of other.now) }
+{
+    match other {
+        Entry::Known(others) => Entry::flag(bytes.as_slice() == others.as_slice()),
+        Entry::Hash => answer_if(bytes.as_slice().len() == 20),
+        Entry::Size => answer_if(is_size(bytes.as_slice())),
+        _ => Entry::Answer,
     }
 }
 

@@ -1,6 +1,6 @@
 use Rattle.std.proofs.Common.{◌≡◌, ◌&&◌, ◌==◌, length}
 use Rattle.consensus.specs.Exact.{are_exact_from, ends_as_in_consensus}
-use Rattle.consensus.proofs.branches.all_ends.Given as goal
+use Rattle.consensus.proofs.branches.walk.Given as goal
 
 -- what is left gives the whole
 abbrev pub invariant-loop-turn : goal.invariant-loop-turn
