@@ -48,9 +48,12 @@ fn asks_for_bytes(fact: &Fact) -> bool {
 
 // The first of `others` that no witness meets together with a fact.
 fn conflict_with<'a>(fact: &Stated, others: &'a [Stated]) -> Option<&'a Stated> {
-    others
-        .iter()
-        .find(|other| denies(fact, other) || denies(other, fact))
+    for other in others {
+        if denies(fact, other) || denies(other, fact) {
+            return Some(other);
+        }
+    }
+    None
 }
 
 // Whether a fact rules out another one.

@@ -26,9 +26,9 @@ fn write_pushes(notes: &mut String, ops: &[Op]) -> Result<(), AllocError> {
             .saturating_add(1);
     }
     if mark == "," {
-        writeln!(notes, "")
+        notes.push_str("\n")
     } else {
-        writeln!(notes, "note: nothing is pushed before it")
+        notes.push_str("note: nothing is pushed before it\n")
     }
 }
 

@@ -21,13 +21,11 @@ pub fn note_refusal(
         CheckError::OpenBranch => note_branch(notes, alloc, script.ops()),
         CheckError::TooManyOps => note_count(notes, script.counted()),
         CheckError::Undecided(at) => note_undecided(notes, script.ops(), at),
-        CheckError::TooManyPaths => writeln!(
-            notes,
-            "note: a 65th path begins, and at most 64 are listed"
-        ),
-        CheckError::TooTall => writeln!(
-            notes,
-            "note: a path needs more than 1000 elements on the stack: no run of it is clean"
+        CheckError::TooManyPaths => {
+            notes.push_str("note: a 65th path begins, and at most 64 are listed\n")
+        }
+        CheckError::TooTall => notes.push_str(
+            "note: a path needs more than 1000 elements on the stack: no run of it is clean\n",
         ),
         CheckError::NoMemory => Ok(()),
     }
@@ -51,9 +49,8 @@ fn note_count(notes: &mut String, counted: usize) -> Result<(), AllocError> {
 // Notes at which opcode the listing gives up.
 fn note_undecided(notes: &mut String, ops: &[Op], at: usize) -> Result<(), AllocError> {
     let Some(op) = ops.get(at) else {
-        return writeln!(
-            notes,
-            "note: no rule decides whether the last entry is true, so the listing gives up: the script may be sound"
+        return notes.push_str(
+            "note: no rule decides whether the last entry is true, so the listing gives up: the script may be sound\n",
         );
     };
     let byte = (op.code() % 256) as u8;

@@ -26,7 +26,7 @@ pub fn note_risks(notes: &mut String, alloc: Global, checked: &Checked) -> Resul
 }
 
 // What a note says of some paths.
-#[derive(Clone, Copy, PartialEq, Eq)]
+#[derive(Clone, Copy)]
 enum Risk {
     // No transaction has the lock time that is asked for.
     Unreachable,
@@ -52,13 +52,13 @@ impl Risk {
     // The words after the paths.
     fn ending(self) -> &'static str {
         match self {
-            Risk::Unreachable => "a lock time has 4 bytes, so it is at most 4294967295",
-            Risk::Anyone => "no signature of a key that the script fixes is asked for",
+            Risk::Unreachable => ": a lock time has 4 bytes, so it is at most 4294967295\n",
+            Risk::Anyone => ": no signature of a key that the script fixes is asked for\n",
             Risk::Finder => {
-                "what has a given hash is asked for, and no signature of a key that the script fixes"
+                ": what has a given hash is asked for, and no signature of a key that the script fixes\n"
             }
             Risk::HashedKey => {
-                "by consensus, though not by relay policy, an uncompressed key with that hash is taken too"
+                ": by consensus, though not by relay policy, an uncompressed key with that hash is taken too\n"
             }
         }
     }
@@ -67,9 +67,14 @@ impl Risk {
 // Whether a path has a risk. What nobody meets leaves nothing to others.
 fn has_risk(path: &Path, risk: Risk) -> bool {
     let facts = path.facts.values();
-    let is_unreachable = has_unreachable_lock(facts);
-    if is_unreachable || conflict_in(facts).is_some() {
-        return is_unreachable && risk == Risk::Unreachable;
+    if has_unreachable_lock(facts) {
+        return match risk {
+            Risk::Unreachable => true,
+            _ => false,
+        };
+    }
+    if conflict_in(facts).is_some() {
+        return false;
     }
     match risk {
         Risk::Unreachable => false,
@@ -89,8 +94,7 @@ fn note_paths(notes: &mut String, paths: &[Path], risk: Risk) -> Result<(), Allo
         }
     }
     if mark == "," {
-        let ending = risk.ending();
-        writeln!(notes, ": {ending}")
+        notes.push_str(risk.ending())
     } else {
         Ok(())
     }
@@ -113,7 +117,7 @@ fn note_lock(notes: &mut String, warning: &LockWarning) -> Result<(), AllocError
         "note: opcode {op}, CHECKSEQUENCEVERIFY of {number}, asks for "
     )?;
     match warning.lock {
-        SequenceLock::Off => writeln!(notes, "nothing: bit 31 switches the lock off (BIP 68)"),
+        SequenceLock::Off => { notes.push_str("nothing: bit 31 switches the lock off (BIP 68)\n") }
         SequenceLock::Blocks(age) => {
             let end = plural(age);
             writeln!(
@@ -138,8 +142,7 @@ fn plural(count: u16) -> &'static str {
 
 // Notes which path of an offered HTLC has a lock that does not stand in the script.
 fn note_timeout(notes: &mut String) -> Result<(), AllocError> {
-    writeln!(
-        notes,
-        "note: path 1 is the timeout of an offered HTLC (BOLT 3): nobody can take it at once, since the other side signs only a transaction whose lock time is the HTLC's cltv_expiry"
+    notes.push_str(
+        "note: path 1 is the timeout of an offered HTLC (BOLT 3): nobody can take it at once, since the other side signs only a transaction whose lock time is the HTLC's cltv_expiry\n",
     )
 }

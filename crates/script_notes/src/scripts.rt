@@ -126,70 +126,63 @@ fn note_listing(notes: &mut String, alloc: Global, checked: &Checked) -> Result<
 fn note_exact(notes: &mut String, _ops: &[Op]) -> Result<(), AllocError>
     requires { NobodySpends _ops.now }
 {
-    writeln!(
-        notes,
-        "note: no witness satisfies the script by the rules of this profile: each branch ends as in consensus"
+    notes.push_str(
+        "note: no witness satisfies the script by the rules of this profile: each branch ends as in consensus\n",
     )
 }
 
 // Notes that no witness satisfies a script by the rules here. In consensus one may.
 fn note_stricter(notes: &mut String) -> Result<(), AllocError> {
-    writeln!(
-        notes,
-        "note: no witness satisfies the script by the rules of this profile, which are stricter than consensus"
+    notes.push_str(
+        "note: no witness satisfies the script by the rules of this profile, which are stricter than consensus\n",
     )
 }
 
 // Notes the rule by which a branch ended.
 fn note_end(notes: &mut String, end: &StrictEnd) -> Result<(), AllocError> {
     let (op, bytes) = (end.op, Counted(end.bytes.as_slice()));
-    let rule = match end.rule {
-        Rule::Key => "no key here (a key has 33 bytes, and begins with 02 or 03)",
-        Rule::Signature => "no signature here (signatures are tokens)",
-        Rule::Number => "no number here (numbers are minimally encoded)",
-    };
-    writeln!(
-        notes,
-        "note: a branch ends at opcode {op}: {bytes} is {rule}; consensus is laxer, and may let others spend"
-    )
+    write!(notes, "note: a branch ends at opcode {op}: {bytes}")?;
+    notes.push_str(text_of_rule(end.rule))
+}
+
+// What bytes are by the rule that they break.
+fn text_of_rule(rule: Rule) -> &'static str {
+    match rule {
+        Rule::Key => {
+            " is no key here (a key has 33 bytes, and begins with 02 or 03); consensus is laxer, and may let others spend\n"
+        }
+        Rule::Signature => {
+            " is no signature here (signatures are tokens); consensus is laxer, and may let others spend\n"
+        }
+        Rule::Number => {
+            " is no number here (numbers are minimally encoded); consensus is laxer, and may let others spend\n"
+        }
+    }
 }
 
 // Notes that no witness meets a path.
 fn note_conflict(notes: &mut String, index: usize, path: &Path) -> Result<(), AllocError> {
     match conflict_in(path.facts.values()) {
-        Some((one, other)) => {
-            if is_of_token_size(one, other) {
-                note_size(notes, index, one, other)
-            } else {
-                note_pair(notes, index, one, other)
-            }
-        }
+        Some((one, other)) => note_pair(notes, index, one, other),
         None => Ok(()),
     }
 }
 
-// Notes that two facts of a path contradict each other.
+// Notes that two facts of a path contradict each other, and whether they do so by the length of a token.
 fn note_pair(
     notes: &mut String,
     index: usize,
     one: &Stated,
     other: &Stated,
 ) -> Result<(), AllocError> {
-    writeln!(
-        notes,
-        "note: no witness meets path {index}: '{one}' and '{other}' contradict each other"
-    )
-}
-
-// Notes that they do so by the length of a token.
-fn note_size(
-    notes: &mut String,
-    index: usize,
-    one: &Stated,
-    other: &Stated,
-) -> Result<(), AllocError> {
-    writeln!(
-        notes,
-        "note: by the rules of this profile no witness meets path {index}, since a signature has 66 bytes: '{one}' and '{other}' contradict each other"
-    )
+    let (beginning, reason) = if is_of_token_size(one, other) {
+        (
+            "note: by the rules of this profile no witness meets path",
+            ", since a signature has 66 bytes",
+        )
+    } else {
+        ("note: no witness meets path", "")
+    };
+    write!(notes, "{beginning} {index}{reason}: ")?;
+    writeln!(notes, "'{one}' and '{other}' contradict each other")
 }

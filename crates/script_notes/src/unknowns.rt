@@ -60,7 +60,7 @@ fn write_rest(notes: &mut String, count: usize) -> Result<(), AllocError> {
         let rest = count - MAX_NAMED;
         writeln!(notes, ", and {rest} more")
     } else if count > 0 {
-        writeln!(notes, "")
+        notes.push_str("\n")
     } else {
         Ok(())
     }
