@@ -1,16 +1,18 @@
 -- The opcodes of BOLT 3's scripts, and the bytes that spell them.
-use Rattle.std.proofs.Common.{rules, ◌≡◌, ◌≢◌, ℕ, zero, suc, ◌+◌, ◌*◌, ◌/◌, ◌%◌, ◌<◌, ◌≤◌, Bool, true, false, eqb, leb, List, [], ◌∷◌, ◌++◌, length, length-append, append_assoc, ap, ◌∙◌, sym, refl, arith}
-use Rattle.std.specs.Prelude.{if◌then◌else◌, nat_lt, ◌&&◌}
-use Rattle.std.specs.List.{All}
+use Rattle.std.proofs.Common.{rules, ◌≡◌, ◌≢◌, ℕ, zero, suc, ◌+◌, ◌*◌, ◌/◌, ◌%◌, ◌<◌, ◌≤◌, Bool, true, false, eqb, leb, List, [], ◌∷◌, ◌++◌, length, length-append, ap, subst, ◌∙◌, sym, refl, arith}
+use Rattle.std.specs.Prelude.{if◌then◌else◌, nat_lt, ◌&&◌, Result, Ok, Err, MatchResult}
+use Rattle.std.specs.List.{All, concat}
 use Rattle.std.proofs.lemmas.List.{append-nil}
 use Rattle.std.proofs.lemmas.List.Elements.{All-cons, All-nil}
 use Rattle.std.proofs.lemmas.Bool.{le-leb, lt-leb, leb-true, ne_eqb}
 use Rattle.script.specs.declared.opcode.Op.{Op}
 use Rattle.script.specs.declared.opcode.Op.TheVariants.{Push, Number}
 use Rattle.script.specs.Number.{lowest, digits, minimal_bytes_of}
-use Rattle.script.specs.Spelling.{IsOp, code_of, payload_of, spelling, Spells}
+use Rattle.script.specs.Spelling.{IsOp, code_of, payload_of, spelling}
+use Rattle.enforce_c.specs.declared.statuses.Refusal.{Refusal}
+use Rattle.enforce_c.specs.declared.statuses.Refusal.TheVariants.{NoMemory}
+use Rattle.enforce_c.specs.FormScripts.{IsWritten}
 use Rattle.terms.specs.Scripts.{number_push, to_local, offered, received}
-use Rattle.enforce_c.specs.HtlcParts.{htlc_beginning, offered_end, received_end}
 
 -- the push of 0, of a number that has an opcode of its own, and of a larger one
 pub none : (n : ℕ) → n ≡ 0 → spelling (number_push n ∷ []) ≡ 0 ∷ []
@@ -96,24 +98,48 @@ received_ops : (revocation remote local payment : List ℕ) (n : ℕ) → length
 unfolding AreOps
 received_ops revocation remote local payment n r m l p = each (received revocation remote local payment n) (search (rules, is_op))
 
--- what is spelled one after the other is spelled together
-spelling-append : (a b : List Op) → spelling (a ++ b) ≡ spelling a ++ spelling b
-spelling-append [] b = refl
-spelling-append (op ∷ a) b = ap (λ rest. code_of op ∷ (payload_of op ++ rest)) (spelling-append a b) ∙ ap (λ rest. code_of op ∷ rest) (sym (append_assoc (payload_of op) (spelling a) (spelling b)))
+-- the bytes of one opcode
+alone : (op : Op) → spelling (op ∷ []) ≡ code_of op ∷ payload_of op
+alone op = ap (λ payload. code_of op ∷ payload) (append-nil (payload_of op))
 
-joined : (a b : List Op) (first whole bytes : List ℕ) → first ≡ spelling a → whole ≡ first ++ spelling b → bytes ≡ whole → spelling (a ++ b) ≡ bytes
-joined a b first whole bytes f w e = let s = spelling-append a b in cc
+-- the parts of these scripts, one after another
+abbrev pub to_local_parts : (revocation delay delayed : List ℕ) → List ℕ
+to_local_parts revocation delay delayed = concat ((0x63 ∷ 33 ∷ []) ∷ revocation ∷ (0x67 ∷ []) ∷ delay ∷ (0xb2 ∷ 0x75 ∷ 33 ∷ []) ∷ delayed ∷ (0x68 ∷ 0xac ∷ []) ∷ [])
 
-pub offered_spells : (revocation remote local payment made first whole bytes : List ℕ) → length revocation ≡ 20 → length remote ≡ 33 → length local ≡ 33 → length payment ≡ 20
-    → first ≡ spelling (htlc_beginning revocation remote) → whole ≡ first ++ spelling (offered_end local made) → made ≡ payment → bytes ≡ whole → Spells (offered revocation remote local payment) bytes
-offered_spells revocation remote local payment made first whole bytes r m l p f w h e = record {
-  each = offered_ops revocation remote local payment r m l p;
-  same = joined (htlc_beginning revocation remote) (offered_end local payment) first whole bytes f (w ∙ ap (λ x. first ++ spelling (offered_end local x)) h) e;
-}
+abbrev pub offered_parts : (revocation remote local payment : List ℕ) → List ℕ
+offered_parts revocation remote local payment =
+    concat ((0x76 ∷ 0xa9 ∷ 20 ∷ []) ∷ revocation ∷ (0x87 ∷ 0x63 ∷ 0xac ∷ 0x67 ∷ 33 ∷ []) ∷ remote ∷ (0x7c ∷ 0x82 ∷ 1 ∷ 32 ∷ 0x87 ∷ 0x64 ∷ 0x75 ∷ 0x52 ∷ 0x7c ∷ 33 ∷ []) ∷ local
+    ∷ (0x52 ∷ 0xae ∷ 0x67 ∷ 0xa9 ∷ 20 ∷ []) ∷ payment ∷ (0x88 ∷ 0xac ∷ 0x68 ∷ 0x68 ∷ []) ∷ [])
 
-pub received_spells : (revocation remote local payment made : List ℕ) (n : ℕ) (first whole bytes : List ℕ) → length revocation ≡ 20 → length remote ≡ 33 → length local ≡ 33 → length payment ≡ 20
-    → first ≡ spelling (htlc_beginning revocation remote) → whole ≡ first ++ spelling (received_end local made n) → made ≡ payment → bytes ≡ whole → Spells (received revocation remote local payment n) bytes
-received_spells revocation remote local payment made n first whole bytes r m l p f w h e = record {
-  each = received_ops revocation remote local payment n r m l p;
-  same = joined (htlc_beginning revocation remote) (received_end local payment n) first whole bytes f (w ∙ ap (λ x. first ++ spelling (received_end local x n)) h) e;
-}
+abbrev pub received_parts : (revocation remote local payment expiry : List ℕ) → List ℕ
+received_parts revocation remote local payment expiry =
+    concat ((0x76 ∷ 0xa9 ∷ 20 ∷ []) ∷ revocation ∷ (0x87 ∷ 0x63 ∷ 0xac ∷ 0x67 ∷ 33 ∷ []) ∷ remote ∷ (0x7c ∷ 0x82 ∷ 1 ∷ 32 ∷ 0x87 ∷ 0x63 ∷ 0xa9 ∷ 20 ∷ []) ∷ payment ∷ (0x88 ∷ 0x52 ∷ 0x7c ∷ 33 ∷ []) ∷ local
+    ∷ (0x52 ∷ 0xae ∷ 0x67 ∷ 0x75 ∷ []) ∷ expiry ∷ (0xb1 ∷ 0x75 ∷ 0xac ∷ 0x68 ∷ 0x68 ∷ []) ∷ [])
+
+-- they spell the script, unless memory ran out
+spelled : (r : Result (List ℕ) Refusal) (ops : List Op) (parts : List ℕ) → All IsOp ops → parts ≡ spelling ops → MatchResult r (λ b. b ≡ parts) (λ e. e ≡ NoMemory) → IsWritten ops r
+spelled (Ok bytes) ops parts all same is = record { each = all; same = sym same ∙ sym is }
+spelled (Err e) ops parts all same is = is
+
+pub large_joined : (r : Result (List ℕ) Refusal) (n m byte : ℕ) (item bytes : List ℕ) → n ≢ 0 → 16 < n → m ≡ n → item ≡ minimal_bytes_of m → bytes ≡ item → byte ≡ length item
+    → MatchResult r (λ b. b ≡ concat ((byte ∷ []) ∷ bytes ∷ [])) (λ e. e ≡ NoMemory) → MatchResult r (λ b. b ≡ spelling (number_push n ∷ [])) (λ e. e ≡ NoMemory)
+large_joined r n m byte item bytes some many s i b l is =
+    let parts : List ℕ = concat ((byte ∷ []) ∷ bytes ∷ []) in
+    let same : parts ≡ spelling (number_push n ∷ []) = rw (b, l, append-nil) (sym (large n item some many (i ∙ ap minimal_bytes_of s))) in
+    subst (λ p. MatchResult r (λ b. b ≡ p) (λ e. e ≡ NoMemory)) same is
+
+pub to_local_spells : (r : Result (List ℕ) Refusal) (revocation delayed delay : List ℕ) (n m : ℕ) → length revocation ≡ 33 → length delayed ≡ 33 → m ≡ n → delay ≡ spelling (number_push m ∷ [])
+    → MatchResult r (λ b. b ≡ to_local_parts revocation delay delayed) (λ e. e ≡ NoMemory) → IsWritten (to_local revocation n delayed) r
+to_local_spells r revocation delayed delay n m v d s push =
+    spelled r (to_local revocation n delayed) (to_local_parts revocation delay delayed) (to_local_ops revocation delayed n v d) (rw (push ∙ alone (number_push m), s, v, d) refl)
+
+pub offered_spells : (r : Result (List ℕ) Refusal) (revocation remote local payment hash made : List ℕ) → length revocation ≡ 20 → length remote ≡ 33 → length local ≡ 33 → length payment ≡ 20 → hash ≡ revocation → made ≡ payment
+    → MatchResult r (λ b. b ≡ offered_parts hash remote local made) (λ e. e ≡ NoMemory) → IsWritten (offered revocation remote local payment) r
+offered_spells r revocation remote local payment hash made v m l p h i =
+    spelled r (offered revocation remote local payment) (offered_parts hash remote local made) (offered_ops revocation remote local payment v m l p) (rw (h, i, thirty_two, v, m, l, p) refl)
+
+pub received_spells : (r : Result (List ℕ) Refusal) (revocation remote local payment hash made expiry : List ℕ) (n : ℕ) → length revocation ≡ 20 → length remote ≡ 33 → length local ≡ 33 → length payment ≡ 20
+    → hash ≡ revocation → made ≡ payment → expiry ≡ spelling (number_push n ∷ [])
+    → MatchResult r (λ b. b ≡ received_parts hash remote local made expiry) (λ e. e ≡ NoMemory) → IsWritten (received revocation remote local payment n) r
+received_spells r revocation remote local payment hash made expiry n v m l p h i push =
+    spelled r (received revocation remote local payment n) (received_parts hash remote local made expiry) (received_ops revocation remote local payment n v m l p) (rw (h, i, push ∙ alone (number_push n), thirty_two, v, m, l, p) refl)

@@ -2,6 +2,7 @@
 use Rattle.std.specs.Prelude.{◌≡◌, ℕ, ◌==◌, nat_lt, if◌then◌else◌, List, Result, Ok, Err}
 use Rattle.digest.specs.Hash.{hash160}
 use Rattle.digest.specs.Ripemd160.{ripemd160}
+use Rattle.script.specs.declared.opcode.Op.{Op}
 use Rattle.script.specs.Spelling.{Spells}
 use Rattle.script.specs.Step.{result_if}
 use Rattle.script.specs.Token.{is_key}
@@ -56,6 +57,11 @@ IsOf rule r = rule ≡ r
 abbrev pub IsSpelt : Result CheckedScript Refusal → Result (List ℕ) Refusal → Type 0
 IsSpelt rule (Ok bytes) = (c : CheckedScript) × (rule ≡ Ok c) × Spells c.ops bytes
 IsSpelt rule (Err e) = IsOf rule (Err e)
+
+-- the bytes of these opcodes, unless memory ran out
+abbrev pub IsWritten : List Op → Result (List ℕ) Refusal → Type 0
+IsWritten ops (Ok bytes) = Spells ops bytes
+IsWritten ops (Err e) = e ≡ NoMemory
 
 -- the call leaves this, by what becomes of the form
 abbrev pub AnswersForm : Form → List ℕ → LeftBytes → Type 0

@@ -3,7 +3,6 @@ pub mod Rows
 pub mod Answers
 pub mod Listed
 pub mod FormScripts
-pub mod HtlcParts
 pub mod Ranges
 pub mod Claimed
 pub mod Spent

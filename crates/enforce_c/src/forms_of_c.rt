@@ -1,17 +1,16 @@
 // The scripts of BOLT 3, from keys that the caller gives.
 
-ghost use Rattle.std.specs.Prelude.{◌≡◌, Result, Err, MatchResult, true, false};
-ghost use Rattle.paths.specs.Listing.{CheckedScript};
-ghost use Rattle.enforce_c.specs.declared.statuses.Refusal.{Refusal as Refused};
+ghost use Rattle.std.specs.Prelude.{◌≡◌, ◌&&◌, MatchResult, true, false};
 ghost use Rattle.script.specs.Token.{is_key};
 ghost use Rattle.enforce_c.specs.declared.statuses.Refusal.TheVariants.{NotAKey};
-ghost use Rattle.enforce_c.specs.FormScripts.{htlc_keyed, funding_of, to_local_of, key_hash_of, offered_of, received_of, form_of, IsSpelt};
+ghost use Rattle.enforce_c.specs.FormScripts.{funding_of, to_local_of, key_hash_of, offered_of, received_of, form_of, IsSpelt};
 
 use crate::script_bytes::{funding, key_hash, offered, received, to_local};
 use crate::statuses::Refusal;
 use forms::Expiry;
 use keys::Key;
 use lists::ByteString;
+use script::tokens::has_key_form;
 use std::alloc::Global;
 
 /// A funding output: both keys, `key` and `other`, in whichever order.
@@ -57,18 +56,21 @@ pub(crate) fn key_of(bytes: &[u8; 33]) -> Result<Key, Refusal>
 fn funding_script(alloc: Global, form: &Form) -> Result<ByteString, Refusal>
     ensures { IsSpelt (funding_of form.now) result }
 {
-    key_of(&form.key)?;
-    key_of(&form.other)?;
-    Ok(funding(alloc, &form.key, &form.other)?)
+    if !has_key_form(&form.key) || !has_key_form(&form.other) {
+        return Err(Refusal::NotAKey);
+    }
+    funding(alloc, &form.key, &form.other)
 }
 
 // A to_local output's script.
+#[tactic(auto, using(crate::proofs::FormBytes::to_local_spelt))]
 fn to_local_script(alloc: Global, form: &Form) -> Result<ByteString, Refusal>
     ensures { IsSpelt (to_local_of form.now) result }
 {
-    key_of(&form.key)?;
-    key_of(&form.other)?;
-    Ok(to_local(alloc, &form.key, form.delay_blocks, &form.other)?)
+    if !has_key_form(&form.key) || !has_key_form(&form.other) {
+        return Err(Refusal::NotAKey);
+    }
+    to_local(alloc, &form.key, form.delay_blocks, &form.other)
 }
 
 // The script that P2WPKH of the key stands for.
@@ -76,52 +78,55 @@ fn to_local_script(alloc: Global, form: &Form) -> Result<ByteString, Refusal>
 fn key_hash_script(alloc: Global, form: &Form) -> Result<ByteString, Refusal>
     ensures { IsSpelt (key_hash_of form.now) result }
 {
-    key_of(&form.key)?;
-    Ok(key_hash(alloc, &form.key)?)
+    if !has_key_form(&form.key) {
+        return Err(Refusal::NotAKey);
+    }
+    key_hash(alloc, &form.key)
 }
 
-// Refuses an HTLC's form whose three keys are not all keys.
-fn htlc_keyed(form: &Form) -> Result<(), Refusal>
-    ensures { MatchResult result
-        (λ _. (is_key form.now.key ≡ true) × (is_key form.now.other ≡ true) × (is_key form.now.local ≡ true))
-        (λ e. (e ≡ NotAKey) × ((r : Result CheckedScript Refused) → htlc_keyed form.now r ≡ Err NotAKey)) }
+// Whether an HTLC's form has three keys.
+fn is_htlc_keyed(form: &Form) -> bool
+    ensures { result ≡ (is_key form.now.key && is_key form.now.other && is_key form.now.local) }
 {
-    key_of(&form.key)?;
-    key_of(&form.other)?;
-    key_of(&form.local)?;
-    Ok(())
+    has_key_form(&form.key) && has_key_form(&form.other) && has_key_form(&form.local)
 }
 
 // The script of an HTLC that the commitment's owner offered.
+#[tactic(auto, using(crate::proofs::FormBytes::offered_unkeyed))]
 fn offered_script(alloc: Global, form: &Form) -> Result<ByteString, Refusal>
     ensures { IsSpelt (offered_of form.now) result }
 {
-    htlc_keyed(form)?;
-    Ok(offered(
+    if !is_htlc_keyed(form) {
+        return Err(Refusal::NotAKey);
+    }
+    offered(
         alloc,
         &form.key,
         &form.other,
         &form.local,
         &form.payment_hash,
-    )?)
+    )
 }
 
 // The script of an HTLC that the commitment's owner received.
+#[tactic(auto, using(crate::proofs::FormBytes::received_unkeyed))]
 fn received_script(alloc: Global, form: &Form) -> Result<ByteString, Refusal>
     ensures { IsSpelt (received_of form.now) result }
 {
-    htlc_keyed(form)?;
+    if !is_htlc_keyed(form) {
+        return Err(Refusal::NotAKey);
+    }
     let Some(expiry) = Expiry::new(form.expiry_height) else {
         return Err(Refusal::NotAHeight);
     };
-    Ok(received(
+    received(
         alloc,
         &form.key,
         &form.other,
         &form.local,
         &form.payment_hash,
         expiry.height,
-    )?)
+    )
 }
 
 /// The bytes of a form's script. Checked in this order: the kind, each key in the order of the fields, the expiry.

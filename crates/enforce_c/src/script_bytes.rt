@@ -1,19 +1,26 @@
 // The scripts of BOLT 3 as bytes, one opcode after another. No way through them is listed here: `forms` lists them once, for all keys, hashes and numbers.
 
-ghost use Rattle.std.specs.Prelude.{◌≡◌, ℕ, ◌≤◌, ◌∷◌, [], ◌++◌, length, IfOk, OnOk};
+ghost use Rattle.std.specs.Prelude.{◌≡◌, [], ◌∷◌, map, MatchResult};
+ghost use Rattle.std.specs.List.{concat};
 ghost use Rattle.digest.specs.Hash.{hash160 as hash160_of};
 ghost use Rattle.digest.specs.Ripemd160.{ripemd160 as ripemd160_of};
-ghost use Rattle.script.specs.Spelling.{Spells, spelling};
+ghost use Rattle.script.specs.Spelling.{spelling};
 ghost use Rattle.terms.specs.Scripts.{number_push, two_of_two as two_of_two_ops, funding as funding_ops, to_local as to_local_ops, key_hash as key_hash_ops, offered as offered_ops, received as received_ops};
-ghost use Rattle.enforce_c.specs.HtlcParts.{htlc_beginning as beginning_ops, offered_end, received_end};
+ghost use Rattle.enforce_c.specs.declared.statuses.Refusal.TheVariants.{NoMemory};
+ghost use Rattle.enforce_c.specs.FormScripts.{IsWritten};
 
+use crate::statuses::Refusal;
 use digest::{hash160, ripemd160};
 use lists::ByteString;
 use script::num;
-use std::alloc::{AllocError, Global};
+use std::alloc::Global;
 use std::cmp::Ordering;
 
-// The bytes of opcodes.
+// The bytes of opcodes. That of a push is the number of bytes that follow it.
+const PUSH_HASH: u8 = 20;
+
+const PUSH_KEY: u8 = 33;
+
 const NUMBER_2: u8 = 0x52;
 
 const IF: u8 = 0x63;
@@ -49,56 +56,55 @@ const CHECKSEQUENCEVERIFY: u8 = 0xb2;
 // The bytes of the longest script here: a received HTLC's, whose expiry takes five with its push.
 const LONGEST: usize = 140;
 
-// Appends bytes. The only error is that memory ran out.
-fn put(script: &mut Vec<u8>, bytes: &[u8]) -> Result<(), AllocError>
-    ensures { OnOk result (script.new.items ≡ script.old.items ++ bytes.now) }
+// The parts, one after another. The only refusal is that memory ran out.
+fn joined(alloc: Global, parts: &[&[u8]]) -> Result<ByteString, Refusal>
+    ensures { MatchResult result (λ b. b ≡ concat (map (λ part. part.now) parts.now)) (λ e. e ≡ NoMemory) }
 {
-    script.extend_from_slice(bytes)
+    let mut bytes = Vec::with_capacity(alloc, LONGEST)?;
+    for part in parts {
+        bytes.extend_from_slice(part)?;
+    }
+    Ok(ByteString::from_vec(bytes))
 }
 
-// Appends the push of an item of at most 75 bytes. The only error is that memory ran out.
-fn push(script: &mut Vec<u8>, item: &[u8]) -> Result<(), AllocError>
-    requires { length item.now ≤ 75 }
-    ensures { OnOk result (script.new.items ≡ script.old.items ++ (length item.now ∷ item.now)) }
-{
-    script.push(item.len() as u8)?;
-    script.extend_from_slice(item)
-}
-
-// Appends the push of a number. The only error is that memory ran out.
-#[tactic(auto, using(crate::proofs::Spelled::none, crate::proofs::Spelled::small, crate::proofs::Spelled::large, crate::proofs::Spelled::short_item))]
-fn push_number(alloc: Global, script: &mut Vec<u8>, n: u32) -> Result<(), AllocError>
-    ensures { OnOk result (script.new.items ≡ script.old.items ++ spelling (number_push n ∷ [])) }
+// The push of a number. The only refusal is that memory ran out.
+#[tactic(auto, using(crate::proofs::Spelled::none, crate::proofs::Spelled::small, crate::proofs::Spelled::short_item))]
+fn number_push(alloc: Global, n: u32) -> Result<ByteString, Refusal>
+    ensures { MatchResult result (λ b. b ≡ spelling (number_push n ∷ [])) (λ e. e ≡ NoMemory) }
 {
     if n == 0 {
-        return put(script, &[0]);
+        return joined(alloc, &[&[0]]);
     }
     if n <= 16 {
-        return put(script, &[0x50 + n as u8]);
+        return joined(alloc, &[&[0x50 + n as u8]]);
     }
     let item = num::write(alloc, u64::from(n))?;
-    push(script, item.bytes())
+    joined(alloc, &[&[item.len() as u8], item.bytes()])
 }
 
-// The 2-of-2 script of both keys, in this order. The only error is that memory ran out.
-fn two_of_two(alloc: Global, first: &[u8; 33], second: &[u8; 33]) -> Result<ByteString, AllocError>
-    ensures { IfOk result (Spells (two_of_two_ops first.now second.now)) }
+// The 2-of-2 script of both keys, in this order. The only refusal is that memory ran out.
+fn two_of_two(alloc: Global, first: &[u8; 33], second: &[u8; 33]) -> Result<ByteString, Refusal>
+    ensures { IsWritten (two_of_two_ops first.now second.now) result }
 {
-    let mut script = Vec::with_capacity(alloc, LONGEST)?;
-    put(&mut script, &[NUMBER_2])?;
-    push(&mut script, first)?;
-    push(&mut script, second)?;
-    put(&mut script, &[NUMBER_2, CHECKMULTISIG])?;
-    Ok(ByteString::from_vec(script))
+    joined(
+        alloc,
+        &[
+            &[NUMBER_2, PUSH_KEY],
+            first,
+            &[PUSH_KEY],
+            second,
+            &[NUMBER_2, CHECKMULTISIG],
+        ],
+    )
 }
 
-/// A funding output's script (BOLT 3, "Funding Transaction Output"): the lexicographically lesser key comes first. The only error is that memory ran out.
+/// A funding output's script (BOLT 3, "Funding Transaction Output"): the lexicographically lesser key comes first. The only refusal is that memory ran out.
 pub(crate) fn funding(
     alloc: Global,
     key: &[u8; 33],
     other: &[u8; 33],
-) -> Result<ByteString, AllocError>
-    ensures { IfOk result (Spells (funding_ops key.now other.now)) }
+) -> Result<ByteString, Refusal>
+    ensures { IsWritten (funding_ops key.now other.now) result }
 {
     if other.cmp(key) == Ordering::Less {
         two_of_two(alloc, other, key)
@@ -107,103 +113,72 @@ pub(crate) fn funding(
     }
 }
 
-/// A to_local output's script (BOLT 3): the revocation key, or the delayed key after `delay_blocks` blocks. The only error is that memory ran out.
+/// A to_local output's script (BOLT 3): the revocation key, or the delayed key after `delay_blocks` blocks. The only refusal is that memory ran out.
 pub(crate) fn to_local(
     alloc: Global,
     revocation: &[u8; 33],
     delay_blocks: u16,
     delayed: &[u8; 33],
-) -> Result<ByteString, AllocError>
-    ensures { IfOk result (Spells (to_local_ops revocation.now delay_blocks delayed.now)) }
+) -> Result<ByteString, Refusal>
+    ensures { IsWritten (to_local_ops revocation.now delay_blocks delayed.now) result }
 {
-    let mut script = Vec::with_capacity(alloc, LONGEST)?;
-    put(&mut script, &[IF])?;
-    push(&mut script, revocation)?;
-    put(&mut script, &[ELSE])?;
-    push_number(alloc, &mut script, u32::from(delay_blocks))?;
-    put(&mut script, &[CHECKSEQUENCEVERIFY, DROP])?;
-    push(&mut script, delayed)?;
-    put(&mut script, &[ENDIF, CHECKSIG])?;
-    Ok(ByteString::from_vec(script))
+    let delay = number_push(alloc, u32::from(delay_blocks))?;
+    joined(
+        alloc,
+        &[
+            &[IF, PUSH_KEY],
+            revocation,
+            &[ELSE],
+            delay.bytes(),
+            &[CHECKSEQUENCEVERIFY, DROP, PUSH_KEY],
+            delayed,
+            &[ENDIF, CHECKSIG],
+        ],
+    )
 }
 
-/// The script that P2WPKH of a key stands for (BIP 141). The only error is that memory ran out.
-pub(crate) fn key_hash(alloc: Global, key: &[u8; 33]) -> Result<ByteString, AllocError>
-    ensures { IfOk result (Spells (key_hash_ops (hash160_of key.now))) }
+/// The script that P2WPKH of a key stands for (BIP 141). The only refusal is that memory ran out.
+pub(crate) fn key_hash(alloc: Global, key: &[u8; 33]) -> Result<ByteString, Refusal>
+    ensures { IsWritten (key_hash_ops (hash160_of key.now)) result }
 {
     let hash = hash160(key);
-    let mut script = Vec::with_capacity(alloc, LONGEST)?;
-    put(&mut script, &[DUP, HASH160])?;
-    push(&mut script, &hash)?;
-    put(&mut script, &[EQUALVERIFY, CHECKSIG])?;
-    Ok(ByteString::from_vec(script))
+    joined(
+        alloc,
+        &[&[DUP, HASH160, PUSH_HASH], &hash, &[EQUALVERIFY, CHECKSIG]],
+    )
 }
 
-// The beginning of an HTLC's script: the revocation key's branch, and in the other branch the remote key and the test for a preimage. The only error is that memory ran out.
-fn htlc_beginning(
-    alloc: Global,
-    revocation: &[u8; 33],
-    remote: &[u8; 33],
-) -> Result<Vec<u8>, AllocError>
-    ensures { IfOk result (λ v. v.items ≡ spelling (beginning_ops (hash160_of revocation.now) remote.now)) }
-{
-    let hash = hash160(revocation);
-    let mut script = Vec::with_capacity(alloc, LONGEST)?;
-    put(&mut script, &[DUP, HASH160])?;
-    push(&mut script, &hash)?;
-    put(&mut script, &[EQUAL, IF, CHECKSIG, ELSE])?;
-    push(&mut script, remote)?;
-    put(&mut script, &[SWAP, SIZE, 1, 32, EQUAL])?;
-    Ok(script)
-}
-
-// Appends the rest of an offered HTLC's script. The only error is that memory ran out.
-fn end_offered(script: &mut Vec<u8>, local: &[u8; 33], payment: &[u8; 20]) -> Result<(), AllocError>
-    ensures { OnOk result (script.new.items ≡ script.old.items ++ spelling (offered_end local.now payment.now)) }
-{
-    put(script, &[NOTIF, DROP, NUMBER_2, SWAP])?;
-    push(script, local)?;
-    put(script, &[NUMBER_2, CHECKMULTISIG, ELSE, HASH160])?;
-    push(script, payment)?;
-    put(script, &[EQUALVERIFY, CHECKSIG, ENDIF, ENDIF])
-}
-
-// Appends the rest of a received HTLC's script. The only error is that memory ran out.
-fn end_received(
-    alloc: Global,
-    script: &mut Vec<u8>,
-    local: &[u8; 33],
-    payment: &[u8; 20],
-    expiry_height: u32,
-) -> Result<(), AllocError>
-    ensures { OnOk result (script.new.items ≡ script.old.items ++ spelling (received_end local.now payment.now expiry_height)) }
-{
-    put(script, &[IF, HASH160])?;
-    push(script, payment)?;
-    put(script, &[EQUALVERIFY, NUMBER_2, SWAP])?;
-    push(script, local)?;
-    put(script, &[NUMBER_2, CHECKMULTISIG, ELSE, DROP])?;
-    push_number(alloc, script, expiry_height)?;
-    put(script, &[CHECKLOCKTIMEVERIFY, DROP, CHECKSIG, ENDIF, ENDIF])
-}
-
-/// The script of an HTLC that the commitment's owner offered (BOLT 3, "Offered HTLC Outputs"). The only error is that memory ran out.
+/// The script of an HTLC that the commitment's owner offered (BOLT 3, "Offered HTLC Outputs"). The only refusal is that memory ran out.
 pub(crate) fn offered(
     alloc: Global,
     revocation: &[u8; 33],
     remote: &[u8; 33],
     local: &[u8; 33],
     payment_hash: &[u8; 32],
-) -> Result<ByteString, AllocError>
-    ensures { IfOk result (Spells (offered_ops (hash160_of revocation.now) remote.now local.now (ripemd160_of payment_hash.now))) }
+) -> Result<ByteString, Refusal>
+    ensures { IsWritten (offered_ops (hash160_of revocation.now) remote.now local.now (ripemd160_of payment_hash.now)) result }
 {
+    let hash = hash160(revocation);
     let payment = ripemd160(payment_hash);
-    let mut script = htlc_beginning(alloc, revocation, remote)?;
-    end_offered(&mut script, local, &payment)?;
-    Ok(ByteString::from_vec(script))
+    joined(
+        alloc,
+        &[
+            &[DUP, HASH160, PUSH_HASH],
+            &hash,
+            &[EQUAL, IF, CHECKSIG, ELSE, PUSH_KEY],
+            remote,
+            &[
+                SWAP, SIZE, 1, 32, EQUAL, NOTIF, DROP, NUMBER_2, SWAP, PUSH_KEY,
+            ],
+            local,
+            &[NUMBER_2, CHECKMULTISIG, ELSE, HASH160, PUSH_HASH],
+            &payment,
+            &[EQUALVERIFY, CHECKSIG, ENDIF, ENDIF],
+        ],
+    )
 }
 
-/// The script of an HTLC that the commitment's owner received (BOLT 3, "Received HTLC Outputs"). The only error is that memory ran out.
+/// The script of an HTLC that the commitment's owner received (BOLT 3, "Received HTLC Outputs"). The only refusal is that memory ran out.
 pub(crate) fn received(
     alloc: Global,
     revocation: &[u8; 33],
@@ -211,11 +186,26 @@ pub(crate) fn received(
     local: &[u8; 33],
     payment_hash: &[u8; 32],
     expiry_height: u32,
-) -> Result<ByteString, AllocError>
-    ensures { IfOk result (Spells (received_ops (hash160_of revocation.now) remote.now local.now (ripemd160_of payment_hash.now) expiry_height)) }
+) -> Result<ByteString, Refusal>
+    ensures { IsWritten (received_ops (hash160_of revocation.now) remote.now local.now (ripemd160_of payment_hash.now) expiry_height) result }
 {
+    let hash = hash160(revocation);
     let payment = ripemd160(payment_hash);
-    let mut script = htlc_beginning(alloc, revocation, remote)?;
-    end_received(alloc, &mut script, local, &payment, expiry_height)?;
-    Ok(ByteString::from_vec(script))
+    let expiry = number_push(alloc, expiry_height)?;
+    joined(
+        alloc,
+        &[
+            &[DUP, HASH160, PUSH_HASH],
+            &hash,
+            &[EQUAL, IF, CHECKSIG, ELSE, PUSH_KEY],
+            remote,
+            &[SWAP, SIZE, 1, 32, EQUAL, IF, HASH160, PUSH_HASH],
+            &payment,
+            &[EQUALVERIFY, NUMBER_2, SWAP, PUSH_KEY],
+            local,
+            &[NUMBER_2, CHECKMULTISIG, ELSE, DROP],
+            expiry.bytes(),
+            &[CHECKLOCKTIMEVERIFY, DROP, CHECKSIG, ENDIF, ENDIF],
+        ],
+    )
 }

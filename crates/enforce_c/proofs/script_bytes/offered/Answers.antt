@@ -3,4 +3,4 @@ use Rattle.enforce_c.proofs.Spelled.{offered_spells}
 use Rattle.enforce_c.proofs.script_bytes.offered.Goals as goal
 
 pub returns : goal.returns
-returns c = offered_spells _ _ _ _ _ _ _ _ (length-ripemd160 _) c.told-remote c.told-local (length-ripemd160 _) c.in_ok-script.ensures c.in_ok-end_offered.ensures c.ripemd160-payment.ensures c.from_vec.ensures
+returns c = offered_spells c.joined.result _ _ _ _ _ _ (length-ripemd160 _) c.told-remote c.told-local (length-ripemd160 _) c.hash160-hash.ensures c.ripemd160-payment.ensures c.joined.ensures

@@ -1,9 +1,6 @@
-use Rattle.std.proofs.Common.{rules, append_assoc}
-use Rattle.enforce_c.proofs.Spelled.{to_local_ops}
+use Rattle.std.proofs.Common.{◌∙◌}
+use Rattle.enforce_c.proofs.Spelled.{to_local_spells}
 use Rattle.enforce_c.proofs.script_bytes.to_local.Goals as goal
 
 pub returns : goal.returns
-returns c = record {
-  each = to_local_ops c.args.revocation.now c.args.delayed.now c.args.delay_blocks c.told-revocation c.told-delayed;
-  same = search (rules, append_assoc);
-}
+returns c = to_local_spells c.joined.result _ _ _ c.args.delay_blocks _ c.told-revocation c.told-delayed c.from.ensures (c.bytes.ensures ∙ c.in_ok-delay.ensures) c.joined.ensures
