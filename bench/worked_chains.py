@@ -290,7 +290,7 @@ class Chain:
     def tables(self):
         named = [Signed(tx, *LOCKS[tx.outpoint]) for block in reversed(self.blocks) for tx in reversed(block) if tx.outpoint in LOCKS]
         items = [item for it in named for item in it.tx.witness]
-        found = {**self.own, "items_once": begins(sha256, items), "items_short": begins(hash160, items), "codes_once": begins(sha256, [it.code for it in named])}
+        found = {**self.own, "items_hashed": [byte for it in items for byte in sha256(it)], "items_once": begins(sha256, items), "items_short": begins(hash160, items), "codes_once": begins(sha256, [it.code for it in named])}
         lists = {"lists": lambda it: it.tx.signed_list(it.code, it.value), "points": lambda it: it.tx.points(), "ages": lambda it: it.tx.ages(), "payments": lambda it: it.tx.payments()}
         for name, spelled in lists.items():
             found.update({f"{name}_shown": begins(sha256d, map(spelled, named)), f"{name}_given": begins(sha256d, map(spelled, self.tokens()))})

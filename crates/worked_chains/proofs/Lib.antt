@@ -8,8 +8,10 @@ mod Checks
 mod Recorded
 mod Tables
 mod Tokens
+mod Scripts
 mod Numbered
 mod Closings
 mod ClosedExamples
+mod ClosedOutcomes
 mod OwnCloseExamples
 mod TokenTheftExamples

@@ -8,14 +8,19 @@ use Rattle.tx.specs.Spelling.{number, compact_size, bytes_with_length, outpoint,
 use Rattle.sighash.specs.Programs.{key_hash_program, script_hash_program}
 use Rattle.keys.specs.Derivation.{point_of, derived_key, revocation_key}
 use Rattle.chain.specs.Blocks.{grant_id}
-use Rattle.terms.specs.Numbers.{mask_of}
+use Rattle.terms.specs.declared.sides.Side.TheVariants.{A, B}
+use Rattle.terms.specs.declared.agreement.Terms.{Terms}
+use Rattle.terms.specs.Agreement.{party}
+use Rattle.terms.specs.Numbers.{mask_of, obscured}
 use Rattle.terms.specs.Scripts.{number_push}
 use Rattle.commit.specs.declared.fees.Direction.TheVariants.{Offered, Received}
 use Rattle.commit.specs.declared.outputs.OutputKind.TheVariants.{ToLocal, ToRemote, ToHtlc}
+use Rattle.commit.specs.Amounts.{amounts_of}
 use Rattle.commit.specs.Keys.{KeyBytes, keys_of}
 use Rattle.commit.specs.Order.{output_cmp, in_order}
 use Rattle.commit.specs.Outputs.{to_local_script, to_remote_script, htlc_script, outputs_of}
 use Rattle.commit.specs.Commitments.{Contents, commitment_of, transaction_of, id_of}
+use Rattle.channel.specs.declared.commitments.CommitmentState.{CommitmentState}
 use Rattle.channel.specs.Tokens.{contents_of}
 use Rattle.safety.specs.Premises.{LockedOutput}
 use Rattle.safety.proofs.Examples.{key}
@@ -45,9 +50,37 @@ pub first_granted : grant_id 0 ≡ first_grant
 unfolding sha256 digest_bytes hash_after compress rounds schedule first_words number grant_id
 first_granted = refl
 
+-- what obscures the numbers of commitments
+abbrev pub first_mask : ℕ
+first_mask = 0x93509c3d444a
+
+pub first_masked : mask_of first_terms ≡ first_mask
+unfolding sha256 digest_bytes hash_after compress rounds schedule first_words mask_of
+first_masked = refl
+
 pub second_granted : grant_id 1 ≡ second_grant
 unfolding sha256 digest_bytes hash_after compress rounds schedule first_words number grant_id
 second_granted = refl
+
+abbrev pub second_mask : ℕ
+second_mask = 0xb0bfccb9904b
+
+pub second_masked : mask_of second_terms ≡ second_mask
+unfolding sha256 digest_bytes hash_after compress rounds schedule first_words mask_of
+second_masked = refl
+
+-- ---- the contents of a commitment
+
+-- by the id of the grant, by what obscures the numbers, and by the keys
+abbrev contents_with : Terms → CommitmentState → List ℕ → ℕ → KeyBytes → Contents
+contents_with terms k grant mask keys = record {
+  funding = record { txid = grant; index = 0 };
+  hidden = obscured mask k.number;
+  keys = keys;
+  delay_blocks = (party k.owner terms).delay_blocks;
+  feerate_per_kw = k.view.feerate_per_kw;
+  outputs = in_order (outputs_of (party k.owner terms).delay_blocks keys (amounts_of terms k.view k.owner));
+}
 
 -- ---- what pays a payment key: the node's, and its peer's
 
@@ -123,9 +156,20 @@ first_opened_contents = record {
       ∷ [];
 }
 
+first_opened_keyed : keys_of first_terms B first_opened.point.bytes ≡ first_opened_keys
+unfolding sha256 digest_bytes hash_after compress rounds schedule first_words point_of derived_key revocation_key keys_of
+first_opened_keyed = refl
+
+first_opened_from : contents_with first_terms first_opened first_grant first_mask first_opened_keys ≡ first_opened_contents
+unfolding sha256 digest_bytes hash_after compress rounds schedule first_words ripemd160 left_words right_words left_rotations right_rotations left_constants right_constants block_words left_line right_line blocks ripemd_compress ripemd_hash_after ripemd_digest_bytes digits minimal_bytes_of key_hash_program script_hash_program number_push output_cmp in_order to_local_script to_remote_script htlc_script outputs_of
+first_opened_from = refl
+
 pub first_opened_is : contents_of first_terms first_opened ≡ first_opened_contents
-unfolding sha256 digest_bytes hash_after compress rounds schedule first_words ripemd160 left_words right_words left_rotations right_rotations left_constants right_constants block_words left_line right_line blocks ripemd_compress ripemd_hash_after ripemd_digest_bytes number digits minimal_bytes_of key_hash_program script_hash_program point_of derived_key revocation_key mask_of number_push grant_id keys_of output_cmp in_order to_local_script to_remote_script htlc_script outputs_of commitment_of
-first_opened_is = refl
+unfolding commitment_of
+first_opened_is =
+    ap (λ (id : List ℕ). contents_with first_terms first_opened id (mask_of first_terms) (keys_of first_terms B first_opened.point.bytes)) first_granted
+    ∙ ap (λ (mask : ℕ). contents_with first_terms first_opened first_grant mask (keys_of first_terms B first_opened.point.bytes)) first_masked
+    ∙ ap (contents_with first_terms first_opened first_grant first_mask) first_opened_keyed ∙ first_opened_from
 
 pub first_opened_named : id_of first_opened_contents ≡ first_opened_id
 unfolding sha256 digest_bytes hash_after compress rounds schedule first_words number compact_size bytes_with_length outpoint input output body stripped_spelling transaction_id transaction_of
@@ -205,9 +249,20 @@ first_newest_contents = record {
       ∷ [];
 }
 
+first_newest_keyed : keys_of first_terms B first_newest.point.bytes ≡ first_newest_keys
+unfolding sha256 digest_bytes hash_after compress rounds schedule first_words point_of derived_key revocation_key keys_of
+first_newest_keyed = refl
+
+first_newest_from : contents_with first_terms first_newest first_grant first_mask first_newest_keys ≡ first_newest_contents
+unfolding sha256 digest_bytes hash_after compress rounds schedule first_words ripemd160 left_words right_words left_rotations right_rotations left_constants right_constants block_words left_line right_line blocks ripemd_compress ripemd_hash_after ripemd_digest_bytes digits minimal_bytes_of key_hash_program script_hash_program number_push output_cmp in_order to_local_script to_remote_script htlc_script outputs_of
+first_newest_from = refl
+
 pub first_newest_is : contents_of first_terms first_newest ≡ first_newest_contents
-unfolding sha256 digest_bytes hash_after compress rounds schedule first_words ripemd160 left_words right_words left_rotations right_rotations left_constants right_constants block_words left_line right_line blocks ripemd_compress ripemd_hash_after ripemd_digest_bytes number digits minimal_bytes_of key_hash_program script_hash_program point_of derived_key revocation_key mask_of number_push grant_id keys_of output_cmp in_order to_local_script to_remote_script htlc_script outputs_of commitment_of
-first_newest_is = refl
+unfolding commitment_of
+first_newest_is =
+    ap (λ (id : List ℕ). contents_with first_terms first_newest id (mask_of first_terms) (keys_of first_terms B first_newest.point.bytes)) first_granted
+    ∙ ap (λ (mask : ℕ). contents_with first_terms first_newest first_grant mask (keys_of first_terms B first_newest.point.bytes)) first_masked
+    ∙ ap (contents_with first_terms first_newest first_grant first_mask) first_newest_keyed ∙ first_newest_from
 
 pub first_newest_named : id_of first_newest_contents ≡ first_newest_id
 unfolding sha256 digest_bytes hash_after compress rounds schedule first_words number compact_size bytes_with_length outpoint input output body stripped_spelling transaction_id transaction_of
@@ -249,9 +304,20 @@ first_own_contents = record {
       ∷ [];
 }
 
+first_own_keyed : keys_of first_terms A first_own.point.bytes ≡ first_own_keys
+unfolding sha256 digest_bytes hash_after compress rounds schedule first_words point_of derived_key revocation_key keys_of
+first_own_keyed = refl
+
+first_own_from : contents_with first_terms first_own first_grant first_mask first_own_keys ≡ first_own_contents
+unfolding sha256 digest_bytes hash_after compress rounds schedule first_words ripemd160 left_words right_words left_rotations right_rotations left_constants right_constants block_words left_line right_line blocks ripemd_compress ripemd_hash_after ripemd_digest_bytes digits minimal_bytes_of key_hash_program script_hash_program number_push output_cmp in_order to_local_script to_remote_script htlc_script outputs_of
+first_own_from = refl
+
 pub first_own_is : contents_of first_terms first_own ≡ first_own_contents
-unfolding sha256 digest_bytes hash_after compress rounds schedule first_words ripemd160 left_words right_words left_rotations right_rotations left_constants right_constants block_words left_line right_line blocks ripemd_compress ripemd_hash_after ripemd_digest_bytes number digits minimal_bytes_of key_hash_program script_hash_program point_of derived_key revocation_key mask_of number_push grant_id keys_of output_cmp in_order to_local_script to_remote_script htlc_script outputs_of commitment_of
-first_own_is = refl
+unfolding commitment_of
+first_own_is =
+    ap (λ (id : List ℕ). contents_with first_terms first_own id (mask_of first_terms) (keys_of first_terms A first_own.point.bytes)) first_granted
+    ∙ ap (λ (mask : ℕ). contents_with first_terms first_own first_grant mask (keys_of first_terms A first_own.point.bytes)) first_masked
+    ∙ ap (contents_with first_terms first_own first_grant first_mask) first_own_keyed ∙ first_own_from
 
 pub first_own_named : id_of first_own_contents ≡ first_own_id
 unfolding sha256 digest_bytes hash_after compress rounds schedule first_words number compact_size bytes_with_length outpoint input output body stripped_spelling transaction_id transaction_of
@@ -314,9 +380,20 @@ second_opened_contents = record {
       ∷ [];
 }
 
+second_opened_keyed : keys_of second_terms B second_opened.point.bytes ≡ second_opened_keys
+unfolding sha256 digest_bytes hash_after compress rounds schedule first_words point_of derived_key revocation_key keys_of
+second_opened_keyed = refl
+
+second_opened_from : contents_with second_terms second_opened second_grant second_mask second_opened_keys ≡ second_opened_contents
+unfolding sha256 digest_bytes hash_after compress rounds schedule first_words ripemd160 left_words right_words left_rotations right_rotations left_constants right_constants block_words left_line right_line blocks ripemd_compress ripemd_hash_after ripemd_digest_bytes digits minimal_bytes_of key_hash_program script_hash_program number_push output_cmp in_order to_local_script to_remote_script htlc_script outputs_of
+second_opened_from = refl
+
 pub second_opened_is : contents_of second_terms second_opened ≡ second_opened_contents
-unfolding sha256 digest_bytes hash_after compress rounds schedule first_words ripemd160 left_words right_words left_rotations right_rotations left_constants right_constants block_words left_line right_line blocks ripemd_compress ripemd_hash_after ripemd_digest_bytes number digits minimal_bytes_of key_hash_program script_hash_program point_of derived_key revocation_key mask_of number_push grant_id keys_of output_cmp in_order to_local_script to_remote_script htlc_script outputs_of commitment_of
-second_opened_is = refl
+unfolding commitment_of
+second_opened_is =
+    ap (λ (id : List ℕ). contents_with second_terms second_opened id (mask_of second_terms) (keys_of second_terms B second_opened.point.bytes)) second_granted
+    ∙ ap (λ (mask : ℕ). contents_with second_terms second_opened second_grant mask (keys_of second_terms B second_opened.point.bytes)) second_masked
+    ∙ ap (contents_with second_terms second_opened second_grant second_mask) second_opened_keyed ∙ second_opened_from
 
 pub second_opened_named : id_of second_opened_contents ≡ second_opened_id
 unfolding sha256 digest_bytes hash_after compress rounds schedule first_words number compact_size bytes_with_length outpoint input output body stripped_spelling transaction_id transaction_of
@@ -358,9 +435,20 @@ second_newest_contents = record {
       ∷ [];
 }
 
+second_newest_keyed : keys_of second_terms B second_newest.point.bytes ≡ second_newest_keys
+unfolding sha256 digest_bytes hash_after compress rounds schedule first_words point_of derived_key revocation_key keys_of
+second_newest_keyed = refl
+
+second_newest_from : contents_with second_terms second_newest second_grant second_mask second_newest_keys ≡ second_newest_contents
+unfolding sha256 digest_bytes hash_after compress rounds schedule first_words ripemd160 left_words right_words left_rotations right_rotations left_constants right_constants block_words left_line right_line blocks ripemd_compress ripemd_hash_after ripemd_digest_bytes digits minimal_bytes_of key_hash_program script_hash_program number_push output_cmp in_order to_local_script to_remote_script htlc_script outputs_of
+second_newest_from = refl
+
 pub second_newest_is : contents_of second_terms second_newest ≡ second_newest_contents
-unfolding sha256 digest_bytes hash_after compress rounds schedule first_words ripemd160 left_words right_words left_rotations right_rotations left_constants right_constants block_words left_line right_line blocks ripemd_compress ripemd_hash_after ripemd_digest_bytes number digits minimal_bytes_of key_hash_program script_hash_program point_of derived_key revocation_key mask_of number_push grant_id keys_of output_cmp in_order to_local_script to_remote_script htlc_script outputs_of commitment_of
-second_newest_is = refl
+unfolding commitment_of
+second_newest_is =
+    ap (λ (id : List ℕ). contents_with second_terms second_newest id (mask_of second_terms) (keys_of second_terms B second_newest.point.bytes)) second_granted
+    ∙ ap (λ (mask : ℕ). contents_with second_terms second_newest second_grant mask (keys_of second_terms B second_newest.point.bytes)) second_masked
+    ∙ ap (contents_with second_terms second_newest second_grant second_mask) second_newest_keyed ∙ second_newest_from
 
 pub second_newest_named : id_of second_newest_contents ≡ second_newest_id
 unfolding sha256 digest_bytes hash_after compress rounds schedule first_words number compact_size bytes_with_length outpoint input output body stripped_spelling transaction_id transaction_of
@@ -402,9 +490,20 @@ second_own_contents = record {
       ∷ [];
 }
 
+second_own_keyed : keys_of second_terms A second_own.point.bytes ≡ second_own_keys
+unfolding sha256 digest_bytes hash_after compress rounds schedule first_words point_of derived_key revocation_key keys_of
+second_own_keyed = refl
+
+second_own_from : contents_with second_terms second_own second_grant second_mask second_own_keys ≡ second_own_contents
+unfolding sha256 digest_bytes hash_after compress rounds schedule first_words ripemd160 left_words right_words left_rotations right_rotations left_constants right_constants block_words left_line right_line blocks ripemd_compress ripemd_hash_after ripemd_digest_bytes digits minimal_bytes_of key_hash_program script_hash_program number_push output_cmp in_order to_local_script to_remote_script htlc_script outputs_of
+second_own_from = refl
+
 pub second_own_is : contents_of second_terms second_own ≡ second_own_contents
-unfolding sha256 digest_bytes hash_after compress rounds schedule first_words ripemd160 left_words right_words left_rotations right_rotations left_constants right_constants block_words left_line right_line blocks ripemd_compress ripemd_hash_after ripemd_digest_bytes number digits minimal_bytes_of key_hash_program script_hash_program point_of derived_key revocation_key mask_of number_push grant_id keys_of output_cmp in_order to_local_script to_remote_script htlc_script outputs_of commitment_of
-second_own_is = refl
+unfolding commitment_of
+second_own_is =
+    ap (λ (id : List ℕ). contents_with second_terms second_own id (mask_of second_terms) (keys_of second_terms A second_own.point.bytes)) second_granted
+    ∙ ap (λ (mask : ℕ). contents_with second_terms second_own second_grant mask (keys_of second_terms A second_own.point.bytes)) second_masked
+    ∙ ap (contents_with second_terms second_own second_grant second_mask) second_own_keyed ∙ second_own_from
 
 pub second_own_named : id_of second_own_contents ≡ second_own_id
 unfolding sha256 digest_bytes hash_after compress rounds schedule first_words number compact_size bytes_with_length outpoint input output body stripped_spelling transaction_id transaction_of

@@ -1,6 +1,6 @@
 -- The outputs, keys and strings of the two worked channels, whose peers have each a commitment 0 and 1: what the contents of their commitments make of them, and what their hashes begin with, as `bench/worked_chains.py`
 -- computed it.
-use Rattle.std.proofs.Common.{◌≡◌, ℕ, Bool, true, false, List, [], ◌∷◌, ◌++◌, map, replicate, Option, None, sym, ◌∙◌, refl, subst}
+use Rattle.std.proofs.Common.{◌≡◌, ℕ, Bool, true, false, List, [], ◌∷◌, ◌++◌, map, replicate, Option, None, sym, ap, ◌∙◌, refl, subst}
 use Rattle.std.specs.List.{flat_map}
 use Rattle.sha2.specs.Sha256.{sha256, digest_bytes, hash_after, compress, rounds, schedule, first_words}
 use Rattle.digest.specs.Ripemd160.{left_words, right_words, left_rotations, right_rotations, left_constants, right_constants, block_words, left_line, right_line, blocks, ripemd160, compress as ripemd_compress, hash_after as ripemd_hash_after, digest_bytes as ripemd_digest_bytes}
@@ -11,10 +11,12 @@ use Rattle.sighash.specs.Programs.{key_hash_program, script_hash_program}
 use Rattle.keys.specs.Derivation.{point_of}
 use Rattle.chain.specs.Blocks.{Contents as Block, grant_id}
 use Rattle.tx.specs.Parts.{Output}
+use Rattle.tx.specs.Fields.{Transaction}
+use Rattle.commit.specs.declared.outputs.HtlcOutput.{HtlcOutput}
 use Rattle.terms.specs.Scripts.{number_push}
 use Rattle.terms.specs.declared.agreement.Terms.{Terms}
 use Rattle.commit.specs.Outputs.{to_local_script, to_remote_script, htlc_script}
-use Rattle.commit.specs.Commitments.{Contents, transaction_of, htlcs_from, htlcs_of, htlc_tx_of}
+use Rattle.commit.specs.Commitments.{Contents, spending, transaction_of, id_of, htlcs_from, htlcs_of, lock_time_of, htlc_tx_output, htlc_tx_of}
 use Rattle.commit.specs.Signing.{funding_script}
 use Rattle.penalty.specs.Claimable.{claims_by}
 use Rattle.channel.specs.declared.commitments.CommitmentState.{CommitmentState}
@@ -23,9 +25,9 @@ use Rattle.safety.specs.Holdings.{Release, Holding}
 use Rattle.safety.specs.Premises.{LockedOutput, funding_lock, locks_of, locks_by, owner_keys, keys_by}
 use Rattle.safety.proofs.Examples.{key}
 use Rattle.safety.proofs.Unbroken.{own_strings, htlc_strings, strings_in, payment_hashes}
-use Rattle.safety.proofs.WorkedChannels.{first_terms, second_terms, first_opened, first_newest, first_own, second_opened, second_newest, second_own, state, holding}
+use Rattle.safety.proofs.WorkedChannels.{first_terms, second_terms, first_htlc, second_htlc, third_htlc, first_opened, first_newest, first_own, second_opened, second_newest, second_own, state, holding}
 use Rattle.worked_chains.proofs.Marks.{beginnings, marked, are_distinct, NoneCollide, no_two, from_hashes, from_first}
-use Rattle.worked_chains.proofs.Recorded.{first_opened_contents, first_newest_contents, first_own_contents, second_opened_contents, second_newest_contents, second_own_contents, by_contents, first_funding_program, second_funding_program, first_home_program, first_funding_lock, first_newest_lock_0, first_newest_lock_1, first_newest_lock_2, first_newest_lock_3, first_newest_stage_0_lock, first_newest_stage_1_lock, first_opened_lock_0, first_opened_lock_1, first_own_lock_0, first_own_lock_1, second_funding_lock, second_newest_lock_0, second_newest_lock_1, second_opened_lock_0, second_opened_lock_1, second_opened_lock_2, second_opened_stage_1_lock, second_own_lock_0, second_own_lock_1}
+use Rattle.worked_chains.proofs.Recorded.{first_opened_contents, first_newest_contents, first_own_contents, second_opened_contents, second_newest_contents, second_own_contents, by_contents, first_funding_program, second_funding_program, first_home_program, first_funding_lock, first_newest_lock_0, first_newest_lock_1, first_newest_lock_2, first_newest_lock_3, first_newest_stage_0_lock, first_newest_stage_1_lock, first_opened_lock_0, first_opened_lock_1, first_own_lock_0, first_own_lock_1, second_funding_lock, second_newest_lock_0, second_newest_lock_1, second_opened_lock_0, second_opened_lock_1, second_opened_lock_2, second_opened_stage_1_lock, second_own_lock_0, second_own_lock_1, first_opened_delayed_program, first_opened_delayed, first_home, first_newest_htlc_0_program, first_newest_htlc_0, first_newest_delayed_program, first_newest_delayed, first_newest_htlc_1_program, first_newest_htlc_1, first_away_program, first_away, first_own_delayed_program, first_own_delayed, second_opened_delayed_program, second_opened_delayed, second_opened_htlc_1_program, second_opened_htlc_1, second_home_program, second_home, second_newest_delayed_program, second_newest_delayed, second_away_program, second_away, second_own_delayed_program, second_own_delayed, first_opened_id, first_newest_id, first_newest_stage_0_id, first_newest_stage_1_id, first_own_id, second_opened_id, second_opened_stage_1_id, second_newest_id, first_opened_named, first_newest_named, first_own_named, second_opened_named, second_newest_named, second_own_named, lock}
 
 -- the node: the number of the newest commitment of the first peer, whether a signature awaits its revocation, that peer's secrets, what the node released in each channel, and the number with which it closed the second one
 abbrev pub node : ℕ → Bool → List (List ℕ) → List Release → List Release → Option ℕ → List Holding
@@ -51,9 +53,75 @@ abbrev pub locks : List LockedOutput
 locks =
     first_funding_lock ∷ first_opened_lock_0 ∷ first_opened_lock_1 ∷ first_newest_lock_0 ∷ first_newest_stage_0_lock ∷ first_newest_lock_1 ∷ first_newest_stage_1_lock ∷ first_newest_lock_2 ∷ first_newest_lock_3 ∷ first_own_lock_0 ∷ first_own_lock_1 ∷ second_funding_lock ∷ second_opened_lock_0 ∷ second_opened_lock_1 ∷ second_opened_stage_1_lock ∷ second_opened_lock_2 ∷ second_newest_lock_0 ∷ second_newest_lock_1 ∷ second_own_lock_0 ∷ second_own_lock_1 ∷ []
 
+-- an HTLC transaction, by the id of the commitment that it spends
+abbrev htlc_tx_with : List ℕ → Contents → HtlcOutput → Transaction
+htlc_tx_with id c x = spending (record { txid = id; index = x.index }) 0 (htlc_tx_output c x ∷ []) (lock_time_of x.direction x.htlc)
+
+first_newest_stage_0_from : transaction_id (htlc_tx_with first_newest_id first_newest_contents first_htlc) ≡ first_newest_stage_0_id
+unfolding sha256 digest_bytes hash_after compress rounds schedule first_words number compact_size bytes_with_length outpoint input output body stripped_spelling transaction_id digits minimal_bytes_of number_push script_hash_program to_local_script
+first_newest_stage_0_from = refl
+
+first_newest_stage_0_named : transaction_id (htlc_tx_of first_newest_contents first_htlc) ≡ first_newest_stage_0_id
+unfolding htlc_tx_of
+first_newest_stage_0_named = ap (λ (id : List ℕ). transaction_id (htlc_tx_with id first_newest_contents first_htlc)) first_newest_named ∙ first_newest_stage_0_from
+
+first_newest_stage_1_from : transaction_id (htlc_tx_with first_newest_id first_newest_contents second_htlc) ≡ first_newest_stage_1_id
+unfolding sha256 digest_bytes hash_after compress rounds schedule first_words number compact_size bytes_with_length outpoint input output body stripped_spelling transaction_id digits minimal_bytes_of number_push script_hash_program to_local_script
+first_newest_stage_1_from = refl
+
+first_newest_stage_1_named : transaction_id (htlc_tx_of first_newest_contents second_htlc) ≡ first_newest_stage_1_id
+unfolding htlc_tx_of
+first_newest_stage_1_named = ap (λ (id : List ℕ). transaction_id (htlc_tx_with id first_newest_contents second_htlc)) first_newest_named ∙ first_newest_stage_1_from
+
+second_opened_stage_1_from : transaction_id (htlc_tx_with second_opened_id second_opened_contents third_htlc) ≡ second_opened_stage_1_id
+unfolding sha256 digest_bytes hash_after compress rounds schedule first_words number compact_size bytes_with_length outpoint input output body stripped_spelling transaction_id digits minimal_bytes_of number_push script_hash_program to_local_script
+second_opened_stage_1_from = refl
+
+second_opened_stage_1_named : transaction_id (htlc_tx_of second_opened_contents third_htlc) ≡ second_opened_stage_1_id
+unfolding htlc_tx_of
+second_opened_stage_1_named = ap (λ (id : List ℕ). transaction_id (htlc_tx_with id second_opened_contents third_htlc)) second_opened_named ∙ second_opened_stage_1_from
+
+-- the outputs by the ids of commitments and of HTLC transactions
+abbrev locks_at : (a b p q c d s e f : List ℕ) → List LockedOutput
+locks_at a b p q c d s e f =
+    first_funding_lock
+    ∷ lock a 0 20000 first_opened_delayed_program first_opened_delayed
+    ∷ lock a 1 79276 first_home_program first_home
+    ∷ lock b 0 10000 first_newest_htlc_0_program first_newest_htlc_0
+    ∷ lock p 0 9297 first_newest_delayed_program first_newest_delayed
+    ∷ lock b 1 12000 first_newest_htlc_1_program first_newest_htlc_1
+    ∷ lock q 0 11337 first_newest_delayed_program first_newest_delayed
+    ∷ lock b 2 18000 first_newest_delayed_program first_newest_delayed
+    ∷ lock b 3 58932 first_home_program first_home
+    ∷ lock c 0 20000 first_away_program first_away
+    ∷ lock c 1 79276 first_own_delayed_program first_own_delayed
+    ∷ second_funding_lock
+    ∷ lock d 0 8000 second_opened_delayed_program second_opened_delayed
+    ∷ lock d 1 12000 second_opened_htlc_1_program second_opened_htlc_1
+    ∷ lock s 0 11337 second_opened_delayed_program second_opened_delayed
+    ∷ lock d 2 79104 second_home_program second_home
+    ∷ lock e 0 20000 second_newest_delayed_program second_newest_delayed
+    ∷ lock e 1 79276 second_home_program second_home
+    ∷ lock f 0 20000 second_away_program second_away
+    ∷ lock f 1 79276 second_own_delayed_program second_own_delayed
+    ∷ []
+
+locks_are_at : locks_from first_opened_contents first_newest_contents first_own_contents second_opened_contents second_newest_contents second_own_contents ≡ locks_at (id_of first_opened_contents) (id_of first_newest_contents) (transaction_id (htlc_tx_of first_newest_contents first_htlc)) (transaction_id (htlc_tx_of first_newest_contents second_htlc)) (id_of first_own_contents) (id_of second_opened_contents) (transaction_id (htlc_tx_of second_opened_contents third_htlc)) (id_of second_newest_contents) (id_of second_own_contents)
+unfolding sha256 digest_bytes hash_after compress rounds schedule first_words ripemd160 left_words right_words left_rotations right_rotations left_constants right_constants block_words left_line right_line blocks ripemd_compress ripemd_hash_after ripemd_digest_bytes digits minimal_bytes_of number_push grant_id number script_hash_program key_hash_program to_local_script to_remote_script htlc_script funding_script claims_by
+locks_are_at = refl
+
 locks_are : locks_from first_opened_contents first_newest_contents first_own_contents second_opened_contents second_newest_contents second_own_contents ≡ locks
-unfolding sha256 digest_bytes hash_after compress rounds schedule first_words ripemd160 left_words right_words left_rotations right_rotations left_constants right_constants block_words left_line right_line blocks ripemd_compress ripemd_hash_after ripemd_digest_bytes number compact_size bytes_with_length outpoint input output body stripped_spelling transaction_id digits minimal_bytes_of number_push grant_id script_hash_program key_hash_program to_local_script to_remote_script htlc_script transaction_of htlcs_from htlc_tx_of funding_script claims_by
-locks_are = refl
+locks_are =
+    locks_are_at
+    ∙ ap (λ (x : List ℕ). locks_at x (id_of first_newest_contents) (transaction_id (htlc_tx_of first_newest_contents first_htlc)) (transaction_id (htlc_tx_of first_newest_contents second_htlc)) (id_of first_own_contents) (id_of second_opened_contents) (transaction_id (htlc_tx_of second_opened_contents third_htlc)) (id_of second_newest_contents) (id_of second_own_contents)) first_opened_named
+    ∙ ap (λ (x : List ℕ). locks_at first_opened_id x (transaction_id (htlc_tx_of first_newest_contents first_htlc)) (transaction_id (htlc_tx_of first_newest_contents second_htlc)) (id_of first_own_contents) (id_of second_opened_contents) (transaction_id (htlc_tx_of second_opened_contents third_htlc)) (id_of second_newest_contents) (id_of second_own_contents)) first_newest_named
+    ∙ ap (λ (x : List ℕ). locks_at first_opened_id first_newest_id x (transaction_id (htlc_tx_of first_newest_contents second_htlc)) (id_of first_own_contents) (id_of second_opened_contents) (transaction_id (htlc_tx_of second_opened_contents third_htlc)) (id_of second_newest_contents) (id_of second_own_contents)) first_newest_stage_0_named
+    ∙ ap (λ (x : List ℕ). locks_at first_opened_id first_newest_id first_newest_stage_0_id x (id_of first_own_contents) (id_of second_opened_contents) (transaction_id (htlc_tx_of second_opened_contents third_htlc)) (id_of second_newest_contents) (id_of second_own_contents)) first_newest_stage_1_named
+    ∙ ap (λ (x : List ℕ). locks_at first_opened_id first_newest_id first_newest_stage_0_id first_newest_stage_1_id x (id_of second_opened_contents) (transaction_id (htlc_tx_of second_opened_contents third_htlc)) (id_of second_newest_contents) (id_of second_own_contents)) first_own_named
+    ∙ ap (λ (x : List ℕ). locks_at first_opened_id first_newest_id first_newest_stage_0_id first_newest_stage_1_id first_own_id x (transaction_id (htlc_tx_of second_opened_contents third_htlc)) (id_of second_newest_contents) (id_of second_own_contents)) second_opened_named
+    ∙ ap (λ (x : List ℕ). locks_at first_opened_id first_newest_id first_newest_stage_0_id first_newest_stage_1_id first_own_id second_opened_id x (id_of second_newest_contents) (id_of second_own_contents)) second_opened_stage_1_named
+    ∙ ap (λ (x : List ℕ). locks_at first_opened_id first_newest_id first_newest_stage_0_id first_newest_stage_1_id first_own_id second_opened_id second_opened_stage_1_id x (id_of second_own_contents)) second_newest_named
+    ∙ ap (λ (x : List ℕ). locks_at first_opened_id first_newest_id first_newest_stage_0_id first_newest_stage_1_id first_own_id second_opened_id second_opened_stage_1_id second_newest_id x) second_own_named
 
 pub locks_is : (n : ℕ) (a : Bool) (ss : List (List ℕ)) (r q : List Release) (c : Option ℕ) → locks_by (node n a ss r q c) ≡ locks
 locks_is n a ss r q c = by_contents locks_from ∙ locks_are
@@ -89,6 +157,19 @@ strings_from a b c d e f =
 abbrev strings : List (List ℕ)
 strings = strings_from first_opened_contents first_newest_contents first_own_contents second_opened_contents second_newest_contents second_own_contents
 
+-- the same by the ids of the commitments that HTLC transactions spend
+abbrev strings_one_at : List ℕ → Terms → CommitmentState → Contents → List (List ℕ)
+strings_one_at id terms k c = own_strings terms k c ++ flat_map (λ x. stripped_spelling (htlc_tx_with id c x) ∷ htlc_script c.keys x.direction x.htlc ∷ []) (htlcs_of c)
+
+abbrev strings_at : (newest opened : List ℕ) → List (List ℕ)
+strings_at newest opened =
+    (strings_one first_terms first_opened first_opened_contents ++ (strings_one_at newest first_terms first_newest first_newest_contents ++ []))
+    ++ ((strings_one_at opened second_terms second_opened second_opened_contents ++ (strings_one second_terms second_newest second_newest_contents ++ [])) ++ [])
+
+strings_are : strings ≡ strings_at first_newest_id second_opened_id
+unfolding htlc_tx_of htlcs_from
+strings_are = ap (λ (id : List ℕ). strings_at id (id_of second_opened_contents)) first_newest_named ∙ ap (strings_at first_newest_id) second_opened_named
+
 abbrev hashed : List (List ℕ)
 hashed =
     (0x1f ∷ 0xda ∷ 0x0b ∷ 0xb1 ∷ 0x1b ∷ 0x66 ∷ 0x57 ∷ 0x48 ∷ 0x37 ∷ 0x1e ∷ 0x29 ∷ 0xd9 ∷ 0xf9 ∷ 0x95 ∷ 0x07 ∷ 0xc9 ∷ 0x4e ∷ 0x3c ∷ 0xb9 ∷ 0x37 ∷ 0xe6 ∷ 0x30 ∷ 0x74 ∷ 0xde ∷ 0xa3 ∷ 0x19 ∷ 0x52 ∷ 0xa2 ∷ 0x1d ∷ 0x05 ∷ 0x72 ∷ 0x78 ∷ [])
@@ -119,9 +200,12 @@ hashed =
     ∷ (0x39 ∷ 0x80 ∷ 0xc2 ∷ 0x1f ∷ 0x13 ∷ 0x44 ∷ 0xdf ∷ 0x5b ∷ 0x21 ∷ 0x22 ∷ 0x33 ∷ 0x0c ∷ 0xf8 ∷ 0x3a ∷ 0x0a ∷ 0xc4 ∷ 0x7d ∷ 0x8f ∷ 0x79 ∷ 0x91 ∷ 0x51 ∷ 0xca ∷ 0xc3 ∷ 0xa9 ∷ 0x3e ∷ 0xb1 ∷ 0x18 ∷ 0xef ∷ 0x62 ∷ 0xab ∷ 0x33 ∷ 0x78 ∷ [])
     ∷ []
 
+hashed_from : map sha256 (strings_at first_newest_id second_opened_id) ≡ hashed
+unfolding sha256 digest_bytes hash_after compress rounds schedule first_words number compact_size bytes_with_length outpoint input output body stripped_spelling digits minimal_bytes_of number_push point_of script_hash_program to_local_script to_remote_script htlc_script transaction_of htlcs_from ripemd160 left_words right_words left_rotations right_rotations left_constants right_constants block_words left_line right_line blocks ripemd_compress ripemd_hash_after ripemd_digest_bytes
+hashed_from = refl
+
 hashed_are : map sha256 strings ≡ hashed
-unfolding sha256 digest_bytes hash_after compress rounds schedule first_words ripemd160 left_words right_words left_rotations right_rotations left_constants right_constants block_words left_line right_line blocks ripemd_compress ripemd_hash_after ripemd_digest_bytes number compact_size bytes_with_length outpoint input output body stripped_spelling transaction_id digits minimal_bytes_of number_push point_of script_hash_program to_local_script to_remote_script htlc_script transaction_of htlcs_from htlc_tx_of
-hashed_are = refl
+hashed_are = ap (map sha256) strings_are ∙ hashed_from
 
 abbrev once_begin : List ℕ
 once_begin = 0x1fda0bb1 ∷ 0xeedcb8b4 ∷ 0xe1577700 ∷ 0x28503742 ∷ 0x20be9c97 ∷ 0x568cdc8f ∷ 0x6804425e ∷ 0xe1577700 ∷ 0xfe47cc20 ∷ 0x11a33ede ∷ 0x6048bebe ∷ 0xede05cf6 ∷ 0x7088d534 ∷ 0xe972ffe3 ∷ 0x4a19d398 ∷ 0x3a63d94a ∷ 0xa2d5eec4 ∷ 0x72c365bf ∷ 0x2cd3f5da ∷ 0x1ff90409 ∷ 0x5dfe5a54 ∷ 0x5089534b ∷ 0x8b268d96 ∷ 0xa2d5eec4 ∷ 0x774c9721 ∷ 0x3980c21f ∷ []

@@ -8,13 +8,13 @@ use Rattle.digest.specs.Ripemd160.{left_words, right_words, left_rotations, righ
 use Rattle.digest.specs.Hash.{sha256d}
 use Rattle.script.specs.Number.{digits, minimal_bytes_of}
 use Rattle.tx.specs.Parts.{Output}
-use Rattle.tx.specs.Spelling.{number, compact_size, bytes_with_length, outpoint, input, output, body, stripped_spelling, transaction_id}
+use Rattle.tx.specs.Spelling.{number, compact_size, bytes_with_length, outpoint, input, output}
 use Rattle.sighash.specs.Signing.{all_outpoints, all_sequences, all_outputs, signed_list}
 use Rattle.sighash.specs.Programs.{script_hash_program}
 use Rattle.terms.specs.Scripts.{number_push}
 use Rattle.terms.specs.declared.agreement.Terms.{Terms}
 use Rattle.commit.specs.Outputs.{to_local_script, to_remote_script, htlc_script}
-use Rattle.commit.specs.Commitments.{Contents, spending, tx_output, transaction_of, htlcs_from, htlcs_of, htlc_tx_of}
+use Rattle.commit.specs.Commitments.{Contents, spending, tx_output, transaction_of, id_of, htlcs_from, htlcs_of, htlc_tx_of}
 use Rattle.commit.specs.Signing.{funding_script, input_of}
 use Rattle.channel.specs.declared.commitments.CommitmentState.{CommitmentState}
 use Rattle.channel.specs.Tokens.{funding_key}
@@ -25,7 +25,7 @@ use Rattle.safety.proofs.Examples.{key}
 use Rattle.safety.proofs.WorkedChannels.{first_terms, second_terms, first_opened, first_newest, second_opened, second_newest}
 use Rattle.worked_chains.proofs.Marks.{beginning}
 use Rattle.worked_chains.proofs.Spends.{signed_over, outpoints_in, sequences_in, outputs_paid}
-use Rattle.worked_chains.proofs.Recorded.{first_grant, first_funding, second_grant, second_funding, first_opened_digest, first_opened_contents, first_newest_id, first_newest_keys, first_newest_htlc_0, first_newest_htlc_1, first_newest_delayed_program, first_newest_digest, first_newest_stage_0_digest, first_newest_stage_1_digest, first_newest_contents, first_own_contents, second_opened_id, second_opened_keys, second_opened_delayed_program, second_opened_htlc_1, second_opened_digest, second_opened_stage_1_digest, second_opened_contents, second_newest_digest, second_newest_contents, second_own_contents}
+use Rattle.worked_chains.proofs.Recorded.{first_grant, first_funding, second_grant, second_funding, first_opened_digest, first_opened_contents, first_newest_id, first_newest_named, first_newest_keys, first_newest_htlc_0, first_newest_htlc_1, first_newest_delayed_program, first_newest_digest, first_newest_stage_0_digest, first_newest_stage_1_digest, first_newest_contents, first_own_contents, second_opened_id, second_opened_named, second_opened_keys, second_opened_delayed_program, second_opened_htlc_1, second_opened_digest, second_opened_stage_1_digest, second_opened_contents, second_newest_digest, second_newest_contents, second_own_contents}
 
 -- ---- those of both channels, with the node's own
 
@@ -86,13 +86,35 @@ second_tokens =
     ∷ token (key 0x30).bytes second_grant 0 2159067084 (map tx_output second_newest_contents.outputs) 549032010 second_funding 100000
     ∷ []
 
+-- the same with an id of the commitment that the HTLC transactions spend
+abbrev first_tokens_at : List ℕ → List GivenToken
+first_tokens_at id =
+    token (key 0x10).bytes first_grant 0 2157138076 (map tx_output first_opened_contents.outputs) 540886090 first_funding 100000
+    ∷ token (key 0x10).bytes first_grant 0 2157138076 (map tx_output first_newest_contents.outputs) 540886091 first_funding 100000
+    ∷ token first_newest_keys.remote_htlc id 0 0 (record { value = 9297; script = first_newest_delayed_program } ∷ []) 0 first_newest_htlc_0 10000
+    ∷ token first_newest_keys.remote_htlc id 1 0 (record { value = 11337; script = first_newest_delayed_program } ∷ []) 3 first_newest_htlc_1 12000
+    ∷ []
+
+abbrev second_tokens_at : List ℕ → List GivenToken
+second_tokens_at id =
+    token (key 0x30).bytes second_grant 0 2159067084 (map tx_output second_opened_contents.outputs) 549032011 second_funding 100000
+    ∷ token second_opened_keys.remote_htlc id 1 0 (record { value = 11337; script = second_opened_delayed_program } ∷ []) 3 second_opened_htlc_1 12000
+    ∷ token (key 0x30).bytes second_grant 0 2159067084 (map tx_output second_newest_contents.outputs) 549032010 second_funding 100000
+    ∷ []
+
+with_first_at : given_two first_terms first_opened first_newest first_opened_contents first_newest_contents ≡ first_tokens_at (id_of first_newest_contents)
+unfolding sha256 digest_bytes hash_after compress rounds schedule first_words ripemd160 left_words right_words left_rotations right_rotations left_constants right_constants block_words left_line right_line blocks ripemd_compress ripemd_hash_after ripemd_digest_bytes digits minimal_bytes_of number_push script_hash_program to_local_script to_remote_script htlc_script transaction_of htlcs_from htlc_tx_of funding_script
+with_first_at = refl
+
 with_first : given_two first_terms first_opened first_newest first_opened_contents first_newest_contents ≡ first_tokens
-unfolding sha256 digest_bytes hash_after compress rounds schedule first_words ripemd160 left_words right_words left_rotations right_rotations left_constants right_constants block_words left_line right_line blocks ripemd_compress ripemd_hash_after ripemd_digest_bytes number compact_size bytes_with_length outpoint input output body stripped_spelling transaction_id digits minimal_bytes_of number_push script_hash_program to_local_script to_remote_script htlc_script transaction_of htlcs_from htlc_tx_of funding_script
-with_first = refl
+with_first = with_first_at ∙ ap first_tokens_at first_newest_named
+
+with_second_at : given_two second_terms second_opened second_newest second_opened_contents second_newest_contents ≡ second_tokens_at (id_of second_opened_contents)
+unfolding sha256 digest_bytes hash_after compress rounds schedule first_words ripemd160 left_words right_words left_rotations right_rotations left_constants right_constants block_words left_line right_line blocks ripemd_compress ripemd_hash_after ripemd_digest_bytes digits minimal_bytes_of number_push script_hash_program to_local_script to_remote_script htlc_script transaction_of htlcs_from htlc_tx_of funding_script
+with_second_at = refl
 
 with_second : given_two second_terms second_opened second_newest second_opened_contents second_newest_contents ≡ second_tokens
-unfolding sha256 digest_bytes hash_after compress rounds schedule first_words ripemd160 left_words right_words left_rotations right_rotations left_constants right_constants block_words left_line right_line blocks ripemd_compress ripemd_hash_after ripemd_digest_bytes number compact_size bytes_with_length outpoint input output body stripped_spelling transaction_id digits minimal_bytes_of number_push script_hash_program to_local_script to_remote_script htlc_script transaction_of htlcs_from htlc_tx_of funding_script
-with_second = refl
+with_second = with_second_at ∙ ap second_tokens_at second_opened_named
 
 pub given_recorded : (first second : List Release) (closing : Contents → List GivenToken)
     → given_from first second closing first_opened_contents first_newest_contents first_own_contents second_opened_contents second_newest_contents second_own_contents
