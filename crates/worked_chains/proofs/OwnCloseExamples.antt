@@ -1,6 +1,6 @@
 -- A chain on which the first channel was closed by the commitment after the peer's newest, which the node had signed, and the second by the node's own. Of the first the node took the HTLC that was offered to it, with
 -- the preimage, and took back the one that it had offered. The premises hold, and no two strings have one hash.
-use Rattle.std.proofs.Common.{◌≡◌, ℕ, true, false, List, [], ◌∷◌, ◌++◌, map, get_or, drop, replicate, Option, Some, None, refl, sym, ap, ◌∙◌, subst, lit≤, lit<}
+use Rattle.std.proofs.Common.{◌≡◌, ℕ, true, false, List, [], ◌∷◌, map, get_or, drop, replicate, Option, Some, None, refl, sym, ap, ◌∙◌, subst, lit≤, lit<}
 use Rattle.std.specs.Prelude.{IsTrue}
 use Rattle.std.specs.List.{Contains, flat_map}
 use Rattle.std.specs.Str.{bytes_eq}

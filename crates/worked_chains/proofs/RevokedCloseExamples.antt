@@ -1,6 +1,6 @@
 -- Why a side that closed a channel may revoke no more, and why no two channels may have one seed. On the chain here the node closed the channel with its commitment 0, and then took a signature for number 1, so that it
 -- gave out the secret of the commitment that stands there. All else that the laws ask is met, and what they say of the channel is refuted.
-use Rattle.std.proofs.Common.{◌≡◌, ◌≢◌, ℕ, Bool, true, false, not, List, [], ◌∷◌, Some, refl, sym, ap, ◌∙◌, subst, arith}
+use Rattle.std.proofs.Common.{◌≡◌, ℕ, Bool, true, false, not, List, [], ◌∷◌, Some, refl, sym, ap, ◌∙◌, subst, arith}
 use Rattle.std.specs.Prelude.{◌&&◌}
 use Rattle.std.specs.List.{Contains, list_all}
 use Rattle.std.specs.Str.{bytes_eq}

@@ -1,6 +1,6 @@
 -- Thefts, on a chain that passes all tests. A thief has tokens of the node's that no channel gave out: that premise alone fails. What the laws say fails too. What the thief took is in none of the cases that they have
 -- for an output, each of which is refuted, and no two strings have one hash.
-use Rattle.std.proofs.Common.{◌≡◌, ℕ, true, false, List, [], ◌∷◌, ◌++◌, map, get_or, drop, replicate, Some, None, refl, sym, ap, ◌∙◌, subst, lit<}
+use Rattle.std.proofs.Common.{◌≡◌, ℕ, true, false, List, [], ◌∷◌, ◌++◌, map, drop, replicate, Some, None, refl, sym, ap, ◌∙◌, subst, lit<}
 use Rattle.std.specs.Str.{bytes_eq}
 use Rattle.std.proofs.lemmas.Bool.{false≢true}
 use Rattle.sha2.specs.Sha256.{sha256, digest_bytes, hash_after, compress, rounds, schedule, first_words}

@@ -8,7 +8,7 @@ use Rattle.digest.specs.Ripemd160.{left_words, right_words, left_rotations, righ
 use Rattle.digest.specs.Hash.{sha256d}
 use Rattle.script.specs.Number.{digits, minimal_bytes_of}
 use Rattle.tx.specs.Parts.{Output}
-use Rattle.tx.specs.Spelling.{number, compact_size, bytes_with_length, outpoint, input, output}
+use Rattle.tx.specs.Spelling.{number, compact_size, bytes_with_length, outpoint, output}
 use Rattle.sighash.specs.Signing.{all_outpoints, all_sequences, all_outputs, signed_list}
 use Rattle.sighash.specs.Programs.{script_hash_program}
 use Rattle.terms.specs.Scripts.{number_push}
