@@ -156,6 +156,13 @@ transactions_of_newest blocks k enough =
     ap (λ bs. reverse (transactions_of (reverse bs))) (newest_last blocks k (length (reverse blocks)) enough (length-reverse blocks))
     ∙ ap (λ bs. reverse (transactions_of bs)) (reverse-reverse (take k blocks))
 
+-- the transactions of one more block
+pub copied_next : (blocks : List Contents) (i : ℕ) (b : Contents) (txs more slice : List Transaction) → b ≡ get_or blocks i b → i < length blocks → txs ≡ reverse (transactions_of (reverse (take i blocks))) → slice ≡ reverse b.transactions → more ≡ txs ++ slice → more ≡ reverse (transactions_of (reverse (take (i + 1) blocks)))
+copied_next blocks i b txs more slice e below so_far s added =
+    let before = transactions_of (reverse (take i blocks)) in
+    let next : transactions_of (reverse (take (i + 1) blocks)) ≡ b.transactions ++ before = ap transactions_of (reverse_more blocks i b below ∙ ap (λ x. x ∷ reverse (take i blocks)) (sym e)) in
+    added ∙ ap (λ xs. xs ++ slice) so_far ∙ ap (λ xs. reverse before ++ xs) s ∙ sym (ap reverse next ∙ reverse-append b.transactions before)
+
 false_above : (a b : ℕ) → nat_lt a b ≡ false → b ≤ a
 false_above a b h = grind (arith, nat_tests)
 

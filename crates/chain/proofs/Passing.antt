@@ -1,5 +1,5 @@
 -- What is known of a chain whose transactions passed their tests.
-use Rattle.std.proofs.Common.{◌≡◌, ℕ, inl, inr, Bool, true, false, not, ◌||◌, List, [], ◌∷◌, ◌++◌, length, Option, Some, None, option_map, sym, ap, ◌∙◌, refl, append_assoc, append-nil}
+use Rattle.std.proofs.Common.{◌≡◌, ℕ, inl, inr, Bool, true, false, not, ◌||◌, ◌+◌, ◌<◌, List, [], ◌∷◌, ◌++◌, length, drop, get_or, Option, Some, None, option_map, sym, ap, ◌∙◌, refl, append_assoc, append-nil}
 use Rattle.std.specs.Prelude.{is_some, nat_le}
 use Rattle.std.specs.List.{find, list_any}
 use Rattle.std.specs.Option.{option_or, is_none}
@@ -12,8 +12,9 @@ use Rattle.tx.specs.Spelling.{transaction_id}
 use Rattle.chain.specs.declared.errors.ChainError.{ChainError}
 use Rattle.chain.specs.declared.errors.ChainError.TheVariants.{Spent, Twice, OutputsExceed}
 use Rattle.chain.specs.Blocks.{Contents, Creation, Coin, height_of, created_by, created_by_all, granted_at, grants_in, created_of, names, is_named, created_at, coin_at, has_id, paid_in, paid_out}
-use Rattle.chain.specs.Checks.{required, first_of, coin_refusal, input_refusal, inputs_refusal, names_twice, transaction_refusal}
+use Rattle.chain.specs.Checks.{required, first_of, coin_refusal, input_refusal, indexed_refusal, inputs_refusal, names_twice, transaction_refusal}
 use Rattle.chain.specs.Checked.{have_passed, is_checked}
+use Rattle.chain.proofs.Finding.{head_left}
 use Rattle.chain.proofs.Noting.{same_is}
 
 test_passed : (b : Bool) (r : ChainError) (next : Option ChainError) → required b r next ≡ None → (b ≡ true) × (next ≡ None)
@@ -31,6 +32,16 @@ not_true false e = refl
 or_false : (a b : Bool) → (a || b) ≡ false → (a ≡ false) × (b ≡ false)
 or_false true b e = absurd (false≢true (sym e))
 or_false false b e = (refl, e)
+
+-- where an input passes, the refusal is that of those after it
+pub input_passed : (blocks : List Contents) (height : ℕ) (t : Transaction) (inputs : List TxIn) (i : ℕ) (x : TxIn) (whole : Option ChainError) → x ≡ get_or inputs i x → i < length inputs → input_refusal blocks height t x ≡ None → inputs_refusal blocks height t (drop i inputs) ≡ whole → inputs_refusal blocks height t (drop (i + 1) inputs) ≡ whole
+input_passed blocks height t inputs i x whole e below passes w =
+    let rest = drop (i + 1) inputs in
+    sym (ap (inputs_refusal blocks height t) (head_left inputs i x e below) ∙ ap (λ r. first_of r (inputs_refusal blocks height t rest)) passes) ∙ w
+
+-- what is asked of an index is asked of the input there
+pub asked : (blocks : List Contents) (h height : ℕ) (t : Transaction) (o : Option TxIn) (i : TxIn) → o ≡ Some i → height ≡ h → input_refusal blocks height t i ≡ indexed_refusal blocks h t o
+asked blocks h height t o i e f = ap (λ (n : ℕ). input_refusal blocks n t i) f ∙ sym (ap (indexed_refusal blocks h t) e)
 
 -- what a transaction passed
 pub record Passed (blocks : List Contents) (t : Transaction) : Type 0 where

@@ -45,10 +45,3 @@ came_back s t refusal e = (
   sym (ap (λ r. if_refused r t []) e),
   sym (ap (λ r. record s { blocks = unless_refusal r s.blocks t }) e),
 )
-
--- and one that is not is in the block
-pub taken_in : (s s' : Standing) (t : Transaction) → transaction_refusal s.blocks t ≡ None → s' ≡ record s { blocks = unless_refusal None s.blocks t } → OffersBack s t None s'
-taken_in s s' t e after = (
-  sym (ap (λ r. if_refused r t []) e),
-  after ∙ sym (ap (λ r. record s { blocks = unless_refusal r s.blocks t }) e),
-)

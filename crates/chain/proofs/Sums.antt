@@ -1,12 +1,14 @@
 -- Sums over the blocks, one block more at a time.
 use Rattle.std.proofs.Common.{◌≡◌, ℕ, ◌+◌, ◌<◌, ◌≤◌, Bool, true, false, not, cond, List, [], ◌∷◌, ◌++◌, length, take, drop, get_or, map, filter, reverse, sum, sum_by, sym, ap, ◌∙◌, refl, arith, append_assoc, append-nil}
 use Rattle.std.specs.List.{flat_map}
-use Rattle.std.proofs.lemmas.List.{reverse-reverse, length-map}
+use Rattle.std.proofs.Math.Seq.{take-length}
+use Rattle.std.proofs.lemmas.List.{reverse-reverse, length-map, map-append, take_more}
 use Rattle.std.proofs.lemmas.List.Sorted.{sum_by-IsPermutation, IsPermutation-reverse}
-use Rattle.std.proofs.lemmas.List.Sums.{sum_by-append, sum-map}
+use Rattle.std.proofs.lemmas.List.Sums.{sum_by-append, sum_by-cons, sum-map}
+use Rattle.tx.specs.declared.input.TxIn.{TxIn}
 use Rattle.tx.specs.Parts.{Output}
 use Rattle.tx.specs.Fields.{Transaction}
-use Rattle.chain.specs.Blocks.{Contents, Creation, transactions_of, is_named, unspent_of, created_by, created_by_all, granted_at, creations_from, grant_outpoint, created_of}
+use Rattle.chain.specs.Blocks.{Contents, Creation, value_at, paid_in, transactions_of, is_named, unspent_of, created_by, created_by_all, granted_at, creations_from, grant_outpoint, created_of}
 use Rattle.chain.specs.Totals.{unspent_value, unspent_values, IsUnspent}
 use Rattle.chain.specs.Scanning.{grants_from, created_from}
 use Rattle.chain.proofs.Lists.{reverse_more}
@@ -19,6 +21,28 @@ amounts_more f bs i b ts amounts more e below slice added so_far =
     let next : transactions_of (reverse (take (i + 1) bs)) ≡ b.transactions ++ transactions_of (reverse (take i bs)) = ap transactions_of (reverse_more bs i b below ∙ ap (λ x. x ∷ reverse (take i bs)) (sym e)) in
     ap sum added ∙ sum_by-append (λ n. n) amounts (map f ts)
     ∙ omega (arith, here, so_far, ap (sum_by f) next, sum_by-append f b.transactions (transactions_of (reverse (take i bs))))
+
+-- what one more input brings
+pub paid_more : (blocks : List Contents) (inputs : List TxIn) (i : ℕ) (x : TxIn) (paid value whole : ℕ) → x ≡ get_or inputs i x → i < length inputs → value ≡ value_at blocks x.outpoint → paid + paid_in blocks (drop i inputs) ≡ whole → (paid + value) + paid_in blocks (drop (i + 1) inputs) ≡ whole
+paid_more blocks inputs i x paid value whole e below v so_far =
+    let rest = drop (i + 1) inputs in
+    let split : paid_in blocks (drop i inputs) ≡ value_at blocks x.outpoint + paid_in blocks rest = ap (paid_in blocks) (head_left inputs i x e below) ∙ sum_by-cons (λ (y : TxIn). value_at blocks y.outpoint) x rest in
+    omega (arith, split, v, so_far)
+
+-- the amounts of all blocks
+pub fees_total : (f : Transaction → ℕ) (blocks bs : List Contents) (i : ℕ) (amounts : List ℕ) (total : ℕ) → bs ≡ reverse blocks → i ≡ length bs → sum amounts ≡ sum_by f (transactions_of (reverse (take i bs))) → total ≡ sum amounts → total ≡ sum_by f (transactions_of blocks)
+fees_total f blocks bs i amounts total slice past so_far t =
+    let all : take i bs ≡ bs = ap (λ k. take k bs) past ∙ take-length bs in
+    t ∙ so_far ∙ ap (λ xs. sum_by f (transactions_of (reverse xs))) (all ∙ slice) ∙ ap (λ xs. sum_by f (transactions_of xs)) (reverse-reverse blocks)
+
+-- the fee of one more transaction
+pub fees_on : (f : Transaction → ℕ) (ts : List Transaction) (i : ℕ) (t : Transaction) (fees more first : List ℕ) (fee : ℕ) → t ≡ get_or ts i t → i < length ts → fee ≡ f t → more ≡ fees ++ fee ∷ [] → fees ≡ first ++ map f (take i ts) → more ≡ first ++ map f (take (i + 1) ts)
+fees_on f ts i t fees more first fee e below is added so_far =
+    let here : map f (take (i + 1) ts) ≡ map f (take i ts) ++ f t ∷ [] = ap (map f) (take_more ts i t below ∙ ap (λ x. take i ts ++ x ∷ []) (sym e)) ∙ map-append f (take i ts) (t ∷ []) in
+    added ∙ ap (λ xs. xs ++ fee ∷ []) so_far
+    ∙ append_assoc first (map f (take i ts)) (fee ∷ [])
+    ∙ ap (λ x. first ++ (map f (take i ts) ++ x ∷ [])) is
+    ∙ ap (λ xs. first ++ xs) (sym here)
 
 values_by : (named : Bool) (c : Creation) (cs : List Creation) (rest : List ℕ) → map (λ (c : Creation). c.output.value) cs ≡ rest → map (λ (c : Creation). c.output.value) (cond (not named) (c ∷ cs) cs) ≡ cond named [] (c.output.value ∷ []) ++ rest
 values_by true c cs rest e = e
@@ -38,6 +62,10 @@ values_both blocks (c ∷ xs) ys =
 -- the values so far, and those of the rest
 join : (v v' one rest now whole : List ℕ) → v' ≡ v ++ one → now ≡ one ++ rest → v ++ now ≡ whole → v' ++ rest ≡ whole
 join v v' one rest now whole e n w = ap (λ x. x ++ rest) e ∙ append_assoc v one rest ∙ ap (λ x. v ++ x) (sym n) ∙ w
+
+-- where nothing is left, all values are there
+pub nothing_left : (blocks : List Contents) (v whole : List ℕ) (rest : List Creation) → rest ≡ [] → v ++ unspent_values blocks rest ≡ whole → v ≡ whole
+nothing_left blocks v whole rest none w = sym (append-nil v) ∙ ap (λ xs. v ++ unspent_values blocks xs) (sym none) ∙ w
 
 pub outputs_on : (blocks : List Contents) (id : List ℕ) (height i : ℕ) (outputs : List Output) (x : Output) (v v' whole : List ℕ) → x ≡ get_or outputs i x → i < length outputs → v' ≡ v ++ unspent_value blocks (record { txid = id; index = i }) x.value → v ++ unspent_values blocks (creations_from id height i (drop i outputs)) ≡ whole → v' ++ unspent_values blocks (creations_from id height (i + 1) (drop (i + 1) outputs)) ≡ whole
 outputs_on blocks id height i outputs x v v' whole e below pushed w =

@@ -6,6 +6,7 @@ ghost use Rattle.tx.specs.Fields.{Transaction};
 ghost use Rattle.tx.specs.Parts.{Output};
 ghost use Rattle.chain.specs.Blocks.{empty_block, Contents};
 
+use crate::copies::{Part, copies};
 use lists::Stack;
 use std::alloc::{AllocError, AllocFailed, Global};
 use std::marker::Model;
@@ -88,31 +89,6 @@ impl Model for Block {
     ghost view = { λ b. record { transactions = reverse b.transactions.items; granted = b.granted } };
 }
 
-/// Copies of transactions.
-fn copied_transactions(
-    alloc: Global,
-    transactions: &[Confirmed],
-) -> Result<Vec<Confirmed>, AllocError>
-    ensures { IfOk result (λ copies. copies.items ≡ transactions.now) }
-{
-    let mut copies = Vec::new(alloc);
-    for confirmed in transactions {
-        copies.push(confirmed.copy()?)?;
-    }
-    Ok(copies)
-}
-
-/// A stack of copies of outputs, the last of which is the top.
-fn copied_outputs(alloc: Global, outputs: &[TxOut]) -> Result<Stack<TxOut>, AllocError>
-    ensures { IfOk result (λ copies. copies ≡ reverse outputs.now) }
-{
-    let mut copies = Stack::new(alloc);
-    for output in outputs {
-        copies.push(output.copy()?)?;
-    }
-    Ok(copies)
-}
-
 impl Block {
     /// An empty block.
     pub(crate) fn new(alloc: Global) -> Self
@@ -122,17 +98,6 @@ impl Block {
             transactions: Vec::new(alloc),
             granted: Stack::new(alloc),
         }
-    }
-
-    /// An equal block. The only error is that memory ran out.
-    pub(crate) fn copy(&self) -> Result<Self, AllocError>
-        ensures { IfOk result (λ b. b ≡ self.now) }
-    {
-        let alloc = self.granted.allocator();
-        Ok(Block {
-            transactions: copied_transactions(alloc, &self.transactions)?,
-            granted: copied_outputs(alloc, self.granted.values())?,
-        })
     }
 
     /// The transactions in their order.
@@ -178,5 +143,16 @@ impl Block {
             (λ t. self.old ≡ record self.new { transactions = t ∷ self.new.transactions }) }
     {
         self.transactions.pop()
+    }
+}
+
+impl Part for Block {
+    fn copied(&self) -> Result<Self, AllocError> {
+        let alloc = self.granted.allocator();
+        let granted = copies(alloc, self.granted.values())?;
+        Ok(Block {
+            transactions: copies(alloc, &self.transactions)?,
+            granted: Stack::from_vec(granted),
+        })
     }
 }

@@ -5,12 +5,13 @@ ghost use Rattle.chain.specs.Blocks.{Contents, empty_block};
 ghost use Rattle.chain.specs.Connecting.{with_transaction, with_grant};
 
 use crate::blocks::{Block, Confirmed};
+use crate::copies::copies;
 use std::alloc::{AllocError, AllocFailed, Global};
 use std::marker::Model;
 use tx::TxOut;
 
 /// At least one block. A contract sees them with the newest first.
-#[derive(Debug, Drop)]
+#[derive(Drop)]
 pub struct Blocks {
     items: Vec<Block>,
 }
@@ -54,10 +55,7 @@ impl Blocks {
     pub fn copy(&self) -> Result<Self, AllocError>
         ensures { IfOk result (λ b. b ≡ self.now) }
     {
-        let mut items = Vec::with_capacity(self.allocator(), self.items.len())?;
-        for block in &self.items {
-            items.push(block.copy()?)?;
-        }
+        let items = copies(self.allocator(), &self.items)?;
         Ok(Blocks { items })
     }
 

@@ -30,9 +30,12 @@ pub(crate) fn same_outpoint(o: &OutPoint, p: &OutPoint) -> bool
 pub(crate) fn some_input_names(inputs: &[TxIn], outpoint: &OutPoint) -> bool
     ensures { result ≡ list_any (λ i. same_outpoint i.outpoint outpoint.now) inputs.now }
 {
-    inputs
-        .iter()
-        .any(|input| same_outpoint(&input.outpoint, outpoint))
+    for input in inputs {
+        if same_outpoint(&input.outpoint, outpoint) {
+            return true;
+        }
+    }
+    false
 }
 
 /// Whether two inputs spend the same outpoint.

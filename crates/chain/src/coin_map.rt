@@ -16,7 +16,7 @@ use std::collections::BTreeMap;
 use tx::{OutPoint, TxIn, TxOut};
 
 /// An output that was created on the chain.
-#[derive(Debug, Drop)]
+#[derive(Drop)]
 pub(crate) struct IndexedCoin {
     pub output: TxOut,
     /// The height of its block.

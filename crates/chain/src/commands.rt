@@ -47,23 +47,8 @@ pub enum Answer {
     Fees(u128),
 }
 
-/// Copies transactions.
-fn copies(alloc: Global, transactions: &[Tx]) -> Result<Vec<Tx>, AllocError>
-    ensures { IfOk result (λ txs. txs.items ≡ transactions.now) }
-{
-    let mut txs = Vec::new(alloc);
-    for tx in transactions {
-        txs.push(tx.copy()?)?;
-    }
-    Ok(txs)
-}
-
 /// Makes one call. The only error is that memory ran out for its answer or for a copy of what the command holds; then the call was not made.
-fn make_call<C: Coins>(
-    alloc: Global,
-    chain: &mut C,
-    command: &Command,
-) -> Result<Answer, AllocError>
+fn make_call<C: Coins>(chain: &mut C, command: &Command) -> Result<Answer, AllocError>
     ensures ok { IfOk result (λ a. Answered (C.standing chain.old) command.now a
         (C.standing chain.new)) }
     ensures err { OnErr result (C.standing chain.new ≡ C.standing chain.old) }
@@ -71,7 +56,7 @@ fn make_call<C: Coins>(
     match command {
         Command::Grant(output) => Ok(Answer::Grant(chain.grant(output.copy()?))),
         Command::CheckInput(tx, index) => Ok(Answer::CheckInput(chain.check_input(tx, *index))),
-        Command::Connect(txs) => Ok(Answer::Connect(chain.connect(copies(alloc, txs)?))),
+        Command::Connect(txs) => Ok(Answer::Connect(chain.connect(txs.clone()?))),
         Command::Disconnect(k) => Ok(Answer::Disconnect(chain.disconnect(*k))),
         Command::Unspent => Ok(Answer::Unspent(chain.unspent()?)),
         Command::Height => Ok(Answer::Height(chain.height())),
@@ -93,7 +78,7 @@ pub fn replay_commands<C: Coins>(
 {
     let mut answers = Vec::with_capacity(alloc, commands.len())?;
     for command in commands {
-        let answer = make_call(alloc, chain, command)?;
+        let answer = make_call(chain, command)?;
         answers.push(answer).unwrap();
     }
     Ok(answers)

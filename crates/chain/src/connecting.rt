@@ -1,9 +1,10 @@
 //! How a chain grows and shrinks by whole blocks.
 
-ghost use Rattle.std.specs.Prelude.{◌≡◌, ℕ, ◌-◌, ◌≤◌, ◌%◌, ◌^◌, ◌++◌, [], false, length, take, drop, reverse, Ok, Err, IfOk, OnOk, OnErr, MatchResult};
+ghost use Rattle.std.specs.Prelude.{◌≡◌, ℕ, ◌-◌, ◌≤◌, ◌%◌, ◌^◌, ◌++◌, [], false, length, take, drop, reverse, Option, Ok, Err, IfOk, OnOk, OnErr, MatchResult};
 ghost use Rattle.std.specs.List.{list_any, cons_option};
 ghost use Rattle.chain.specs.Blocks.{grant_outpoint, height_of, transactions_of};
 ghost use Rattle.chain.specs.Connecting.{Connects, ConnectsSome, Disconnects, Grants, has_grant, is_too_deep};
+ghost use Rattle.chain.specs.declared.refused.Refused.{Refused};
 ghost use Rattle.chain.specs.Waiting.{OffersBack, AddsWaiting, ConnectsWaiting};
 ghost use Rattle.chain.specs.Storing.{AddsOne, AddsAll, AddsPassing, ChangesNewest, MayTakeOff, Offers};
 
@@ -57,7 +58,6 @@ fn add_one<S: Store>(store: &mut S, tx: Tx) -> Result<(), ChainError>
 }
 
 /// Adds transactions to the newest block, up to the first that is refused.
-#[tactic(auto, using(crate::proofs::Growing::still_may_take_off))]
 fn add_all<S: Store>(store: &mut S, txs: Vec<Tx>) -> Result<(), BlockError>
     requires { MayTakeOff (S.standing store.old).blocks }
     ensures { AddsAll (S.standing store.old) txs.items result (S.standing store.new) }
@@ -148,33 +148,29 @@ pub(crate) fn connect_some<S: Store>(
     }
 }
 
-/// Adds one transaction to the newest block if it passes its tests, and gives it back with its refusal otherwise. The only error is that
-/// memory ran out.
-#[tactic(auto, using(crate::proofs::Offering::named, crate::proofs::Returned::came_back, crate::proofs::Returned::taken_in))]
-fn offer_back<S: Store>(store: &mut S, confirmed: Confirmed) -> Result<Option<Refused>, AllocError>
+/// Adds one transaction to the newest block if it passes its tests, and else appends it with its refusal to those that came back. The only
+/// error is that memory ran out.
+fn offer_back<S: Store>(
+    store: &mut S,
+    confirmed: Confirmed,
+    refused: &mut Vec<Refused>,
+) -> Result<(), AllocError>
     requires { MayTakeOff (S.standing store.old).blocks }
-    ensures ok { IfOk result (λ refused. OffersBack (S.standing store.old) confirmed refused
-        (S.standing store.new)) }
+    ensures ok { OnOk result ((back : Option Refused) × (refused.new.items ≡ refused.old.items
+        ++ cons_option back [])
+        × OffersBack (S.standing store.old) confirmed back (S.standing store.new)) }
     ensures err { OnErr result (S.standing store.new ≡ S.standing store.old) }
 {
     let Err(refusal) = check_transaction(&*store, &confirmed) else {
-        store.add(confirmed)?;
-        return Ok(None);
+        return store.add(confirmed);
     };
     match refusal {
         ChainError::NoMemory => Err(AllocError),
-        _ => Ok(Some(Refused { confirmed, refusal })),
+        _ => {
+            refused.push(Refused { confirmed, refusal })?;
+            Ok(())
+        }
     }
-}
-
-/// Appends what came back, if it did.
-fn push_refused(refused: &mut Vec<Refused>, back: Option<Refused>) -> Result<(), AllocError>
-    ensures { OnOk result (refused.new.items ≡ refused.old.items ++ cons_option back []) }
-{
-    if let Some(back) = back {
-        refused.push(back)?;
-    }
-    Ok(())
 }
 
 /// Adds to the newest block those of the transactions that pass their tests after those before them, and gives the others back.
@@ -186,8 +182,7 @@ fn add_waiting<S: Store>(store: &mut S, txs: Vec<Confirmed>) -> Result<Vec<Refus
 {
     let mut refused = Vec::new(store.allocator());
     for confirmed in txs {
-        let back = offer_back(store, confirmed)?;
-        push_refused(&mut refused, back)?;
+        offer_back(store, confirmed, &mut refused)?;
     }
     Ok(refused)
 }
@@ -241,18 +236,16 @@ fn newest(blocks: &[Block], k: u64) -> &[Block]
     blocks.split_at(before).1
 }
 
-/// Whether outputs were granted in the block.
-fn has_grant(block: &Block) -> bool
-    ensures { result ≡ has_grant block.now }
-{
-    !block.granted().is_empty()
-}
-
 /// Whether one of the blocks holds a grant.
 fn have_grant(blocks: &[Block]) -> bool
     ensures { result ≡ list_any has_grant blocks.now }
 {
-    blocks.iter().any(|block| has_grant(block))
+    for block in blocks {
+        if !block.granted().is_empty() {
+            return true;
+        }
+    }
+    false
 }
 
 /// Copies the transactions of blocks, in their order.

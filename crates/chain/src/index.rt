@@ -204,10 +204,12 @@ impl Index {
     pub fn copy(&self) -> Result<Self, AllocError>
         ensures { IfOk result (λ s. s ≡ self.now) }
     {
+        let ids = self.ids.clone()?;
+        let coins = self.coins.clone()?;
         Ok(Index {
             blocks: self.blocks.copy()?,
-            coins: self.coins.clone()?,
-            ids: self.ids.clone()?,
+            coins,
+            ids,
             greatest: self.greatest,
             grants: self.grants,
         })

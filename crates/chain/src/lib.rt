@@ -29,6 +29,7 @@ mod coin_map;
 mod coins;
 mod commands;
 mod connecting;
+mod copies;
 mod errors;
 mod given;
 mod index;

@@ -23,7 +23,12 @@ const OF_TIME: u32 = 0x40_0000;
 fn are_final(inputs: &[TxIn]) -> bool
     ensures { result ≡ list_all (λ i. i.sequence == 0xffffffff) inputs.now }
 {
-    inputs.iter().all(|input| input.sequence == FINAL)
+    for input in inputs {
+        if input.sequence != FINAL {
+            return false;
+        }
+    }
+    true
 }
 
 /// Whether the lock time allows the transaction in a block of this height.

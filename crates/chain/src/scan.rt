@@ -39,42 +39,29 @@ impl Model for Scan {
     ghost invariant = { λ s. s.grants ≡ grants_in s.blocks % 2 ^ 64 };
 }
 
-/// Whether an input of one of the transactions spends the outpoint.
-fn some_names(transactions: &[Confirmed], outpoint: &OutPoint) -> bool
-    ensures { result ≡ list_any (names outpoint.now) transactions.now }
-{
-    transactions.iter().any(|confirmed| some_input_names(confirmed.tx().inputs(), outpoint))
-}
-
 /// Whether an input of a transaction of the block spends the outpoint.
 #[tactic(auto, using(crate::proofs::Lists::any_reversed))]
 fn block_names(block: &Block, outpoint: &OutPoint) -> bool
     ensures { result ≡ list_any (names outpoint.now) block.now.transactions }
 {
-    some_names(block.transactions(), outpoint)
+    for confirmed in block.transactions() {
+        if some_input_names(confirmed.tx().inputs(), outpoint) {
+            return true;
+        }
+    }
+    false
 }
 
 /// Whether an input of a transaction of one of the blocks spends the outpoint.
 fn is_named(blocks: &[Block], outpoint: &OutPoint) -> bool
     ensures { result ≡ is_named blocks.now outpoint.now }
 {
-    blocks.iter().any(|block| block_names(block, outpoint))
-}
-
-/// Whether two ids are equal.
-fn same_id(id: &[u8; 32], other: &[u8; 32]) -> bool
-    ensures { result ≡ bytes_eq id.now other.now }
-{
-    id == other
-}
-
-/// Whether one of the transactions has this id.
-fn some_have_id(transactions: &[Confirmed], id: &[u8; 32]) -> bool
-    ensures { result ≡ list_any (λ t. bytes_eq (transaction_id t) id.now) transactions.now }
-{
-    transactions
-        .iter()
-        .any(|confirmed| same_id(confirmed.id(), id))
+    for block in blocks {
+        if block_names(block, outpoint) {
+            return true;
+        }
+    }
+    false
 }
 
 /// Whether the block has a transaction of this id.
@@ -82,14 +69,24 @@ fn some_have_id(transactions: &[Confirmed], id: &[u8; 32]) -> bool
 fn block_has_id(block: &Block, id: &[u8; 32]) -> bool
     ensures { result ≡ list_any (λ t. bytes_eq (transaction_id t) id.now) block.now.transactions }
 {
-    some_have_id(block.transactions(), id)
+    for confirmed in block.transactions() {
+        if confirmed.id() == id {
+            return true;
+        }
+    }
+    false
 }
 
 /// Whether one of the blocks has a transaction of this id.
 fn has_id(blocks: &[Block], id: &[u8; 32]) -> bool
     ensures { result ≡ has_id blocks.now id.now }
 {
-    blocks.iter().any(|block| block_has_id(block, id))
+    for block in blocks {
+        if block_has_id(block, id) {
+            return true;
+        }
+    }
+    false
 }
 
 /// The output at this index.
@@ -104,7 +101,7 @@ fn find_in_transaction<'a>(confirmed: &'a Confirmed, outpoint: &OutPoint) -> Opt
     ensures { (height : ℕ) → at_height height result ≡ found_in outpoint.now
         (created_by height confirmed.now) }
 {
-    if !same_id(confirmed.id(), &outpoint.txid) {
+    if *confirmed.id() != outpoint.txid {
         return None;
     }
     output_at(confirmed.tx().outputs(), outpoint.index)

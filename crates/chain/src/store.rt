@@ -12,7 +12,7 @@ use std::alloc::{AllocError, Global};
 use tx::{OutPoint, TxOut};
 
 /// An output that was created on the chain.
-#[derive(Clone, Copy, Debug, Drop)]
+#[derive(Clone, Copy, Drop)]
 pub struct Found<'a> {
     pub output: &'a TxOut,
     /// The height of its block.

@@ -75,7 +75,6 @@ fn push_fees<S: Store>(
 }
 
 /// The sum of the fees of all transactions, in satoshis.
-#[tactic(auto, using(crate::proofs::Sums::amounts_more))]
 pub(crate) fn sum_fees<S: Store>(store: &S) -> Result<u128, AllocError>
     ensures { IfOk result (λ f. f ≡ fees_of (S.standing store.now).blocks) }
 {

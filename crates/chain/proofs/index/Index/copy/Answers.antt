@@ -13,8 +13,8 @@ invariant_of-result c =
     let s = c.self.inside in (
       c.self.invariant.0 ∙ ap (λ bs. grants_in bs % 2 ^ 64) (sym c.in_ok-copy.ensures),
       rw c.in_ok-copy.ensures
-          (same_index s.blocks (noted s.coins) (noted c.in_ok-clone.field-0) (contains (slice_cmp nat_cmp) s.ids) (contains (slice_cmp nat_cmp) c.in_ok-clone-2.field-0)
-          (λ q. same_coins s.coins c.in_ok-clone.field-0 q c.in_ok-clone.ensures.cases)
-          (λ id. same_ids s.ids c.in_ok-clone-2.field-0 _ id (λ x y h. each_same x y h.whole) c.in_ok-clone-2.ensures.cases)
+          (same_index s.blocks (noted s.coins) (noted c.in_ok-coins.coins) (contains (slice_cmp nat_cmp) s.ids) (contains (slice_cmp nat_cmp) c.in_ok-ids.ids)
+          (λ q. same_coins s.coins c.in_ok-coins.coins q c.in_ok-coins.ensures.cases)
+          (λ id. same_ids s.ids c.in_ok-ids.ids _ id (λ x y h. each_same x y h.whole) c.in_ok-ids.ensures.cases)
           c.self.invariant.1),
     )
