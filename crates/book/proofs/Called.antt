@@ -1,6 +1,6 @@
 -- What a call does to a history, and to what a book keeps beside it.
-use Rattle.std.proofs.Common.{◌≡◌, ℕ, ◌<◌, Bool, true, false, List, [], ◌∷◌, ◌++◌, length, cond, is_some, Option, Some, None, Result, Ok, Err, refl, sym, ap, ◌∙◌, subst, arith, inl, inr}
-use Rattle.std.specs.Prelude.{slice_get, is_ok, nat_le}
+use Rattle.std.proofs.Common.{◌≡◌, ℕ, ◌<◌, ◌≤◌, Bool, true, false, List, [], ◌∷◌, ◌++◌, length, is_some, Option, Some, None, Ok, Err, refl, sym, ap, ◌∙◌, subst, arith, inl, inr}
+use Rattle.std.specs.Prelude.{slice_get, nat_le}
 use Rattle.std.specs.Map.{lookup, values_of}
 use Rattle.indexmap.specs.Layout.{set_value_at}
 use Rattle.book.specs.declared.limits.TheConstants.{MAX_CHANNELS}
@@ -15,6 +15,7 @@ use Rattle.std.specs.List.{AllByRecursion, cons_option, list_any}
 use Rattle.std.proofs.lemmas.Bool.{and_from}
 use Rattle.std.proofs.lemmas.Bool.Decides.{nat_tests}
 use Rattle.std.proofs.lemmas.List.{reverse-append}
+use Rattle.std.proofs.lemmas.Option.{slice_get_past}
 use Rattle.tx.specs.declared.input.OutPoint.{OutPoint}
 use Rattle.tx.specs.Fields.{same_outpoint}
 use Rattle.keys.specs.declared.compressed.Key.{Key}
@@ -28,6 +29,12 @@ use Rattle.book.specs.declared.calls.Step.TheVariants.{Own, Peer}
 use Rattle.book.specs.declared.calls.Call.{Call}
 use Rattle.book.specs.declared.calls.Call.TheVariants.{Open, Step as Stepping, Sign, Revoke, Keep, Release, Close}
 use Rattle.book.specs.declared.calls.Entry.{Entry}
+use Rattle.updates.specs.declared.messages.Revocation.{Revocation}
+use Rattle.book.specs.declared.errors.StepError.TheVariants.{NoSuchChannel as NoChannelToStep}
+use Rattle.book.specs.declared.errors.SignError.TheVariants.{NoSuchChannel as NoChannelToSign}
+use Rattle.book.specs.declared.errors.CloseError.TheVariants.{NoSuchChannel as NoChannelToClose}
+use Rattle.book.specs.declared.errors.KeepError.TheVariants.{NoSuchChannel as NoChannelToKeep}
+use Rattle.book.specs.declared.errors.ReleaseError.TheVariants.{NoSuchChannel as NoChannelToRelease}
 use Rattle.book.specs.declared.errors.OpenError.{OpenError}
 use Rattle.book.specs.declared.errors.OpenError.TheVariants.{NoMemory as out_of_memory, BookFull, SameFunding, BadSignature}
 use Rattle.book.specs.Books.{ChannelBook, Channels, at_index, stepped as state_stepped, with_state, with_kept, with_closed, opened_by, channels_after, replayed, replay}
@@ -116,11 +123,9 @@ token_answer chs o e room other is = rw (room, other, is) refl
 
 -- ---- accepted calls as a whole: their replies, and what is kept after them
 
--- the items after a push
-pub grown : {A T E : Type 0} (r : Result T E) (x : T) (items before history : List A) (e f : A) → r ≡ Ok x → items ≡ cond (is_ok r) (before ++ e ∷ []) before → before ≡ history → e ≡ f
-    → items ≡ history ++ f ∷ []
-grown (Ok y) x items before history e f ok is same named = is ∙ ap (λ es. es ++ e ∷ []) same ∙ ap (λ g. history ++ g ∷ []) named
-grown (Err y) x items before history e f ok is same named = absurd cc
+-- the items after one more is filed
+pub filed : {A : Type 0} (items before history : List A) (e f : A) → items ≡ before ++ e ∷ [] → before ≡ history → e ≡ f → items ≡ history ++ f ∷ []
+filed items before history e f is same named = is ∙ ap (λ es. es ++ e ∷ []) same ∙ ap (λ g. history ++ g ∷ []) named
 
 pub record IsDone (no_memory reply : Reply) (history new : List Entry) (channels' : List (OutPoint × ChannelBook)) (seat : ℕ) (call : Call) : Type 0 where
   pub called : IsCall no_memory reply history new seat call
@@ -183,6 +188,34 @@ close_done history new channels seat c x y n no_memory k found number written_as
 refused : (history : List Entry) (seat : ℕ) (call : Call) (reply no_memory : Reply) → reply_of peer_tokens history call ≡ reply → is_accepted reply ≡ false
     → IsCall no_memory reply history history seat call
 refused history seat call reply no_memory answer rejected = inr (sym answer, ap (λ b. extended b history seat call) (sym (ap is_accepted answer ∙ rejected)))
+
+-- a call of a channel that is not there
+pub not_there : (history : List Entry) (channels : List (OutPoint × ChannelBook)) (seat c : ℕ) (call : Call) (reply no_memory : Reply) → AreLeft history channels → length channels ≤ c
+    → ((chs : Channels) → slice_get chs c ≡ None → answer_of peer_tokens chs call ≡ reply) → is_accepted reply ≡ false → IsCall no_memory reply history history seat call
+not_there history channels seat c call reply no_memory k past answer rejected =
+    refused history seat call reply no_memory (answer (replay history) (slice_get_past (replay history) c (subst (λ n. n ≤ c) (as_many history channels k) past))) rejected
+
+pub none_to_keep : (c n : ℕ) (claims : List ClaimParts) (chs : Channels) → slice_get chs c ≡ None → answer_of peer_tokens chs (Keep c n claims) ≡ kept (Err NoChannelToKeep)
+none_to_keep c n claims chs none = rw none refl
+
+pub none_to_release : (c : ℕ) (b : Batch) (chs : Channels) → slice_get chs c ≡ None → answer_of peer_tokens chs (Release c b) ≡ released (Err NoChannelToRelease)
+none_to_release c b chs none = rw none refl
+
+pub none_to_step : (c : ℕ) (step : Step) (chs : Channels) → slice_get chs c ≡ None → answer_of peer_tokens chs (Stepping c step) ≡ stepped (Err NoChannelToStep)
+none_to_step c step chs none = rw none refl
+
+pub none_to_revoke : (c : ℕ) (revocation : Revocation) (chs : Channels) → slice_get chs c ≡ None → answer_of peer_tokens chs (Revoke c revocation) ≡ revoked (Err NoChannelToStep)
+none_to_revoke c revocation chs none = rw none refl
+
+pub none_to_sign : (c : ℕ) (chs : Channels) → slice_get chs c ≡ None → answer_of peer_tokens chs (Sign c) ≡ signed (Err NoChannelToSign)
+none_to_sign c chs none = rw none refl
+
+pub none_to_close : (c : ℕ) (chs : Channels) → slice_get chs c ≡ None → answer_of peer_tokens chs (Close c) ≡ closed (Err NoChannelToClose)
+none_to_close c chs none = rw none refl
+
+pub is_none : {A : Type 0} (o : Option A) → is_some o ≡ false → o ≡ None
+is_none None e = refl
+is_none (Some x) e = absurd cc
 
 pub no_room : (m n : ℕ) → n < m → nat_le m n ≡ false
 no_room m n less = grind (arith, nat_tests)

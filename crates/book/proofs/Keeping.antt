@@ -1,9 +1,9 @@
 -- What a channel's flags say of a call that keeps penalties.
-use Rattle.std.proofs.Common.{◌≡◌, ℕ, ◌+◌, ◌*◌, ◌<◌, ◌≤◌, ◌==◌, Bool, true, false, List, [], ◌∷◌, ◌++◌, length, Some, None, refl, sym, ◌∙◌, subst, arith, set, ⊎_elim}
-use Rattle.std.specs.Prelude.{slice_get, nat_lt}
+use Rattle.std.proofs.Common.{◌≡◌, ℕ, ◌+◌, ◌*◌, ◌<◌, ◌≤◌, ◌==◌, Bool, true, false, List, [], ◌∷◌, ◌++◌, length, Some, None, refl, sym, ap, ◌∙◌, subst, arith, set, ⊎_elim}
+use Rattle.std.specs.Prelude.{slice_get, nat_lt, option_map}
 use Rattle.std.proofs.lemmas.Bool.{cases_lt, and_from, eq-eqb}
 use Rattle.std.proofs.lemmas.Bool.Decides.{nat_tests}
-use Rattle.std.proofs.lemmas.List.{length-set}
+use Rattle.std.proofs.lemmas.List.{length-set, length-append}
 use Rattle.std.proofs.lemmas.Option.{none-some, same_Some, slice_get_within}
 use Rattle.keys.specs.Derivation.{point_of}
 use Rattle.terms.specs.declared.amounts.TheConstants.{MSAT_PER_SAT}
@@ -14,6 +14,10 @@ use Rattle.terms.specs.Sides.{other}
 use Rattle.commit.specs.Sums.{total_msat_of}
 use Rattle.penalty.specs.Views.{has_heights}
 use Rattle.penalty.specs.Paying.{refusal_of}
+use Rattle.resolve.specs.declared.numbers.TheConstants.{MAX_NUMBER}
+use Rattle.resolve.specs.Refusals.{refusal_by}
+use Rattle.resolve.specs.Known.{refusal_of as known_refusal}
+use Rattle.channel.specs.Keeping.{one_if}
 use Rattle.channel.specs.Numbered.{SharesOut, AreNumbered}
 use Rattle.commit.specs.Commitments.{commitment_of}
 use Rattle.claim.specs.Claims.{ClaimParts}
@@ -24,7 +28,7 @@ use Rattle.book.specs.Penalties.{claimable_in, are_claims_on, is_penalty_set}
 use Rattle.book.specs.Books.{ChannelBook, is_kept}
 use Rattle.book.specs.Replies.{keep_refusal}
 use Rattle.book.specs.Kept.{AreFlags, IsBeside}
-use Rattle.book.proofs.Numbered.{kept_one}
+use Rattle.book.proofs.Numbered.{kept_one, one_unset}
 
 -- ---- the penalties of a number
 
@@ -99,6 +103,14 @@ beside_kept ch flags below n next kept b within is from to passed stopped = reco
   are = subst (λ ks. AreFlags ks (set flags n true) next) (sym is) (kept_one ch.kept flags below n next b.are (subst (λ k. n < k) (sym b.count) within) from to passed stopped);
 }
 
+-- one more commitment is revoked
+pub beside_revoked : (ch : ChannelBook) (state : State) (secret : List ℕ) (flags new : List Bool) (below : ℕ) → IsBeside ch flags below → new ≡ flags ++ false ∷ [] → state.secrets ≡ ch.state.secrets ++ secret ∷ []
+    → IsBeside (record { state = state; kept = ch.kept; closed = ch.closed }) new below
+beside_revoked ch state secret flags new below b is more = record {
+  count = ap length is ∙ length-append flags (false ∷ []) ∙ ap (λ n. n + 1) b.count ∙ sym (ap length more ∙ length-append ch.state.secrets (secret ∷ []));
+  are = subst (λ fs. AreFlags ch.kept fs below) (sym is) (one_unset ch.kept flags below b.are);
+}
+
 -- ---- a commitment that shares out the capacity can be paid
 
 pub payable : (terms : Terms) (view : View) → SharesOut terms view → refusal_of terms view ≡ None
@@ -113,3 +125,15 @@ payable terms view s =
 -- so does each of the peer's commitments
 pub peers_payable : (terms : Terms) (side : Side) (many n : ℕ) (cs : List CommitmentState) (c : CommitmentState) → AreNumbered terms side many cs → slice_get cs n ≡ Some c → refusal_of terms c.view ≡ None
 peers_payable terms side many n cs c numbered there = payable terms c.view (numbered.each n c there).shares
+
+-- one that a channel recorded can be known
+pub recorded_known : (terms held : Terms) (side : Side) (many n : ℕ) (cs : List CommitmentState) (c : CommitmentState) → terms ≡ held → AreNumbered held side many cs → slice_get cs n ≡ Some c → n ≤ MAX_NUMBER
+    → known_refusal terms c.view c.number ≡ None
+recorded_known terms held side many n cs c same numbered there most =
+    let number = (numbered.each n c there).number in
+    let small : nat_lt MAX_NUMBER c.number ≡ false = less_false MAX_NUMBER c.number (omega (arith, number, most)) in
+    rw small (ap (option_map refusal_by) (ap (λ (t : Terms). refusal_of t c.view) same ∙ peers_payable held side many n cs c numbered there))
+
+pub one_at_most : (b : Bool) → one_if b ≤ 1
+one_at_most true = omega arith
+one_at_most false = omega arith

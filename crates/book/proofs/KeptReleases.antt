@@ -4,7 +4,7 @@ use Rattle.std.specs.Prelude.{slice_get}
 use Rattle.std.specs.List.{AllByRecursion}
 use Rattle.std.proofs.lemmas.Bool.{and_parts}
 use Rattle.std.proofs.lemmas.List.{reverse-append}
-use Rattle.std.proofs.lemmas.Option.{same_Some}
+use Rattle.std.proofs.lemmas.Option.{none-some, same_Some}
 use Rattle.std.proofs.lemmas.List.Elements.{Contains-append_left, Contains-append_cases, Contains-push, All-contains, All-from_recursion}
 use Rattle.tx.specs.Parts.{Output}
 use Rattle.keys.specs.Derivation.{point_of, base_key, revocation_key}
@@ -51,8 +51,8 @@ all_grown P x [] h k = (k, tt)
 all_grown P x (y ∷ xs) h k = (h.0, all_grown P x xs h.1 k)
 
 pub all_at : {A : Type 0} (P : A → Type 0) (xs : List A) (n : ℕ) (x : A) → AllByRecursion P xs → slice_get xs n ≡ Some x → P x
-all_at P [] n x h e = absurd (cc)
-all_at P (y ∷ xs) zero x h e = let s : y ≡ x = cc in subst P s h.0
+all_at P [] n x h e = absurd (none-some x e)
+all_at P (y ∷ xs) zero x h e = subst P (same_Some y x e) h.0
 all_at P (y ∷ xs) (suc n) x h e = all_at P xs n x h.1 e
 
 step_owns : (step : Step) (ch : ChannelBook) → OwnsBases ch → OwnsBases (with_state (stepped step) ch)
@@ -89,14 +89,14 @@ record IsLater (c : ℕ) (old : ChannelBook) (chs : Channels) : Type 0 where
   grew : Grew old new
 
 changed : (f : ChannelBook → ChannelBook) → ((ch : ChannelBook) → Grew ch (f ch)) → (d c : ℕ) (chs : Channels) (ch : ChannelBook) → slice_get chs c ≡ Some ch → IsLater c ch (at_index f d chs)
-changed f grows d c [] ch at = absurd (cc)
-changed f grows zero zero (x ∷ xs) ch at = let s : x ≡ ch = cc in record { new = f x; there = refl; grew = subst (λ y. Grew y (f x)) s (grows x) }
+changed f grows d c [] ch at = absurd (none-some ch at)
+changed f grows zero zero (x ∷ xs) ch at = record { new = f x; there = refl; grew = subst (λ y. Grew y (f x)) (same_Some x ch at) (grows x) }
 changed f grows zero (suc c) (x ∷ xs) ch at = record { new = ch; there = at; grew = same_knowledge ch }
 changed f grows (suc d) zero (x ∷ xs) ch at = record { new = ch; there = at; grew = same_knowledge ch }
 changed f grows (suc d) (suc c) (x ∷ xs) ch at = let l = changed f grows d c xs ch at in record { new = l.new; there = l.there; grew = l.grew }
 
 before_the_last : (x : ChannelBook) (c : ℕ) (chs : Channels) (ch : ChannelBook) → slice_get chs c ≡ Some ch → slice_get (chs ++ x ∷ []) c ≡ Some ch
-before_the_last x c [] ch at = absurd (cc)
+before_the_last x c [] ch at = absurd (none-some ch at)
 before_the_last x zero (y ∷ ys) ch at = at
 before_the_last x (suc c) (y ∷ ys) ch at = before_the_last x c ys ch at
 

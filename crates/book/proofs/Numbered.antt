@@ -1,8 +1,8 @@
 -- Flags beside the numbers that are kept.
-use Rattle.std.proofs.Common.{◌≡◌, ℕ, zero, suc, ◌+◌, ◌<◌, ◌≤◌, ◌==◌, ◌||◌, if◌then◌else◌, Bool, true, false, List, [], ◌∷◌, ◌++◌, length, Some, None, refl, sym, ap, ◌∙◌, subst, arith, ⊎_elim, set}
-use Rattle.std.specs.Prelude.{slice_get, nat_lt}
+use Rattle.std.proofs.Common.{◌≡◌, ℕ, zero, suc, ◌+◌, ◌<◌, ◌≤◌, ◌==◌, ◌||◌, if◌then◌else◌, Bool, true, false, List, [], ◌∷◌, ◌++◌, length, cond, get_or, Some, None, Result, Ok, Err, refl, sym, ap, ◌∙◌, subst, arith, ⊎_elim, set}
+use Rattle.std.specs.Prelude.{slice_get, is_ok, nat_lt}
 use Rattle.std.proofs.lemmas.Bool.{eqb-true, eqb-false, cases_lt}
-use Rattle.std.proofs.lemmas.List.{length-set}
+use Rattle.std.proofs.lemmas.List.{length-set, length-append}
 use Rattle.std.proofs.lemmas.List.Folds.{list_any-append}
 use Rattle.book.specs.Books.{is_kept, missing_from}
 use Rattle.book.specs.Kept.{AreFlags}
@@ -93,3 +93,45 @@ kept_one kept flags below n next are within from to passed stopped = record {
     later m le =
         let other : (n == m) ≡ false = grind (arith, same) in
         one_more kept n m ∙ rw (are.later m (omega (arith, same, le)), other) refl
+
+-- ---- one more flag, which is not set
+
+-- the items after a push
+pub grown : {A T E : Type 0} (r : Result T E) (x : T) (items before history : List A) (e : A) → r ≡ Ok x → items ≡ cond (is_ok r) (before ++ e ∷ []) before → before ≡ history → items ≡ history ++ e ∷ []
+grown (Ok y) x items before history e ok is same = is ∙ ap (λ es. es ++ e ∷ []) same
+grown (Err y) x items before history e ok is same = absurd cc
+
+as_before : (flags : List Bool) (n : ℕ) → n < length flags → slice_get (flags ++ false ∷ []) n ≡ slice_get flags n
+as_before [] n within = absurd (omega (arith, within))
+as_before (x ∷ flags) zero within = refl
+as_before (x ∷ flags) (suc n) within = as_before flags n (omega (arith, within))
+
+at_last : (flags : List Bool) (n : ℕ) → n ≡ length flags → slice_get (flags ++ false ∷ []) n ≡ Some false
+at_last [] n e = rw e refl
+at_last (x ∷ flags) zero e = absurd (omega (arith, e))
+at_last (x ∷ flags) (suc n) e = at_last flags n (omega (arith, e))
+
+pub one_unset : (kept : List ℕ) (flags : List Bool) (below : ℕ) → AreFlags kept flags below → AreFlags kept (flags ++ false ∷ []) below
+one_unset kept flags below are = record { each = each; later = λ n le. are.later n (omega (arith, longer, le)); before = are.before; here = are.here }
+  where
+    longer : length (flags ++ false ∷ []) ≡ length flags + 1
+    longer = length-append flags (false ∷ [])
+
+    each : (n : ℕ) → n < length (flags ++ false ∷ []) → slice_get (flags ++ false ∷ []) n ≡ Some (is_kept kept n)
+    each n lt = ⊎_elim (λ old. as_before flags n old ∙ are.each n old) (λ le. at_last flags n (omega (arith, longer, lt, le)) ∙ ap Some (sym (are.later n le))) (cases_lt n (length flags))
+
+-- ---- a scan of the flags
+
+flag_here : (flags : List Bool) (n : ℕ) (b : Bool) → n < length flags → get_or flags n false ≡ b → slice_get flags n ≡ Some b
+flag_here [] n b within e = absurd (omega (arith, within))
+flag_here (x ∷ flags) zero b within e = ap Some e
+flag_here (x ∷ flags) (suc n) b within e = flag_here flags n b (omega (arith, within)) e
+
+-- the scan stops here
+pub stops : (flags : List Bool) (n : ℕ) → get_or flags n false ≡ false → n < length flags → slice_get flags n ≡ Some false
+stops flags n e within = flag_here flags n false within e
+
+-- one more is set
+pub goes_on : (flags : List Bool) (from n : ℕ) → n < length flags → get_or flags n false ≡ true → ((m : ℕ) → from ≤ m → m < n → slice_get flags m ≡ Some true)
+    → (m : ℕ) → from ≤ m → m < n + 1 → slice_get flags m ≡ Some true
+goes_on flags from n within e before m lo hi = ⊎_elim (before m lo) (λ le. let same : n ≡ m = omega (arith, hi, le) in subst (λ k. slice_get flags k ≡ Some true) same (flag_here flags n true within e)) (cases_lt m n)

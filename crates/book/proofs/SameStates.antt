@@ -1,5 +1,5 @@
 -- Terms, shares and states with equal parts are equal, and a test of all parts decides it.
-use Rattle.std.proofs.Common.{◌≡◌, ℕ, ◌==◌, ◌&&◌, Bool, List, Some, None, sym, ap, ◌∙◌, subst}
+use Rattle.std.proofs.Common.{◌≡◌, ℕ, ◌==◌, ◌&&◌, Bool, false, List, Some, None, sym, ap, ◌∙◌, subst}
 use Rattle.std.specs.Prelude.{slice_get}
 use Rattle.std.specs.Bool.{Decides}
 use Rattle.std.specs.Str.{bytes_eq}
@@ -77,6 +77,10 @@ share_decides a b xs ys r of_a of_b balance_msat h =
     Decides-like r (λ e. λ i. record { balance_msat = balance_msat i; offered = (sym of_a ∙ e ∙ of_b) i }) (λ e. of_a ∙ ap (λ (x : Share). x.offered) e ∙ sym of_b) h
 
 -- ---- the state of a number
+
+-- what is refuted is decided
+pub never : {P : Type 0} → (P → ⊥) → Decides false P
+never refuted = (λ e. absurd cc, λ p. absurd (refuted p))
 
 pub no_commitment_at : (s : State) (n : ℕ) (state : RevokedState) → slice_get s.signed n ≡ None → IsStateAt s n state → ⊥
 no_commitment_at s n state none at = none-some at.commitment (sym none ∙ at.signed)

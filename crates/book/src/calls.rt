@@ -31,16 +31,23 @@ pub struct Opening {
     pub ghost own: { IsSeedOf seed (party side terms).bases },
 }
 
-// Whether the base keys are those of a seed.
-fn is_seed_of(alloc: Global, seed: &[u8; 32], bases: &BaseKeys) -> bool
-    ensures { IsTrue result ↔ IsSeedOf seed.now bases.now }
+// Whether the base keys are those of a signer.
+fn are_bases_of(signer: &Signer, bases: &BaseKeys) -> bool
+    ensures { IsTrue result ↔ IsSeedOf signer.now.seed bases.now }
 {
-    let signer = Signer::new(alloc, seed);
     bases.funding.bytes == signer.base(Base::Funding).bytes
         && bases.payment.bytes == signer.base(Base::Payment).bytes
         && bases.delayed.bytes == signer.base(Base::Delayed).bytes
         && bases.htlc.bytes == signer.base(Base::Htlc).bytes
         && bases.revocation.bytes == signer.base(Base::Revocation).bytes
+}
+
+// Whether the base keys are those of a seed.
+fn is_seed_of(alloc: Global, seed: &[u8; 32], bases: &BaseKeys) -> bool
+    ensures { IsTrue result ↔ IsSeedOf seed.now bases.now }
+{
+    let signer = Signer::new(alloc, seed);
+    are_bases_of(&signer, bases)
 }
 
 impl Opening {

@@ -50,11 +50,13 @@ pub(crate) fn is_state_at(channel: &Channel, number: u64, state: &RevokedState) 
     ensures { IsTrue result ↔ IsStateAt channel.now number state.now }
 {
     let commitments = channel.peers_commitments();
-    let Some(commitment) = commitments.get(number as usize) else {
-        return false;
+    let commitment = match commitments.get(number as usize) {
+        Some(commitment) => commitment,
+        None => return false,
     };
-    let Some(secret) = channel.peers_secret(number) else {
-        return false;
+    let secret = match channel.peers_secret(number) {
+        Some(secret) => secret,
+        None => return false,
     };
     let owner = channel.side().other();
     has_parts(state, channel.terms(), owner, commitment, &secret)

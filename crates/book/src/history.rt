@@ -54,7 +54,8 @@ fn first_channel(channels: &IndexMap<OutPoint, OpenChannel>) -> Option<&OpenChan
 }
 
 impl Book {
-    ghost use Rattle.std.specs.Prelude.{◌≡◌, [], true, Ok, Err, length, slice_get, option_map, IfOk, IfErr, MatchResult};
+    ghost use Rattle.std.specs.Prelude.{◌≡◌, ◌<◌, ◌++◌, ◌∷◌, [], true, Ok, Err, length, slice_get, option_map, IfOk, IfErr, MatchResult};
+    ghost use Rattle.std.specs.Vec.{vec_len, vec_capacity};
     ghost use Rattle.std.specs.Option.{option_and_then, option_copied};
     ghost use Rattle.channel.specs.Tokens.{peer_tokens};
     ghost use Rattle.updates.specs.declared.errors.ChannelError.TheVariants.{NoMemory as refusal_memory};
@@ -134,6 +135,14 @@ impl Book {
         Vec::from_slice(alloc, self.channels.keys().as_slice())
     }
 
+    // Files a call, for whose entry there is room.
+    fn file(entries: &mut Vec<Entry>, seat: u32, call: Call)
+        requires { vec_len entries.old < vec_capacity entries.old }
+        ensures { entries.new.items ≡ entries.old.items ++ record { seat = seat; call = call } ∷ [] }
+    {
+        entries.push(Entry { seat, call }).unwrap();
+    }
+
     /// Opens a channel and returns its index. Refused, in this order, with `BookFull` at 65,536 channels, `SameFunding` where a channel has the same funding output, and `BadSignature` where the token is not
     /// the peer's on this side's commitment 0. A refusal leaves the book as it was.
     pub fn open(&mut self, seat: u32, opening: Opening) -> Result<u64, OpenError>
@@ -165,7 +174,7 @@ impl Book {
         }
         self.fulfils.add_channel(self.alloc);
         let call = Call::Open(opening);
-        self.entries.push(Entry { seat, call }).unwrap();
+        Book::file(&mut self.entries, seat, call);
         Ok(index)
     }
 
@@ -197,7 +206,7 @@ impl Book {
         let Taken { step, message } = taken;
         self.fulfils.add_preimage(index, &step);
         let call = Call::Step { channel, step };
-        self.entries.push(Entry { seat, call }).unwrap();
+        Book::file(&mut self.entries, seat, call);
         Ok(message)
     }
 
@@ -228,7 +237,7 @@ impl Book {
             channel,
             revocation,
         };
-        self.entries.push(Entry { seat, call }).unwrap();
+        Book::file(&mut self.entries, seat, call);
         Ok(number)
     }
 
@@ -249,7 +258,7 @@ impl Book {
         let open = &mut self.channels[index];
         let message = open.sign()?;
         let call = Call::Sign { channel };
-        self.entries.push(Entry { seat, call }).unwrap();
+        Book::file(&mut self.entries, seat, call);
         Ok(message)
     }
 
@@ -285,7 +294,7 @@ impl Book {
             number,
             claims,
         };
-        self.entries.push(Entry { seat, call }).unwrap();
+        Book::file(&mut self.entries, seat, call);
         Ok(())
     }
 
@@ -321,7 +330,7 @@ impl Book {
             number,
             claims: List::from_vec(set.into_claims()),
         };
-        self.entries.push(Entry { seat, call }).unwrap();
+        Book::file(&mut self.entries, seat, call);
         Ok(())
     }
 
@@ -345,7 +354,7 @@ impl Book {
         };
         hold_whole(batch.claims.values());
         let call = Call::Release { channel, batch };
-        self.entries.push(Entry { seat, call }).unwrap();
+        Book::file(&mut self.entries, seat, call);
         Ok(filled)
     }
 
@@ -378,7 +387,7 @@ impl Book {
         };
         hold_whole(batch.claims.values());
         let call = Call::Release { channel, batch };
-        self.entries.push(Entry { seat, call }).unwrap();
+        Book::file(&mut self.entries, seat, call);
         Ok(twice)
     }
 
@@ -400,7 +409,7 @@ impl Book {
         let open = &mut self.channels[index];
         let number = open.close();
         let call = Call::Close { channel };
-        self.entries.push(Entry { seat, call }).unwrap();
+        Book::file(&mut self.entries, seat, call);
         Ok(number)
     }
 

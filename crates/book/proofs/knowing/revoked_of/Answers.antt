@@ -1,6 +1,7 @@
 use Rattle.std.proofs.Common.{◌≡◌, ◌<◌, length, Some, refl, sym, rules}
 use Rattle.std.specs.Prelude.{slice_get}
 use Rattle.book.specs.Knowing.{flag_at}
+use Rattle.book.proofs.Keeping.{peers_payable}
 use Rattle.book.proofs.Recorded.{recorded, revoked_is, number_is}
 use Rattle.book.proofs.knowing.revoked_of.Goals as goal
 
@@ -25,3 +26,11 @@ returns-clause-number c =
     number_is s _ _ _ n cs one.result c.in-Some.secret c.is_kept-is_kept.result c.revoked_commitment.result c.peers_commitments.ensures.numbered
     (recorded cs cs n one.result refl within one.is)
     c.revoked_commitment.ensures
+
+pub revoked_commitment-requires : goal.revoked_commitment-requires
+revoked_commitment-requires c =
+    let n = c.args.number in
+    let one = c.index-peers_commitments-number in
+    let cs = c.peers_commitments.result.now in
+    let within : n < length cs = search rules in
+    peers_payable _ _ _ n cs one.result c.peers_commitments.ensures.numbered (recorded cs cs n one.result refl within one.is)

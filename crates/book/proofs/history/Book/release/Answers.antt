@@ -1,35 +1,53 @@
-use Rattle.std.proofs.Common.{List, subst, Err, Ok, refl}
+use Rattle.std.proofs.Common.{◌≤◌, List, length, subst, sym, Err, Ok, refl, rules, inl}
 use Rattle.std.specs.List.{AllByRecursion}
 use Rattle.claim.specs.Claims.{ClaimParts, IsWhole}
 use Rattle.filling.specs.declared.errors.FillError.TheVariants.{NoMemory}
 use Rattle.book.specs.declared.calls.Call.TheVariants.{Release}
 use Rattle.book.specs.declared.calls.Entry.{Entry}
-use Rattle.book.specs.declared.errors.ReleaseError.TheVariants.{Unfilled}
+use Rattle.book.specs.declared.errors.ReleaseError.TheVariants.{Unfilled, NoSuchChannel}
+use Rattle.book.specs.Fulfilled.{kept_by, AreBeside}
 use Rattle.book.specs.Replies.{released}
 use Rattle.book.specs.Calling.{IsCall}
 use Rattle.book.proofs.Fulfilled.{called}
 use Rattle.book.proofs.Refused.{release_refused}
-use Rattle.book.proofs.Called.{grown, release_done}
+use Rattle.book.proofs.Called.{filed, release_done, not_there, none_to_release}
 use Rattle.book.proofs.history.Book.release.Goals as goal
 
 pub invariant_of-self-2 : goal.invariant_of-self-2
 invariant_of-self-2 c =
     let i = c.self.inside in
-    let is = grown c.push.result c.unwrap.result c.push.new.self.items c.reserve.new.self.items i.entries.items _ _ c.unwrap.ensures c.push.ensures.items c.in-Ok.ensures.items refl in
+    let is = filed c.file.new.entries.items c.reserve.new.self.items i.entries.items _ _ c.file.ensures c.in-Ok.ensures.items refl in
     let whole = subst (λ (cs : List ClaimParts). AllByRecursion IsWhole cs) c.values.ensures c.hold_whole.ensures in
     called i.entries.items i.channels.entries _ c.self.invariant _ _ _ _ is refl
-    (release_done i.entries.items c.push.new.self.items i.channels.entries c.args.seat c.args.channel c.index-open.result.now c.args.batch c.in-Ok-release.filled (released (Err (Unfilled NoMemory))) c.self.invariant.left c.index-open.ensures c.in-Ok-release.ensures.tested c.in-Ok-release.ensures.ok is whole).keeps
+    (release_done i.entries.items c.file.new.entries.items i.channels.entries c.args.seat c.args.channel c.index-open.result.now c.args.batch c.in-Ok-release.filled (released (Err (Unfilled NoMemory))) c.self.invariant.left c.index-open.ensures c.in-Ok-release.ensures.tested c.in-Ok-release.ensures.ok is whole).keeps
 
 pub returns : goal.returns
 returns c =
     let i = c.self.inside in
-    let is = grown c.push.result c.unwrap.result c.push.new.self.items c.reserve.new.self.items i.entries.items _ _ c.unwrap.ensures c.push.ensures.items c.in-Ok.ensures.items refl in
+    let is = filed c.file.new.entries.items c.reserve.new.self.items i.entries.items _ _ c.file.ensures c.in-Ok.ensures.items refl in
     let whole = subst (λ (cs : List ClaimParts). AllByRecursion IsWhole cs) c.values.ensures c.hold_whole.ensures in
-    let done = release_done i.entries.items c.push.new.self.items i.channels.entries c.args.seat c.args.channel c.index-open.result.now c.args.batch c.in-Ok-release.filled (released (Err (Unfilled NoMemory))) c.self.invariant.left c.index-open.ensures c.in-Ok-release.ensures.tested c.in-Ok-release.ensures.ok is whole in
-    subst (λ (h : List Entry). IsCall (released (Err (Unfilled NoMemory))) (released (Ok c.in-Ok-release.filled)) h c.push.new.self.items c.args.seat (Release c.args.channel c.args.batch)) c.self.view_is done.called
+    let done = release_done i.entries.items c.file.new.entries.items i.channels.entries c.args.seat c.args.channel c.index-open.result.now c.args.batch c.in-Ok-release.filled (released (Err (Unfilled NoMemory))) c.self.invariant.left c.index-open.ensures c.in-Ok-release.ensures.tested c.in-Ok-release.ensures.ok is whole in
+    subst (λ (h : List Entry). IsCall (released (Err (Unfilled NoMemory))) (released (Ok c.in-Ok-release.filled)) h c.file.new.entries.items c.args.seat (Release c.args.channel c.args.batch)) c.self.view_is done.called
 
 pub returns-in-Err-release : goal.returns-in-Err-release
 returns-in-Err-release c =
     let i = c.self.inside in
     let refused = release_refused i.entries.items c.reserve.new.self.items i.channels.entries c.self.invariant.left c.in-Ok.ensures.items c.args.seat c.args.channel c.index-open.result.now c.index-open.ensures c.args.batch c.in-Err-release.error c.in-Err-release.ensures.tested in
     subst (λ (h : List Entry). IsCall (released (Err (Unfilled NoMemory))) (released (Err (Unfilled c.in-Err-release.error))) h c.reserve.new.self.items c.args.seat (Release c.args.channel c.args.batch)) c.self.view_is refused
+
+pub returns-then-index-len : goal.returns-then-index-len
+returns-then-index-len c =
+    let i = c.self.inside in
+    let past : length i.channels.entries ≤ c.args.channel = search rules in
+    subst (λ (h : List Entry). IsCall (released (Err (Unfilled NoMemory))) (released (Err NoSuchChannel)) h h c.args.seat (Release c.args.channel c.args.batch)) c.self.view_is
+    (not_there i.entries.items i.channels.entries c.args.seat c.args.channel (Release c.args.channel c.args.batch) (released (Err NoSuchChannel)) (released (Err (Unfilled NoMemory))) c.self.invariant.left past
+    (none_to_release c.args.channel c.args.batch) refl)
+
+pub invariant_of-self : goal.invariant_of-self
+invariant_of-self c = subst (λ (h : List Entry). AreBeside h c.self.inside.channels.entries (kept_by c.self.inside.fulfils)) (sym c.reserve.ensures.items) c.self.invariant
+
+pub invariant_of-self-in-Err-release : goal.invariant_of-self-in-Err-release
+invariant_of-self-in-Err-release c = subst (λ (h : List Entry). AreBeside h c.self.inside.channels.entries (kept_by c.self.inside.fulfils)) (sym c.in-Ok.ensures.items) c.self.invariant
+
+pub returns-in-Err : goal.returns-in-Err
+returns-in-Err c = subst (λ (h : List Entry). IsCall (released (Err (Unfilled NoMemory))) (released (Err (Unfilled NoMemory))) h c.reserve.new.self.items c.args.seat (Release c.args.channel c.args.batch)) c.self.view_is (inl (refl, c.reserve.ensures.items))
