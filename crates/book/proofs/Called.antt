@@ -1,5 +1,5 @@
 -- What a call does to a history, and to what a book keeps beside it.
-use Rattle.std.proofs.Common.{◌≡◌, ℕ, ◌<◌, ◌≤◌, Bool, true, false, List, [], ◌∷◌, ◌++◌, length, is_some, Option, Some, None, Ok, Err, refl, sym, ap, ◌∙◌, subst, arith, inl, inr}
+use Rattle.std.proofs.Common.{◌≡◌, ℕ, ◌<◌, ◌≤◌, Bool, true, false, List, [], ◌∷◌, ◌++◌, length, is_some, Option, Some, None, Ok, Err, refl, sym, ap, ◌∙◌, subst, arith, inl, inr, ◌+◌}
 use Rattle.std.specs.Prelude.{slice_get, nat_le}
 use Rattle.std.specs.Map.{lookup, values_of}
 use Rattle.indexmap.specs.Layout.{set_value_at}
@@ -122,6 +122,10 @@ token_answer : (chs : Channels) (o : Opening) (e : OpenError) → nat_le MAX_CHA
 token_answer chs o e room other is = rw (room, other, is) refl
 
 -- ---- accepted calls as a whole: their replies, and what is kept after them
+
+-- there is room for one more
+pub one_fits : (n room : ℕ) → n + 1 ≤ room → n < room
+one_fits n room more = omega (arith, more)
 
 -- the items after one more is filed
 pub filed : {A : Type 0} (items before history : List A) (e f : A) → items ≡ before ++ e ∷ [] → before ≡ history → e ≡ f → items ≡ history ++ f ∷ []

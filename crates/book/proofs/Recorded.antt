@@ -1,9 +1,9 @@
 -- What stands at numbers, gathered one by one.
-use Rattle.std.proofs.Common.{◌≡◌, ℕ, zero, suc, ◌+◌, ◌<◌, Bool, List, [], ◌∷◌, ◌++◌, map, length, take, get_or, Option, Some, Result, Ok, Err, refl, sym, ap, ◌∙◌, arith}
+use Rattle.std.proofs.Common.{◌≡◌, ℕ, zero, suc, ◌+◌, ◌<◌, Bool, List, [], ◌∷◌, ◌++◌, map, length, take, get_or, Option, Some, Result, Ok, Err, refl, sym, ap, ◌∙◌, arith, None}
 use Rattle.std.specs.Prelude.{slice_get, slice_index_or, option_map, IfOk}
 use Rattle.std.specs.List.{cons_option}
 use Rattle.std.proofs.lemmas.List.{map-append, length-append, take_more}
-use Rattle.std.proofs.lemmas.Option.{same_Some, slice_get_read}
+use Rattle.std.proofs.lemmas.Option.{none-some, same_Some, slice_get_read}
 use Rattle.terms.specs.declared.sides.Side.{Side}
 use Rattle.terms.specs.declared.agreement.Terms.{Terms}
 use Rattle.channel.specs.declared.commitments.CommitmentState.{CommitmentState}
@@ -34,6 +34,12 @@ one_longer n xs ys x same long = ap length same ∙ length-append xs (x ∷ []) 
 pub agreeing : {A : Type 0} (f g : ℕ → Option A) → ((n : ℕ) → f n ≡ g n) → (n : ℕ) → below f n ≡ below g n
 agreeing f g same zero = refl
 agreeing f g same (suc n) = ap (λ xs. xs ++ cons_option (f n) []) (agreeing f g same n) ∙ ap (λ o. below g n ++ cons_option o []) (same n)
+
+-- nothing is missing below the end
+pub not_missing : {A : Type 0} (xs : List A) (n : ℕ) → n < length xs → slice_get xs n ≡ None → ⊥
+not_missing [] n within none = omega (arith, within)
+not_missing (x ∷ xs) zero within none = none-some x (sym none)
+not_missing (x ∷ xs) (suc n) within none = not_missing xs n (omega (arith, within)) none
 
 -- ---- a revoked commitment
 

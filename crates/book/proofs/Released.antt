@@ -1,5 +1,5 @@
 -- What a release says of its signer's rights.
-use Rattle.std.proofs.Common.{◌≡◌, ◌↔◌, ℕ, if◌then◌else◌, Bool, true, false, List, [], ◌∷◌, Option, Some, None, Result, Ok, Err, refl, sym, ap, ◌∙◌, inl, inr, ◌⊎◌}
+use Rattle.std.proofs.Common.{◌≡◌, ◌↔◌, ℕ, if◌then◌else◌, Bool, true, false, List, [], ◌∷◌, Option, Some, None, Result, Ok, Err, refl, sym, ap, ◌∙◌, inl, inr, ◌⊎◌, subst}
 use Rattle.std.specs.Prelude.{MatchResult, IfOk}
 use Rattle.std.specs.Option.{option_or}
 use Rattle.tx.specs.Parts.{Output}
@@ -81,3 +81,11 @@ pub filled_as : (b : Batch) (r : Rights) (given : Result Filling FillError) → 
     → MatchResult given (λ f. (fill_refusal b.claims b.outputs s b.preimages ≡ None) × (f ≡ filling_by b)) (IsFillRefusal (fill_refusal b.claims b.outputs s b.preimages))
 filled_as b r (Ok f) h s same = (tested_by b r s (Ok f) same h, filled_by b r (Ok f) h)
 filled_as b r (Err e) h s same = tested_by b r s (Err e) same h
+
+-- what is filled is a batch's
+pub given_as : (b : Batch) (r : Rights) (given : Result Filling FillError) (claims : List ClaimParts) (outputs : List Output) (preimages : List (List ℕ)) → claims ≡ b.claims → outputs ≡ b.outputs → preimages ≡ b.preimages
+    → MatchResult given (IsFillingOf claims outputs r preimages) (IsFirstRefusal claims outputs r preimages) → MatchResult given (IsFillingOf b.claims b.outputs r b.preimages) (IsFirstRefusal b.claims b.outputs r b.preimages)
+given_as b r given claims outputs preimages of_claims of_outputs of_preimages h =
+    subst (λ (ps : List (List ℕ)). MatchResult given (IsFillingOf b.claims b.outputs r ps) (IsFirstRefusal b.claims b.outputs r ps)) of_preimages
+    (subst (λ (os : List Output). MatchResult given (IsFillingOf b.claims os r preimages) (IsFirstRefusal b.claims os r preimages)) of_outputs
+    (subst (λ (cs : List ClaimParts). MatchResult given (IsFillingOf cs outputs r preimages) (IsFirstRefusal cs outputs r preimages)) of_claims h))

@@ -1,8 +1,8 @@
-use Rattle.std.proofs.Common.{◌≡◌, ◌<◌, length, Some, refl, sym, rules}
+use Rattle.std.proofs.Common.{◌≡◌, ◌<◌, length, Some, refl, sym, rules, arith}
 use Rattle.std.specs.Prelude.{slice_get}
 use Rattle.book.specs.Knowing.{flag_at}
 use Rattle.book.proofs.Keeping.{peers_payable}
-use Rattle.book.proofs.Recorded.{recorded, revoked_is, number_is}
+use Rattle.book.proofs.Recorded.{recorded, revoked_is, number_is, not_missing}
 use Rattle.book.proofs.knowing.revoked_of.Goals as goal
 
 pub returns-clause-value : goal.returns-clause-value
@@ -34,3 +34,10 @@ revoked_commitment-requires c =
     let cs = c.peers_commitments.result.now in
     let within : n < length cs = search rules in
     peers_payable _ _ _ n cs one.result c.peers_commitments.ensures.numbered (recorded cs cs n one.result refl within one.is)
+
+pub unreachable-requires : goal.unreachable-requires
+unreachable-requires c =
+    let asked = c.requires in
+    let number = c.peer_number-count.ensures.number in
+    let revocations = c.peer_number-count.ensures.revocations in
+    not_missing c.args.channel.now.secrets c.args.number (omega (arith, asked, number, revocations)) (sym c.in-None.ensures)

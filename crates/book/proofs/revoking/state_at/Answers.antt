@@ -1,7 +1,7 @@
 use Rattle.std.proofs.Common.{◌≡◌, ◌<◌, length, Some, refl, sym, rules}
 use Rattle.std.specs.Prelude.{slice_get}
 use Rattle.book.proofs.Keeping.{peers_payable}
-use Rattle.book.proofs.Recorded.{recorded}
+use Rattle.book.proofs.Recorded.{recorded, not_missing}
 use Rattle.book.proofs.Unkept.{state_is}
 use Rattle.book.proofs.revoking.state_at.Goals as goal
 
@@ -25,3 +25,6 @@ revoked_by-requires c =
     let cs = c.peers_commitments.result.now in
     let within : n < length cs = search rules in
     peers_payable _ _ _ n cs one.result c.peers_commitments.ensures.numbered (recorded cs cs n one.result refl within one.is)
+
+pub unreachable-requires : goal.unreachable-requires
+unreachable-requires c = not_missing c.args.channel.now.secrets c.args.number c.requires (sym c.in-None.ensures)

@@ -5,7 +5,7 @@ use Rattle.book.specs.declared.errors.CloseError.TheVariants.{NoMemory, NoSuchCh
 use Rattle.book.specs.Replies.{closed}
 use Rattle.book.specs.Calling.{IsCall}
 use Rattle.book.proofs.Fulfilled.{called}
-use Rattle.book.proofs.Called.{filed, close_done, not_there, none_to_close}
+use Rattle.book.proofs.Called.{filed, close_done, not_there, none_to_close, one_fits}
 use Rattle.book.specs.Fulfilled.{kept_by, AreBeside}
 use Rattle.book.proofs.history.Book.close.Goals as goal
 
@@ -32,3 +32,6 @@ returns-then-index-len c =
 
 pub invariant_of-self : goal.invariant_of-self
 invariant_of-self c = subst (λ (h : List Entry). AreBeside h c.self.inside.channels.entries (kept_by c.self.inside.fulfils)) (sym c.reserve.ensures.items) c.self.invariant
+
+pub file-requires : goal.file-requires
+file-requires c = one_fits _ _ c.in-Ok.ensures.ok

@@ -13,7 +13,7 @@ use Rattle.book.specs.Calling.{IsCall, IsKeepRefusal}
 use Rattle.book.proofs.Fundings.{left_alone}
 use Rattle.book.proofs.Fulfilled.{called, uncalled}
 use Rattle.book.proofs.Refused.{keep_refused}
-use Rattle.book.proofs.Called.{filed, keep_done, not_there, none_to_keep}
+use Rattle.book.proofs.Called.{filed, keep_done, not_there, none_to_keep, one_fits}
 use Rattle.book.proofs.KeptSets.{kept_by_call}
 use Rattle.book.proofs.history.Book.keep.Goals as goal
 
@@ -73,3 +73,6 @@ invariant_of-self c = subst (λ (h : List Entry). AreBeside h c.self.inside.chan
 
 pub returns-in-Err-clause-call : goal.returns-in-Err-clause-call
 returns-in-Err-clause-call c = subst (λ (h : List Entry). IsCall (kept (Err NoMemory)) (kept (Err NoMemory)) h c.reserve.new.self.items c.args.seat (Keep c.args.channel c.args.number c.args.claims)) c.self.view_is (inl (refl, c.reserve.ensures.items))
+
+pub file-requires : goal.file-requires
+file-requires c = one_fits _ _ c.in-Ok.ensures.ok

@@ -14,7 +14,7 @@ use Rattle.book.specs.Fulfilled.{Preimages, kept_by, AreBeside}
 use Rattle.book.specs.Replies.{opened}
 use Rattle.book.specs.Calling.{IsCall}
 use Rattle.book.proofs.Fulfilled.{called, uncalled}
-use Rattle.book.proofs.Called.{filed, no_room, same_funding, no_token, open_done, is_none}
+use Rattle.book.proofs.Called.{filed, no_room, same_funding, no_token, open_done, is_none, one_fits}
 use Rattle.book.proofs.history.Book.open.Goals as goal
 
 pub returns-then-contains_key : goal.returns-then-contains_key
@@ -93,3 +93,9 @@ invariant_of-self-in-Err-reserve_channel c =
     let i = c.self.inside in
     uncalled i.entries.items i.channels.entries _ c.self.invariant _ _ _ c.in-Ok.ensures.items c.reserve_channel.ensures.same
     (subst (λ (h : List Entry). AreLeft h i.channels.entries) (sym c.in-Ok.ensures.items) c.self.invariant.left)
+
+pub file-requires : goal.file-requires
+file-requires c = one_fits _ _ c.in-Ok.ensures.ok
+
+pub add_channel-requires : goal.add_channel-requires
+add_channel-requires c = c.in-Ok-reserve_channel.ensures.room

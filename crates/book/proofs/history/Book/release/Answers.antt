@@ -10,7 +10,7 @@ use Rattle.book.specs.Replies.{released}
 use Rattle.book.specs.Calling.{IsCall}
 use Rattle.book.proofs.Fulfilled.{called}
 use Rattle.book.proofs.Refused.{release_refused}
-use Rattle.book.proofs.Called.{filed, release_done, not_there, none_to_release}
+use Rattle.book.proofs.Called.{filed, release_done, not_there, none_to_release, one_fits}
 use Rattle.book.proofs.history.Book.release.Goals as goal
 
 pub invariant_of-self-2 : goal.invariant_of-self-2
@@ -51,3 +51,6 @@ invariant_of-self-in-Err-release c = subst (λ (h : List Entry). AreBeside h c.s
 
 pub returns-in-Err : goal.returns-in-Err
 returns-in-Err c = subst (λ (h : List Entry). IsCall (released (Err (Unfilled NoMemory))) (released (Err (Unfilled NoMemory))) h c.reserve.new.self.items c.args.seat (Release c.args.channel c.args.batch)) c.self.view_is (inl (refl, c.reserve.ensures.items))
+
+pub file-requires : goal.file-requires
+file-requires c = one_fits _ _ c.in-Ok.ensures.ok

@@ -8,7 +8,7 @@ use Rattle.book.specs.Calling.{IsCall}
 use Rattle.book.proofs.Fundings.{left_alone}
 use Rattle.book.proofs.Fulfilled.{called, uncalled}
 use Rattle.book.proofs.Refused.{revoke_refused}
-use Rattle.book.proofs.Called.{filed, revoke_done, not_there, none_to_revoke}
+use Rattle.book.proofs.Called.{filed, revoke_done, not_there, none_to_revoke, one_fits}
 use Rattle.book.specs.Fulfilled.{kept_by, AreBeside}
 use Rattle.book.proofs.history.Book.revoke.Goals as goal
 
@@ -47,3 +47,6 @@ returns-then-index-len c =
 
 pub invariant_of-self : goal.invariant_of-self
 invariant_of-self c = subst (λ (h : List Entry). AreBeside h c.self.inside.channels.entries (kept_by c.self.inside.fulfils)) (sym c.reserve.ensures.items) c.self.invariant
+
+pub file-requires : goal.file-requires
+file-requires c = one_fits _ _ c.in-Ok.ensures.ok

@@ -14,7 +14,7 @@ use Rattle.book.specs.Calling.{IsCall}
 use Rattle.book.proofs.Fundings.{left_alone}
 use Rattle.book.proofs.Fulfilled.{for_each, called, uncalled}
 use Rattle.book.proofs.Refused.{step_refused}
-use Rattle.book.proofs.Called.{entry, filed, step_done, not_there, none_to_step}
+use Rattle.book.proofs.Called.{entry, filed, step_done, not_there, none_to_step, one_fits}
 use Rattle.book.proofs.history.Book.step.Goals as goal
 
 pub invariant_of-self-2 : goal.invariant_of-self-2
@@ -71,3 +71,9 @@ returns-then-index-len c =
 
 pub invariant_of-self : goal.invariant_of-self
 invariant_of-self c = subst (λ (h : List Entry). AreBeside h c.self.inside.channels.entries (kept_by c.self.inside.fulfils)) (sym c.reserve.ensures.items) c.self.invariant
+
+pub file-requires : goal.file-requires
+file-requires c = one_fits _ _ c.in-Ok.ensures.ok
+
+pub add_preimage-requires-clause-room : goal.add_preimage-requires-clause-room
+add_preimage-requires-clause-room c = c.in-Ok-reserve_preimage.ensures.room
