@@ -22,6 +22,8 @@ mod Joined
 mod Giving
 mod Records
 mod ByNumber
+mod Learnt
+mod Offered
 mod FirstOrder
 mod Standing
 mod Playing
@@ -30,5 +32,6 @@ mod Trusting
 mod PlayExamples
 pub mod Samples
 mod RefusalExamples
+mod LearntExamples
 mod ResendExamples
 mod ScenarioExamples

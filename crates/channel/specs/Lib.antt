@@ -7,6 +7,7 @@ pub mod Numbered
 pub mod Keeping
 pub mod Peers
 pub mod Recording
+pub mod Learning
 pub mod Agreeing
 pub mod Connections
 pub mod Resending

@@ -1,6 +1,7 @@
 //! Laws over the definitions alone.
 
 ghost use Rattle.channel.specs.Agreeing.{PeersAgree, SidesAreSound};
+ghost use Rattle.channel.specs.Learning.{SidesLearn, SidesAreLimited, SidesOfferOwn};
 ghost use Rattle.channel.specs.Recording.{SidesRecord, SidesNumber};
 ghost use Rattle.channel.specs.Resending.{NothingNewGoesOut, GoesOutInOrder, SignsOnce};
 ghost use Rattle.channel.specs.Connections.{PeersStillAgree, BehindIsTold};
@@ -19,6 +20,14 @@ pub fn sides_are_sound()
     ensures sound { SidesAreSound }
     ensures recorded { SidesRecord }
     ensures numbered { SidesNumber }
+{}
+
+/// What a side has of its peer's commitments, whatever the peer sends. The peer revealed one secret for each of them before its newest, that of the commitment's point. No number of either side goes past
+/// [`LAST_NUMBER`](crate::LAST_NUMBER). Each HTLC that the side offers in one of them is one that its own updates offer.
+pub fn what_is_signed()
+    ensures revealed { SidesLearn }
+    ensures limited { SidesAreLimited }
+    ensures offered { SidesOfferOwn }
 {}
 
 /// Two honest peers agree, whatever becomes of their connection and of their memory. A cut loses all that is on its way, and so after a delivery any last part of
