@@ -74,6 +74,8 @@ pub(crate) fn close(rt: &impl Abort, alloc: Global, chain: &mut Index, known: &K
 enum Row {
     // The number of claims that it gives at a height for the block of an index.
     Look(u64, usize, usize),
+    // The number of claims that are due, whatever was given.
+    Due(usize),
     // It learns a preimage.
     Learn([u8; 32]),
     // The number of preimages that it knows.
@@ -82,18 +84,23 @@ enum Row {
     Back(u64),
 }
 
-// to_remote is due at the close, and the HTLC once its preimage is known. Both are due again after the close is taken off and mined again.
-const ROWS: [Row; 11] = [
+// to_remote is due at the close, and the HTLC once its preimage is known. Each is given once, and due from then on. Both are given again after the close is taken off and mined again.
+const ROWS: [Row; 16] = [
     Row::Look(0, 0, 0),
+    Row::Due(0),
     Row::Look(1, 1, 1),
     Row::Look(2, 2, 0),
+    Row::Due(1),
     Row::Learn([4; 32]),
     Row::Look(3, 2, 0),
     Row::Learn(PREIMAGE),
+    Row::Due(2),
     Row::Look(4, 2, 1),
     Row::Look(5, 2, 0),
+    Row::Due(2),
     Row::Knows(2),
     Row::Back(0),
+    Row::Due(0),
     Row::Look(1, 1, 2),
 ];
 
@@ -123,6 +130,7 @@ fn answers(
             let block = blocks.get(index).expect(rt, "a block");
             gives(rt, alloc, lookout, height, block, claims)
         }
+        Row::Due(claims) => lookout.due(alloc).expect(rt, "memory").len() == claims,
         Row::Learn(preimage) => lookout.learn(&[preimage]).is_ok(),
         Row::Knows(preimages) => lookout.known().preimages.values().len() == preimages,
         Row::Back(height) => {

@@ -1,5 +1,7 @@
 -- Claims that weren't given yet.
-use Rattle.std.proofs.Common.{◌≡◌, ℕ, ◌+◌, ◌<◌, Bool, true, false, cond, List, [], ◌∷◌, ◌++◌, map, drop, length, get_or, sym, ap, ◌∙◌, refl, append_assoc, append-nil, subst}
+use Rattle.std.proofs.Common.{◌≡◌, ℕ, ◌+◌, ◌<◌, Bool, true, false, cond, List, [], ◌∷◌, ◌++◌, map, drop, length, get_or, Result, Ok, Err, Vec, Global, sym, ap, ◌∙◌, refl, append_assoc, append-nil, subst}
+use Rattle.std.specs.Prelude.{IfOk}
+use Rattle.std.specs.declared.alloc.AllocError.{AllocError}
 use Rattle.std.specs.List.{AllByRecursion}
 use Rattle.std.proofs.lemmas.List.{map-append}
 use Rattle.claim.specs.Claims.{ClaimParts, IsAccepted}
@@ -107,3 +109,9 @@ pub given_after : (h : ℕ) (known : Known) (given : List Given) (new none due :
     → map claimed_by new ≡ unclaimed h given (due_by known all)
 given_after h known given new none due slice now all n z d s a =
     n ∙ ap (λ (x : List ClaimParts). map claimed_by x ++ unclaimed h given (map claimed_by due)) z ∙ ap (unclaimed h given) (d ∙ ap (due_by known) (s ∙ a))
+
+-- what is due, as accepted claims on it
+pub due_on_all : (known : Known) (given : Result (Vec ClaimParts Global) AllocError) (slice spends : List Spend) → slice ≡ spends → IfOk given (λ v. map claimed_by v.items ≡ due_by known slice)
+    → IfOk given (λ v. AllByRecursion IsAccepted v.items) → IfOk given (λ v. AreClaimsOn (due_by known spends) v.items)
+due_on_all known (Ok v) slice spends e is a = claims_on (due_by known spends) v.items (is ∙ ap (due_by known) e) a
+due_on_all known (Err error) slice spends e is a = tt

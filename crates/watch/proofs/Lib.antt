@@ -10,3 +10,4 @@ mod ShowingExamples
 mod Settled
 mod Learnt
 mod LookoutExamples
+mod Staying

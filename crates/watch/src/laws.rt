@@ -3,7 +3,7 @@
 ghost use Rattle.watch.specs.Finding.{RevokedAreFound, OnlyRevokedAreFound};
 ghost use Rattle.watch.specs.Showing.{KeysAreKeys, SpendersGo, PreimagesAreLearnt};
 ghost use Rattle.watch.specs.Standing.{SeesWhatStands};
-ghost use Rattle.watch.specs.Settling.{ReadingSettles, EmptyBlocksGiveNothing};
+ghost use Rattle.watch.specs.Settling.{ReadingSettles, EmptyBlocksGiveNothing, GivenStaysDue};
 
 use paths::laws::scripts_are_satisfied_exactly;
 
@@ -35,4 +35,10 @@ pub fn preimages_are_learnt()
 pub fn empty_blocks_give_nothing()
     ensures settles { ReadingSettles }
     ensures nothing { EmptyBlocksGiveNothing }
+{}
+
+/// What a watch gives after a block is due then. By the same knowledge it stays due, whatever the watch reads after that, as long as the transactions that it has read by then are not taken off. So no claim is lost with a
+/// batch that failed.
+pub fn given_stays_due()
+    ensures { GivenStaysDue }
 {}

@@ -3,8 +3,9 @@
 //!
 //! [`verdict`] names the known commitment that a transaction is, by its id. A [`Watch`] serves one channel.
 //! [`Watch::look`] reads a block and gives a [`Sight`]: the due claims that it hasn't given yet, and the preimages that
-//! it learnt. [`Watch::back`] forgets blocks that were taken off. A [`Lookout`] is a watch with what is known of its
-//! channel. It reads many blocks by the same knowledge, and works out once what no block changes.
+//! it learnt. [`Watch::due`] gives all that is due, whatever was given before. [`Watch::back`] forgets blocks that were
+//! taken off. A [`Lookout`] is a watch with what is known of its channel. It reads many blocks by the same knowledge,
+//! and works out once what no block changes.
 //!
 //! `chain` hands it blocks, and `resolve` says what is due. `side` has a watch for each channel of a node. What is
 //! known of the channel comes from `book`.

@@ -12,6 +12,7 @@ use crate::spends::{Spend, some_spends};
 use crate::verdicts::{is_current, verdict};
 use crate::watching::{Sight, Watch};
 use chain::{Block, Confirmed};
+use claim::Claim;
 use commit::HtlcOutput;
 use digest::sha256;
 use resolve::{Known, Verdict};
@@ -125,7 +126,8 @@ fn some_is_current(known: &Known, spends: &[Spend], txs: &[Confirmed]) -> bool {
 
 impl Lookout {
     ghost use Rattle.std.specs.Prelude.{◌≡◌, reverse, IfOk, OnOk, OnErr};
-    ghost use Rattle.watch.specs.Watching.{seen_after, seen_up_to};
+    ghost use Rattle.penalty.specs.Sets.{AreClaimsOn};
+    ghost use Rattle.watch.specs.Watching.{due_by, seen_after, seen_up_to};
     ghost use Rattle.watch.specs.Sights.{IsSight};
     ghost use Rattle.watch.specs.Lookouts.{with_learnt};
 
@@ -234,6 +236,15 @@ impl Lookout {
             claims: Vec::new(alloc),
             learnt,
         })
+    }
+
+    /// All claims that are due by what is known and by the transactions read so far that spend the funding output, in order and whatever was given before: as `Watch::due` gives them. The only error is that memory
+    /// ran out.
+    pub fn due(&self, alloc: Global) -> Result<Vec<Claim>, AllocError>
+        ensures { IfOk result (λ v. AreClaimsOn (due_by self.now.known self.now.seen.spends)
+            v.items) }
+    {
+        self.watch.due(alloc, &self.known)
     }
 
     /// Adds known preimages, for the blocks that it reads from now on. The only error is that memory ran out, which leaves the lookout as it was.

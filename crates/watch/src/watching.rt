@@ -70,7 +70,8 @@ fn read(
 
 impl Watch {
     ghost use Rattle.std.specs.Prelude.{◌≡◌, reverse, IfOk, OnOk, OnErr};
-    ghost use Rattle.watch.specs.Watching.{nothing_seen, has_spends, is_spent, seen_after, seen_up_to};
+    ghost use Rattle.penalty.specs.Sets.{AreClaimsOn};
+    ghost use Rattle.watch.specs.Watching.{nothing_seen, has_spends, is_spent, due_by, seen_after, seen_up_to};
     ghost use Rattle.watch.specs.Sights.{IsSight};
 
     /// A watch that has read no block.
@@ -143,6 +144,16 @@ impl Watch {
                 Err(error)
             }
         }
+    }
+
+    /// All claims that are due by the verdicts of the transactions read so far that spend the funding output, in order. `look` gives each of them once, and this gives them all, whatever was given before: a caller
+    /// whose filling failed, or whose claims were lost, has them again. It notes nothing as given.
+    ///
+    /// The only error is that memory ran out.
+    pub fn due(&self, alloc: Global, known: &Known) -> Result<Vec<Claim>, AllocError>
+        ensures { IfOk result (λ v. AreClaimsOn (due_by known.now self.now.spends) v.items) }
+    {
+        due_by(alloc, known, self.spends.as_slice())
     }
 
     /// Forgets what it read and gave for the blocks above a height, which were taken off. What was learnt from them belongs to the caller, and stays.
