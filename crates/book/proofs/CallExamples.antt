@@ -26,6 +26,7 @@ use Rattle.book.specs.declared.calls.Entry.{Entry}
 use Rattle.book.specs.declared.errors.OpenError.TheVariants as opens
 use Rattle.book.specs.declared.errors.SignError.TheVariants as signs
 use Rattle.book.specs.declared.errors.KeepError.TheVariants as keeps
+use Rattle.book.specs.declared.errors.ReleaseAgainError.TheVariants as again
 use Rattle.book.specs.declared.errors.CloseError.TheVariants as closes
 use Rattle.book.specs.declared.errors.KnowError.TheVariants as knows
 use Rattle.book.specs.declared.errors.OpenError.TheVariants.{BookFull, SameFunding, BadSignature}
@@ -37,7 +38,7 @@ use Rattle.book.specs.declared.limits.TheConstants.{MAX_CHANNELS}
 use Rattle.terms.specs.Bases.{IsSeedOf}
 use Rattle.book.specs.Penalties.{is_penalty_set}
 use Rattle.book.specs.Books.{ChannelBook, Channels, opened_by, missing_from}
-use Rattle.book.specs.Refusals.{open_error_number, step_error_number, sign_error_number, keep_error_number, release_error_number, close_error_number, know_error_number}
+use Rattle.book.specs.Refusals.{open_error_number, step_error_number, sign_error_number, keep_error_number, release_error_number, release_again_error_number, close_error_number, know_error_number}
 use Rattle.book.specs.Replies.{answer_of, open_refusal, Reply, opened, stepped, signed, revoked, kept, released, closed, reply_of, sign_refusal, keep_refusal, history_after}
 use Rattle.book.specs.Accepted.{all_accepted, first_refused}
 use Rattle.book.specs.Guarding.{is_set_in, number_kept, is_guarded}
@@ -49,9 +50,10 @@ numbers : (map open_error_number (opens.NoMemory ∷ opens.BookFull ∷ opens.Sa
     × (map sign_error_number (signs.NoMemory ∷ signs.PenaltiesMissing 7 ∷ signs.AwaitingRevocation ∷ signs.NoUpdates ∷ signs.NoSuchChannel ∷ signs.ChannelClosed ∷ []) ≡ 0 ∷ 1 ∷ 2 ∷ 3 ∷ 9 ∷ 19 ∷ [])
     × (map keep_error_number (keeps.NoMemory ∷ keeps.NotRevoked ∷ keeps.OtherState ∷ keeps.AlreadyKept ∷ keeps.NoSuchChannel ∷ []) ≡ 0 ∷ 1 ∷ 2 ∷ 3 ∷ 9 ∷ [])
     × (map release_error_number (Unfilled NoRight ∷ Unfilled SameOutpoint ∷ NoChannelToRelease ∷ []) ≡ 1 ∷ 5 ∷ 9 ∷ [])
+    × (map release_again_error_number (again.Refused (Unfilled NoRight) ∷ again.Refused NoChannelToRelease ∷ again.NoSuchEntry ∷ again.NotARelease ∷ again.TooManyOutputs ∷ again.NothingLeft ∷ []) ≡ 1 ∷ 9 ∷ 20 ∷ 21 ∷ 22 ∷ 23 ∷ [])
     × (map close_error_number (closes.NoMemory ∷ closes.NoSuchChannel ∷ []) ≡ 0 ∷ 9 ∷ [])
     × (map know_error_number (knows.NoMemory ∷ knows.NoSuchChannel ∷ []) ≡ 0 ∷ 9 ∷ [])
-numbers = (refl, refl, refl, refl, refl, refl, refl)
+numbers = (refl, refl, refl, refl, refl, refl, refl, refl)
 
 limit : MAX_CHANNELS ≡ 65536
 limit = refl

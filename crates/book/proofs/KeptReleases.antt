@@ -38,7 +38,7 @@ use Rattle.book.proofs.Fillable.{knowledge_of, CanFillClaim, set_fillable, nothi
 
 -- ---- each channel has the side's own base keys
 
-abbrev OwnsBases : ChannelBook → Type 0
+abbrev pub OwnsBases : ChannelBook → Type 0
 OwnsBases ch = IsSeedOf ch.state.seed (party ch.state.held.side ch.state.held.terms).bases
 
 pub all_changed : {A : Type 0} (P : A → Type 0) (f : A → A) → ((x : A) → P x → P (f x)) → (n : ℕ) (xs : List A) → AllByRecursion P xs → AllByRecursion P (at_index f n xs)
@@ -69,7 +69,7 @@ call_owns (Keep c n claims) chs h = all_changed OwnsBases _ (λ ch k. k) c chs h
 call_owns (Release c batch) chs h = h
 call_owns (Close c) chs h = all_changed OwnsBases _ (λ ch k. k) c chs h
 
-all_own : (es : List Entry) → AllByRecursion OwnsBases (replayed es)
+pub all_own : (es : List Entry) → AllByRecursion OwnsBases (replayed es)
 all_own [] = tt
 all_own (e ∷ es) = call_owns e.call (replayed es) (all_own es)
 

@@ -51,7 +51,7 @@ use Rattle.book.proofs.ReleasedFit.{whole_at}
 
 -- ---- each channel's state is one that calls and messages lead to
 
-abbrev Lives : Signing → ChannelBook → Type 0
+abbrev pub Lives : Signing → ChannelBook → Type 0
 Lives tokens_of ch = IsLived tokens_of ch.state
 
 -- the element at an index changes
@@ -102,7 +102,7 @@ call_lives tokens_of (Keep c n claims) chs h ok = all_changed (Lives tokens_of) 
 call_lives tokens_of (Release c batch) chs h ok = h
 call_lives tokens_of (Close c) chs h ok = all_changed (Lives tokens_of) with_closed (λ ch k. k) c chs h
 
-all_live : (tokens_of : Signing) (es : List Entry) → are_accepted tokens_of es ≡ true → AllByRecursion (Lives tokens_of) (replayed es)
+pub all_live : (tokens_of : Signing) (es : List Entry) → are_accepted tokens_of es ≡ true → AllByRecursion (Lives tokens_of) (replayed es)
 all_live tokens_of [] ok = tt
 all_live tokens_of (e ∷ es) ok =
     let parts = and_parts (is_taken tokens_of es e) (are_accepted tokens_of es) ok in

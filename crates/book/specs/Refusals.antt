@@ -1,4 +1,4 @@
--- The numbers of a book's refusals: 0 is out of memory, 9 is no such channel, 19 is a channel that the side closed.
+-- The numbers of a book's refusals: 0 is out of memory, 9 is no such channel, 19 is a channel that the side closed. From 20 on are those of a call that releases again.
 use Rattle.std.specs.Prelude.{ℕ}
 use Rattle.updates.specs.Refusals.{refusal_number}
 use Rattle.filling.specs.Refusals.{fill_error_number}
@@ -12,6 +12,8 @@ use Rattle.book.specs.declared.errors.KeepError.{KeepError}
 use Rattle.book.specs.declared.errors.KeepError.TheVariants as keeps
 use Rattle.book.specs.declared.errors.ReleaseError.{ReleaseError}
 use Rattle.book.specs.declared.errors.ReleaseError.TheVariants as releases
+use Rattle.book.specs.declared.errors.ReleaseAgainError.{ReleaseAgainError}
+use Rattle.book.specs.declared.errors.ReleaseAgainError.TheVariants as again
 use Rattle.book.specs.declared.errors.CloseError.{CloseError}
 use Rattle.book.specs.declared.errors.CloseError.TheVariants as closes
 use Rattle.book.specs.declared.errors.KnowError.{KnowError}
@@ -46,6 +48,13 @@ keep_error_number keeps.NoSuchChannel = 9
 abbrev pub release_error_number : ReleaseError → ℕ
 release_error_number (releases.Unfilled r) = fill_error_number r
 release_error_number releases.NoSuchChannel = 9
+
+abbrev pub release_again_error_number : ReleaseAgainError → ℕ
+release_again_error_number (again.Refused r) = release_error_number r
+release_again_error_number again.NoSuchEntry = 20
+release_again_error_number again.NotARelease = 21
+release_again_error_number again.TooManyOutputs = 22
+release_again_error_number again.NothingLeft = 23
 
 abbrev pub close_error_number : CloseError → ℕ
 close_error_number closes.NoMemory = 0

@@ -91,6 +91,26 @@ pub enum ReleaseError {
     NoSuchChannel,
 }
 
+/// Why what is left of a release is not released again.
+#[derive(Debug, Drop, Error)]
+pub enum ReleaseAgainError {
+    /// Its release is refused, or memory ran out.
+    #[error("{0}")]
+    Refused(ReleaseError),
+    /// The history has no entry with this index.
+    #[error("NoSuchEntry")]
+    NoSuchEntry,
+    /// The entry is no release.
+    #[error("NotARelease")]
+    NotARelease,
+    /// There are more than 4,000 outputs.
+    #[error("TooManyOutputs")]
+    TooManyOutputs,
+    /// The output of each of its claims was spent.
+    #[error("NothingLeft")]
+    NothingLeft,
+}
+
 /// Why a channel is not closed.
 #[derive(Clone, Copy, Debug, PartialEq, Eq, Drop, Error)]
 pub enum CloseError {
@@ -189,6 +209,23 @@ impl ReleaseError {
         match self {
             ReleaseError::Unfilled(refusal) => refusal.number(),
             ReleaseError::NoSuchChannel => 9,
+        }
+    }
+}
+
+impl ReleaseAgainError {
+    ghost use Rattle.book.specs.Refusals.{release_again_error_number};
+
+    /// The number of the refusal; 0 is out of memory.
+    pub fn number(&self) -> u8
+        ensures { result ≡ release_again_error_number self.now }
+    {
+        match self {
+            ReleaseAgainError::Refused(refusal) => refusal.number(),
+            ReleaseAgainError::NoSuchEntry => 20,
+            ReleaseAgainError::NotARelease => 21,
+            ReleaseAgainError::TooManyOutputs => 22,
+            ReleaseAgainError::NothingLeft => 23,
         }
     }
 }

@@ -3,6 +3,7 @@
 ghost use Rattle.book.specs.Accepted.{AcceptedMeans};
 ghost use Rattle.book.specs.Guarding.{AcceptedIsGuarded, GuardedMeans, KeptAreExact};
 ghost use Rattle.book.specs.Closing.{ClosedStaysNewest, ClosesAgain, ClosedStaysClosed};
+ghost use Rattle.book.specs.Lived.{ChannelsAreLived, FundingsAreApart, OffersAreAskedFor, BasesAreOwn};
 ghost use Rattle.book.specs.Penalties.{PenaltySetsAreExact};
 ghost use Rattle.book.specs.Releasing.{KeptAreFillable, ReleasesFit};
 ghost use Rattle.book.specs.Signers.{RightsAreTested, RefusalsAreFound};
@@ -14,6 +15,15 @@ use filling::laws::fillings_fit;
 /// accepted, and together with it they are not.
 pub fn accepted_is_called()
     ensures { AcceptedMeans }
+{}
+
+/// What each channel that a history leaves has. Calls and messages lead to its state, whatever the peers sent, and no other channel is on its funding output. Each HTLC that its own updates offer was asked for by a
+/// call of the history in the channel. The base keys of its side are those of its seed.
+pub fn what_channels_have()
+    ensures lived { ChannelsAreLived }
+    ensures apart { FundingsAreApart }
+    ensures asked { OffersAreAskedFor }
+    ensures bases { BasesAreOwn }
 {}
 
 /// The signing gate holds for all calls, and for all messages of the peer. Between each revocation that came in a channel and the channel's next signature, the penalties for the revoked

@@ -6,7 +6,8 @@
 //! nothing. The signing gate, [`laws::signing_is_guarded`], holds for each history: between each revocation and the
 //! channel's next signature, the penalties of the revoked commitment were kept. [`Book::entries`] hands this out.
 //! The crate `book_dump` writes it as a text, and loads the same history from it.
-//! [`Book::close`] closes a channel: it takes no signature from then on and gives none out, so that the commitment with
+//! [`Book::release_again`] makes the call of a release anew, of an entry's claims that are left where another transaction
+//! spent some of their outputs. [`Book::close`] closes a channel: it takes no signature from then on and gives none out, so that the commitment with
 //! which it was closed stays the newest one ([`laws::what_is_closed_stays_closed`]).
 //!
 //! Long work is done outside the book. [`Book::revoked`] hands out the state from which a penalty set is built, and
@@ -28,6 +29,7 @@
 //! first signature.
 #![tactic(auto)]
 
+mod again;
 pub mod calling;
 pub mod calls;
 mod comparing;

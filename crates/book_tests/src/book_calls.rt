@@ -128,6 +128,30 @@ fn releases_penalties(rt: HostRuntime) {
     plays(&rt, rt.alloc(), &RELEASED);
 }
 
+// What is left of a release is released again, as often as it is asked: both of its inputs, or one of them where the other's output was spent. The new entry can be released again too, and has no more than it took. Other
+// entries are no releases.
+const RELEASED_AGAIN: [Row; 14] = [
+    Row::Offered(1_000_000),
+    Row::ReleaseAgain(2, 0, Err(21)),
+    Row::Revoke(0, Ok(0)),
+    Row::Release(true),
+    Row::Entries(Side::A, 5),
+    Row::ReleaseAgain(4, 0, Ok(2)),
+    Row::ReleaseAgain(4, 1, Ok(1)),
+    Row::ReleaseAgain(4, 2, Err(23)),
+    Row::ReleaseAgain(6, 0, Ok(1)),
+    Row::ReleaseAgain(5, 0, Ok(2)),
+    Row::Entries(Side::A, 9),
+    Row::ReleaseAgain(0, 0, Err(21)),
+    Row::ReleaseAgain(9, 0, Err(20)),
+    Row::Entries(Side::A, 9),
+];
+
+#[test]
+fn releases_what_is_left(rt: HostRuntime) {
+    plays(&rt, rt.alloc(), &RELEASED_AGAIN);
+}
+
 // The peer's commitment with the HTLC is its next one, until
 // the peer revokes the first, whose penalties are then kept.
 const KNOWN: [Row; 11] = [

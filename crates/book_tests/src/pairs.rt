@@ -11,6 +11,7 @@ use lists::List;
 use std::alloc::Global;
 use std::process::Abort;
 use terms::Side;
+use tx::OutPoint;
 use updates::{OwnUpdate, Revocation};
 
 // The books, and the newest revocation that B's sent. At first this is a secret of zeros.
@@ -25,6 +26,15 @@ pub(crate) struct Pair {
 // The claims of B's commitment 0 once it is revoked by this secret.
 pub(crate) fn first_claims(rt: &impl Abort, alloc: Global, secret: [u8; 32]) -> List<Claim> {
     List::from_vec(penalties_of(rt, alloc, FIRST, 0, secret).into_claims())
+}
+
+// The outputs that these claims are on.
+fn outpoints_of(rt: &impl Abort, alloc: Global, secret: [u8; 32]) -> Vec<OutPoint> {
+    let mut outpoints = Vec::new(alloc);
+    for claim in first_claims(rt, alloc, secret).values() {
+        outpoints.push(claim.outpoint()).expect(rt, "memory");
+    }
+    outpoints
 }
 
 // These claims, to be filled without outputs.
@@ -154,6 +164,22 @@ impl Pair {
         let claims = first_claims(rt, self.alloc, self.came.secret);
         let batch = batch_of(rt, self.alloc, claims);
         self.a.release_twice(2, 0, batch).err()
+    }
+
+    // How many inputs A's book fills again of an entry, or the number of its refusal. The first of the claims on B's commitment 0 are on outputs that were spent.
+    pub(crate) fn release_again(
+        &mut self,
+        rt: &impl Abort,
+        entry: u64,
+        spent: usize,
+    ) -> Result<usize, u8> {
+        let mut outpoints = outpoints_of(rt, self.alloc, self.came.secret);
+        outpoints.truncate(spent);
+        let none = List::new(self.alloc);
+        match self.a.release_again(4, entry, outpoints.as_slice(), none) {
+            Ok(filled) => Ok(filled.tx().inputs().len()),
+            Err(refusal) => Err(refusal.number()),
+        }
     }
 
     // The number of these claims that a signer fills outside of a book.

@@ -61,6 +61,8 @@ pub(crate) enum Row {
     Release(bool),
     /// The same, and the transaction is handed out twice.
     ReleaseTwice(bool),
+    /// A releases again what is left of an entry of its book, where so many of the claims' outputs were spent. The answer is the number of inputs, or that of the refusal.
+    ReleaseAgain(u64, usize, Result<usize, u8>),
     /// The channel's signer fills this number of claims.
     FilledByChannel(usize),
     /// A signer that knows only the seed has no right to a key.
@@ -191,6 +193,7 @@ fn is_answered(rt: &impl Abort, alloc: Global, pair: &mut Pair, row: &Row) -> bo
         }
         Row::Release(wanted) => is_released(pair.release(rt), wanted),
         Row::ReleaseTwice(wanted) => is_released(pair.release_twice(rt), wanted),
+        Row::ReleaseAgain(entry, spent, wanted) => pair.release_again(rt, entry, spent) == wanted,
         _ => is_shown(rt, alloc, pair, row),
     }
 }
