@@ -8,7 +8,7 @@ export BOUNDS
 trap 'rm -f "$BOUNDS"' EXIT
 .ci/program --all || exit 1
 failed=()
-for benchmark in ripemd160.sh costs.sh instances.py commitments.py channels.py penalties.py books.py growth.py worlds.py scenarios.py looks.py calls.py; do
+for benchmark in ripemd160.sh costs.sh instances.py commitments.py least.py channels.py penalties.py books.py growth.py worlds.py scenarios.py looks.py calls.py; do
   echo "== bench/$benchmark"
   "bench/$benchmark" || failed+=("bench/$benchmark")
 done

@@ -1,6 +1,6 @@
 -- Where a balance is there, and where it is not: a satoshi less, a fee counted twice, an output that is counted twice, one that is lost, a commitment that is not ready, and a funding output that somebody else took.
 use Rattle.std.proofs.Common.{◌≡◌, ◌≢◌, ℕ, ◌+◌, ◌*◌, ◌<◌, ◌≤◌, Bool, true, false, List, [], ◌∷◌, Some, None, sym, ap, ◌∙◌, refl, subst, arith, lit<}
-use Rattle.std.specs.Prelude.{slice_get, sum_by}
+use Rattle.std.specs.Prelude.{◌↔◌, slice_get, sum_by}
 use Rattle.std.specs.List.{Contains, AllPairs}
 use Rattle.std.proofs.lemmas.Bool.{true≢false}
 use Rattle.std.proofs.lemmas.Option.{same_Some}
@@ -11,7 +11,7 @@ use Rattle.chain.specs.Blocks.{Contents as Block, Coin, coin_at}
 use Rattle.terms.specs.declared.amounts.TheConstants.{MSAT_PER_SAT}
 use Rattle.terms.specs.declared.htlcs.Htlc.{Htlc}
 use Rattle.commit.specs.declared.outputs.HtlcOutput.{HtlcOutput}
-use Rattle.commit.specs.Commitments.{Contents, transaction_of, htlcs_from, htlcs_of}
+use Rattle.commit.specs.Commitments.{Contents, transaction_of, htlcs_from, htlcs_of, htlc_tx_of}
 use Rattle.penalty.specs.Claimable.{Claimable, claims_by}
 use Rattle.penalty.specs.Worth.{stage_on, staged, value_of, fee_with, fees_with}
 use Rattle.channel.specs.declared.commitments.CommitmentState.{CommitmentState}
@@ -55,7 +55,7 @@ module _ (h : Holding) (known : Htlc → Bool) (o p : Claimable) (three : o.plac
 
   module _ (Held : Claimable → Type 0) where
     -- yes: AreWorth
-    both_held : o.place.outpoint ≢ p.place.outpoint → at_least_sat known h.state ≤ 8 → ((x : Claimable) → Contains two x → Held x) → AreWorth h known two 1 9005 off Held
+    both_held : o.place.outpoint ≢ p.place.outpoint → at_least_sat known h.state ≤ 7 → ((x : Claimable) → Contains two x → Held x) → AreWorth h known two 1 9005 off Held
     both_held n l f = record { apart = pair_apart n; worth = (let e = value in omega (arith, e)); least = (let e = value in omega (arith, e, l)); each = f }
 
     -- no: AreWorth
@@ -70,8 +70,9 @@ module _ (h : Holding) (known : Htlc → Bool) (o p : Claimable) (three : o.plac
     fee_counted_twice : AreWorth h known two 2 9005 off Held → ⊥
     fee_counted_twice w = let e = value in let f = w.worth in omega (arith, e, f)
 
+    -- with the fee they would be worth it
     -- no: AreWorth
-    above_the_least : at_least_sat known h.state ≡ 9 → AreWorth h known two 1 9005 off Held → ⊥
+    above_the_least : at_least_sat known h.state ≡ 8 → AreWorth h known two 1 9005 off Held → ⊥
     above_the_least l w = let e = value in let f = w.least in omega (arith, e, f, l)
 
     -- no: AreWorth
@@ -175,6 +176,22 @@ module _ (h : Holding) (known : Htlc → Bool) (k : CommitmentState) (none : (co
     -- no: HasOwnShare
     has_no_own_share : deducted_msat (deductions (terms_in h) k.view true h.state.held.side known) + MSAT_PER_SAT ≡ counted_msat known h.state.held.side k.view → HasOwnShare hs blocks h known k → ⊥
     has_no_own_share e a = satoshi_of_the_share_is_gone (λ o. OwnResolution hs blocks (IsOwnPaidOrLate c o) o) a.stands true e a.claims
+
+-- ---- an HTLC transaction that stands
+
+stands_there : (A B : Type 0) → A ↔ B → B → A
+stands_there A B e b = e.1 b
+
+module _ (hs : List Holding) (blocks : List Block) (h : Holding) (known : Htlc → Bool) (k : CommitmentState) (x : HtlcOutput) (among : Contains (htlcs_of (contents_of (terms_in h) k)) x)
+    (there : IsOnChain blocks (htlc_tx_of (contents_of (terms_in h) k) x)) where
+  -- its output takes the place of the HTLC's
+  -- no: HasAll
+  first_stage_of_penalties : (a : HasAll hs blocks h known k) → a.stands x.index ≡ false → ⊥
+  first_stage_of_penalties a e = true≢false (sym (stands_there (a.stands x.index ≡ true) (IsOnChain blocks (htlc_tx_of (contents_of (terms_in h) k) x)) (a.those x among) there) ∙ e)
+
+  -- no: HasOwnShare
+  first_stage_of_own : (a : HasOwnShare hs blocks h known k) → a.stands x.index ≡ false → ⊥
+  first_stage_of_own a e = true≢false (sym (stands_there (a.stands x.index ≡ true) (IsOnChain blocks (htlc_tx_of (contents_of (terms_in h) k) x)) (a.those x among) there) ∙ e)
 
 -- ---- before a close
 

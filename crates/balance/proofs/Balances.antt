@@ -99,13 +99,13 @@ module _ (order : ThereIsOneOrder) (shares : SharesAreWorth) (all : AllIsTheCapa
         claims = record {
           apart = r.apart;
           worth = subst (IsLess (MSAT_PER_SAT * (terms_in h).capacity_sat) (all_deductions (terms_in h) k.view (peer_in h))) (sym worth) (all_outputs all (terms_in h) (peer_in h) n k (kept.numbered.signed.each n k there));
-          least = subst (λ (m : ℕ). at_least_sat known h.state ≤ m) (sym worth) (whichever.least known h.state k (revoked n l there));
+          least = whichever.least known r.stands h.state k (revoked n l there);
           each = r.each;
         };
       }
 
   has_share : (hs : List Holding) (blocks : List Block) (h : Holding) → KeepsRules h → (known : Htlc → Bool) (n : ℕ) (k : CommitmentState) → slice_get h.state.signed n ≡ Some k
-      → PeersHold hs blocks h k → at_least_sat known h.state ≤ counted_sat false known (contents_of (terms_in h) k).outputs → HasShare hs blocks h known k
+      → PeersHold hs blocks h k → at_least_sat known h.state ≤ value_of (counted false known no_stage (contents_of (terms_in h) k)) → HasShare hs blocks h known k
   has_share hs blocks h kept known n k there p least =
       let c = contents_of (terms_in h) k in
       let worth : value_of (counted false known no_stage c) + 0 ≡ counted_sat false known c.outputs = counted_worth order (terms_in h) k.view k.owner k.number k.point.bytes false known no_stage in
@@ -113,15 +113,15 @@ module _ (order : ThereIsOneOrder) (shares : SharesAreWorth) (all : AllIsTheCapa
         apart = counted_apart known c;
         worth = subst (IsLess (counted_msat known h.state.held.side k.view) (deductions (terms_in h) k.view false h.state.held.side known)) (sym worth)
             (share_of shares (terms_in h) false h.state.held.side k known (kept.numbered.signed.each n k there).owner);
-        least = subst (λ (m : ℕ). at_least_sat known h.state ≤ m) (sym worth) least;
+        least = least;
         each = λ o i. p.claims o (is_peers known c o i);
       }
 
   of_which : (hs : List Holding) (blocks : List Block) (h : Holding) → KeepsRules h → (known : Htlc → Bool) (k : CommitmentState) → IsOnChain blocks (transaction_of (contents_of (terms_in h) k)) → PeersHold hs blocks h k
       → IsOfPeers h.state k → BalanceIsThere hs blocks h known
   of_which hs blocks h kept known k on p (revoked_one n l there) = by_revoked n k l there (kept.revealed n k l there) on (has_all hs blocks h kept known n k l there p)
-  of_which hs blocks h kept known k on p (newest_one there) = by_newest k there on (has_share hs blocks h kept known h.state.peer_number k there p (whichever.least known h.state k (newest there)))
-  of_which hs blocks h kept known k on p (next_one e there) = by_next k e there on (has_share hs blocks h kept known (h.state.peer_number + 1) k there p (whichever.least known h.state k (next e there)))
+  of_which hs blocks h kept known k on p (newest_one there) = by_newest k there on (has_share hs blocks h kept known h.state.peer_number k there p (whichever.least known no_stage h.state k (newest there)))
+  of_which hs blocks h kept known k on p (next_one e there) = by_next k e there on (has_share hs blocks h kept known (h.state.peer_number + 1) k there p (whichever.least known no_stage h.state k (next e there)))
 
   -- ---- of the node's own newest
 
@@ -129,7 +129,7 @@ module _ (order : ThereIsOneOrder) (shares : SharesAreWorth) (all : AllIsTheCapa
   has_newest blocks h kept known ready = record {
     ready = ready;
     worth = share_of shares (terms_in h) true h.state.held.side ready.newest known (kept.numbered.mine.each h.state.number ready.newest ready.recorded).owner;
-    least = whichever.least known h.state ready.newest (own ready.recorded);
+    least = whichever.given known h.state ready.newest (own ready.recorded);
   }
 
   -- what is said where the node's own newest commitment closed the channel

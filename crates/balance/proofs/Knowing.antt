@@ -2,17 +2,21 @@
 use Rattle.std.proofs.Common.{◌≡◌, ℕ, ◌+◌, ◌≤◌, min, Bool, true, false, List, [], ◌∷◌, ◌++◌, map, take, drop, refl, arith}
 use Rattle.std.specs.Prelude.{if◌then◌else◌}
 use Rattle.std.proofs.lemmas.Bool.{false≢true}
-use Rattle.std.proofs.lemmas.List.Sums.{sum_by-cons}
+use Rattle.std.proofs.lemmas.List.Sums.{sum_by-cons, sum_by-append}
 use Rattle.terms.specs.declared.htlcs.Htlc.{Htlc}
 use Rattle.commit.specs.declared.fees.Direction.TheVariants.{Offered, Received}
 use Rattle.commit.specs.declared.outputs.OutputKind.{OutputKind}
 use Rattle.commit.specs.declared.outputs.OutputKind.TheVariants.{ToLocal, ToRemote, ToHtlc}
 use Rattle.commit.specs.declared.outputs.CommitmentOutput.{CommitmentOutput}
+use Rattle.commit.specs.Commitments.{Contents, tx_output, transaction_of}
+use Rattle.penalty.specs.Claimable.{Claimable, place_in, claims_by}
+use Rattle.penalty.specs.Worth.{value_of}
 use Rattle.channel.specs.declared.commitments.CommitmentState.{CommitmentState}
 use Rattle.channel.specs.States.{State}
 use Rattle.channel.specs.Tokens.{contents_of}
 use Rattle.worth.specs.Shares.{counts_on, counted_sat, none_known}
-use Rattle.worth.specs.Least.{own_sat, peers_sat, revoked_sat, least, at_least_sat}
+use Rattle.worth.specs.Counted.{claim_on, counted_on}
+use Rattle.worth.specs.Least.{own_left_sat, peers_sat, revoked_left_sat, least, at_least_sat}
 use Rattle.worth.proofs.Shares.{worth_on, worth_in, filtered}
 use Rattle.balance.specs.Knowing.{KnowsMore, MoreIsNotLess}
 
@@ -50,6 +54,28 @@ outputs_more known more k own os =
     let l = worth_more known more k own os in
     omega (arith, a, b, l)
 
+-- ---- the claims on them
+
+if_claimed : (a b : Bool) (os xs ys : List Claimable) → (a ≡ true → b ≡ true) → value_of xs ≤ value_of ys → value_of ((if a then os else []) ++ xs) ≤ value_of ((if b then os else []) ++ ys)
+if_claimed true true os xs ys f l = both _ _ _ _ _ (sum_by-append (λ (o : Claimable). o.place.value) os xs) (sum_by-append (λ (o : Claimable). o.place.value) os ys) l
+  where
+    both : (s t n u v : ℕ) → s ≡ n + u → t ≡ n + v → u ≤ v → s ≤ t
+    both s t n u v e f l = omega (arith, e, f, l)
+if_claimed true false os xs ys f l = absurd (false≢true (f refl))
+if_claimed false true os xs ys f l = let e = sum_by-append (λ (o : Claimable). o.place.value) os ys in omega (arith, e, l)
+if_claimed false false os xs ys f l = l
+
+claims_more : (known more : Htlc → Bool) → KnowsMore known more → (own : Bool) (stands : ℕ → Bool) (c : Contents) (index : ℕ) (os : List CommitmentOutput)
+    → value_of (claims_by (counted_on own known stands c) c index os) ≤ value_of (claims_by (counted_on own more stands c) c index os)
+unfolding claims_by
+claims_more known more k own stands c index [] = omega arith
+claims_more known more k own stands c index (o ∷ os) =
+    if_claimed (counts_on own known o.kind) (counts_on own more o.kind) (claim_on own stands c index (place_in (transaction_of c) index (tx_output o)) o.kind) (claims_by (counted_on own known stands c) c (index + 1) os)
+    (claims_by (counted_on own more stands c) c (index + 1) os) (counts_more known more k own o.kind) (claims_more known more k own stands c (index + 1) os)
+
+left_more : (known more : Htlc → Bool) → KnowsMore known more → (s : State) (k : CommitmentState) → own_left_sat known s k ≤ own_left_sat more s k
+left_more known more m s k = let c = contents_of s.held.terms k in claims_more known more m true (λ _. true) c 0 c.outputs
+
 -- ---- the least of them
 
 -- as many numbers, each at least that at its place
@@ -78,12 +104,12 @@ least_more known other k s =
     let mine = drop s.number s.mine in
     let newer = drop s.peer_number s.signed in
     let older = take s.peer_number s.signed in
-    least_above ((map (own_sat known s) mine ++ map (peers_sat known s) newer) ++ map (revoked_sat s) older) ((map (own_sat other s) mine ++ map (peers_sat other s) newer) ++ map (revoked_sat s) older)
-    (joined_above (map (own_sat known s) mine ++ map (peers_sat known s) newer) (map (own_sat other s) mine ++ map (peers_sat other s) newer) (map (revoked_sat s) older) (map (revoked_sat s) older)
-    (joined_above (map (own_sat known s) mine) (map (own_sat other s) mine) (map (peers_sat known s) newer) (map (peers_sat other s) newer)
-    (mapped_above (own_sat known s) (own_sat other s) (λ (c : CommitmentState). outputs_more known other k true (contents_of s.held.terms c).outputs) mine)
+    least_above ((map (own_left_sat known s) mine ++ map (peers_sat known s) newer) ++ map (revoked_left_sat s) older) ((map (own_left_sat other s) mine ++ map (peers_sat other s) newer) ++ map (revoked_left_sat s) older)
+    (joined_above (map (own_left_sat known s) mine ++ map (peers_sat known s) newer) (map (own_left_sat other s) mine ++ map (peers_sat other s) newer) (map (revoked_left_sat s) older) (map (revoked_left_sat s) older)
+    (joined_above (map (own_left_sat known s) mine) (map (own_left_sat other s) mine) (map (peers_sat known s) newer) (map (peers_sat other s) newer)
+    (mapped_above (own_left_sat known s) (own_left_sat other s) (left_more known other k s) mine)
     (mapped_above (peers_sat known s) (peers_sat other s) (λ (c : CommitmentState). outputs_more known other k false (contents_of s.held.terms c).outputs) newer))
-    (mapped_above (revoked_sat s) (revoked_sat s) (λ (c : CommitmentState). omega arith) older))
+    (mapped_above (revoked_left_sat s) (revoked_left_sat s) (λ (c : CommitmentState). omega arith) older))
 
 pub more_is_not_less : MoreIsNotLess
 more_is_not_less = record { outputs = outputs_more; least = least_more }

@@ -1,5 +1,5 @@
 -- What a node has of its own newest commitment that closed the channel.
-use Rattle.std.proofs.Common.{◌≡◌, ℕ, ◌+◌, ◌≤◌, Bool, true, List, sym, refl, subst}
+use Rattle.std.proofs.Common.{◌≡◌, ℕ, ◌+◌, Bool, true, List, sym, refl, subst}
 use Rattle.std.specs.Prelude.{if◌then◌else◌}
 use Rattle.std.specs.List.{Contains}
 use Rattle.chain.specs.Blocks.{Contents as Block}
@@ -14,7 +14,7 @@ use Rattle.penalty.specs.Worth.{value_of}
 use Rattle.resolve.specs.Due.{delayed_on, second_stage_on, delayed_second_stage}
 use Rattle.worth.specs.Shares.{counts_on, counted_msat, counted_sat, deductions, IsLess, SharesAreWorth, AllIsTheCapacity}
 use Rattle.worth.specs.Counted.{counted_on, counted, fees_counted}
-use Rattle.worth.specs.Least.{own, at_least_sat, WhicheverCloses}
+use Rattle.worth.specs.Least.{own, WhicheverCloses}
 use Rattle.worth.proofs.Counted.{counted_worth}
 use Rattle.safety.specs.Holdings.{Holding, terms_in, KeepsRules}
 use Rattle.safety.specs.Places.{place_at, IsAt}
@@ -68,7 +68,7 @@ own_are_resolved order shares whichever hs blocks v unrevoked h held rules k the
         apart = own_apart hs blocks s known;
         worth = subst (IsLess (counted_msat known h.state.held.side k.view) (deductions (terms_in h) k.view true h.state.held.side known)) (sym worth)
             (share_of shares (terms_in h) true h.state.held.side k known (kept.numbered.mine.each h.state.number k there).owner);
-        least = subst (λ (m : ℕ). at_least_sat known h.state ≤ m) (sym worth) (whichever.least known h.state k (own there));
+        least = whichever.least known stands h.state k (own there);
         each = λ o i. each_own hs blocks s known o i;
       };
     }

@@ -5,7 +5,8 @@ use Rattle.std.specs.List.{Contains}
 use Rattle.std.proofs.lemmas.Bool.{true≢false}
 use Rattle.std.proofs.lemmas.Option.{same_Some}
 use Rattle.sha2.specs.Sha256.{sha256}
-use Rattle.digest.specs.Hash.{Collide}
+use Rattle.digest.specs.Hash.{hash160, Collide}
+use Rattle.digest.specs.Ripemd160.{ripemd160}
 use Rattle.tx.specs.declared.input.TxIn.{TxIn}
 use Rattle.tx.specs.Fields.{Transaction}
 use Rattle.chain.specs.Blocks.{Contents as Block, Coin, coin_at}
@@ -20,11 +21,13 @@ use Rattle.channel.specs.declared.commitments.CommitmentState.{CommitmentState}
 use Rattle.channel.specs.Points.{point_at}
 use Rattle.channel.specs.Tokens.{contents_of}
 use Rattle.safety.specs.Signing.{Signed}
+use Rattle.safety.specs.Spending.{ItemCollides}
 use Rattle.safety.specs.Whereabouts.{IsNamedBy, IsCoinOf}
 use Rattle.safety.specs.Holdings.{Holding, terms_in, peer_in}
-use Rattle.safety.specs.Breaks.{IsSpendOn, Breaks, by_strings, by_script, by_key, by_digest, by_preimage}
+use Rattle.safety.specs.Breaks.{IsSpendOn, IsHashOfItem, Breaks, by_strings, by_script, by_key, by_digest, by_preimage}
 use Rattle.safety.specs.Resolutions.{WasReleased, ShowsPreimage, IsOnHtlc}
 use Rattle.safety.proofs.Lists.{contains_none}
+use Rattle.safety.proofs.Places.{contains_one}
 use Rattle.balance.specs.OwnBreaks.{IsOwnNewest, IsHashedForHtlcKey, IsOwnPaymentHash, OwnBreaks, by_breaks, by_htlc_keys, by_revocation_key, by_own_preimage}
 use Rattle.balance.specs.Own.{KeepsOwnRules, IsOwnPaidOrLate, paid, late, OwnResolution, unspent, ours, lost, broken}
 use Rattle.balance.specs.Times.{IsTakenBelow, DelayIsKept, ExpiryIsKept, IsPaid}
@@ -51,6 +54,22 @@ module _ (hs : List Holding) (h : Holding) (k m : CommitmentState) (mine : h.sta
   -- yes: IsOwnPaymentHash
   hash_of_one : Contains hs h → (x : HtlcOutput) → Contains (htlcs_of (contents_of (terms_in h) m)) x → IsOwnPaymentHash hs x.htlc.hash
   hash_of_one i x j = record { holding = h; commitment = m; newest = second_is_newest i; htlc = x; among = j; is = refl }
+
+  -- its one HTLC, of the node's one channel
+  module _ (one : hs ≡ h ∷ []) (x : HtlcOutput) (only : htlcs_of (contents_of (terms_in h) m) ≡ x ∷ []) where
+    is_only : (g : Holding) → g ≡ h → (c : CommitmentState) → slice_get g.state.mine g.state.number ≡ Some c → (y : HtlcOutput) → Contains (htlcs_of (contents_of (terms_in g) c)) y → y ≡ x
+    is_only g e c at y i =
+        let same : c ≡ m = same_Some c m (sym at ∙ ap (λ (f : Holding). slice_get f.state.mine f.state.number) e ∙ at_number) in
+        let all : htlcs_of (contents_of (terms_in g) c) ≡ x ∷ [] =
+        ap (λ (f : Holding). htlcs_of (contents_of (terms_in f) c)) e ∙ ap (λ (d : CommitmentState). htlcs_of (contents_of (terms_in h) d)) same ∙ only in
+        contains_one x y (subst (λ (ys : List HtlcOutput). Contains ys y) all i)
+
+    -- no: IsOwnPaymentHash
+    another_hash : (hash : List ℕ) → hash ≢ x.htlc.hash → IsOwnPaymentHash hs hash → ⊥
+    another_hash hash n p =
+        let e : p.holding ≡ h = contains_one h p.holding (subst (λ (gs : List Holding). Contains gs p.holding) one p.newest.held) in
+        let is = is_only p.holding e p.commitment p.newest.recorded p.htlc p.among in
+        n (p.is ∙ ap (λ (y : HtlcOutput). y.htlc.hash) is)
 
 -- no: IsOwnNewest
 of_no_channel : (h : Holding) (k : CommitmentState) → IsOwnNewest [] h k → ⊥
@@ -95,6 +114,25 @@ unbroken blocks (by_breaks z) = unbroken_peers blocks z
 unbroken blocks (by_htlc_keys c) = of_no_channel c.of_first.holding c.of_first.commitment c.of_first.newest
 unbroken blocks (by_revocation_key s on h k n c) = nothing_spent blocks s on
 unbroken blocks (by_own_preimage s on c) = nothing_spent blocks s on
+
+module _ (hs : List Holding) (blocks : List Block) where
+  -- yes: OwnBreaks
+  item_for_revocation_key : (s : Signed) → IsSpendOn hs blocks s → (h : Holding) (k : CommitmentState) → IsOwnNewest hs h k → ItemCollides hash160 (contents_of (terms_in h) k).keys.revocation s.input.witness → OwnBreaks hs blocks
+  item_for_revocation_key s on h k n c = by_revocation_key s on h k n c
+
+  -- yes: OwnBreaks
+  hash_for_payment_hash : (s : Signed) → IsSpendOn hs blocks s → (item hash : List ℕ) → Contains s.input.witness item → IsOwnPaymentHash hs hash → Collide ripemd160 (sha256 item) hash → OwnBreaks hs blocks
+  hash_for_payment_hash s on item hash i p c = by_own_preimage s on (record { first = sha256 item; second = hash; of_first = (item, i, refl); of_second = p; collide = c })
+
+  -- a witness shows the revocation key itself, and the very preimage; both HTLC keys are one
+  -- no: OwnBreaks
+  the_strings_are_one : (Breaks hs blocks → ⊥) → ((a b : List ℕ) → IsHashedForHtlcKey hs a → IsHashedForHtlcKey hs b → a ≡ b)
+      → ((s : Signed) → IsSpendOn hs blocks s → (h : Holding) (k : CommitmentState) → IsOwnNewest hs h k → (item : List ℕ) → Contains s.input.witness item → item ≡ (contents_of (terms_in h) k).keys.revocation)
+      → ((s : Signed) → IsSpendOn hs blocks s → (a b : List ℕ) → IsHashOfItem s.input.witness a → IsOwnPaymentHash hs b → a ≡ b) → OwnBreaks hs blocks → ⊥
+  the_strings_are_one whole keys items hashes (by_breaks z) = whole z
+  the_strings_are_one whole keys items hashes (by_htlc_keys c) = c.collide.0 (keys c.first c.second c.of_first c.of_second)
+  the_strings_are_one whole keys items hashes (by_revocation_key s on h k n c) = c.collide.0 (items s on h k n c.first c.of_first ∙ sym c.of_second)
+  the_strings_are_one whole keys items hashes (by_own_preimage s on c) = c.collide.0 (hashes s on c.first c.second c.of_first c.of_second)
 
 -- ---- the rules of a channel that its side closes
 

@@ -14,12 +14,12 @@ use Rattle.safety.specs.Holdings.{Holding, terms_in, peer_in}
 
 -- Below, of the HTLCs that were offered to the node it counts on those that are `known`: it has the preimage. And `stands` says of an output's index whether the HTLC transaction that spends the output is on the chain.
 
--- No two claims are at one outpoint. With the fees of the HTLC transactions that stand they are worth an amount, less deductions; and they are worth what could be read before the close at the least. And of each of
--- them it holds what became of it
+-- No two claims are at one outpoint. With the fees of the HTLC transactions that stand they are worth an amount, less deductions; and without these fees they are worth what could be read before the close at the least.
+-- And of each of them it holds what became of it
 pub record AreWorth (h : Holding) (known : Htlc → Bool) (claims : List Claimable) (fees_sat whole_msat : ℕ) (d : Deductions) (BecameOf : Claimable → Type 0) : Type 0 where
   pub apart : AllPairs (λ o p. o.place.outpoint ≢ p.place.outpoint) claims
   pub worth : IsLess whole_msat d (value_of claims + fees_sat)
-  pub least : at_least_sat known h.state ≤ value_of claims + fees_sat
+  pub least : at_least_sat known h.state ≤ value_of claims
   pub each : (o : Claimable) → Contains claims o → BecameOf o
 
 -- Of a commitment that the peer revoked: a penalty for each output or, where its HTLC transaction stands, for the output of that. They are worth the capacity, less the deductions of both sides

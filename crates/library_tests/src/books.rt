@@ -6,6 +6,7 @@ use book::{Book, Step};
 use book_dump::Dump;
 use book_peers::{offer, open_side};
 use channel::Message;
+use least::{KnownPreimages, at_least_sat};
 use penalty::penalties;
 use std::alloc::Global;
 use std::io::Write;
@@ -65,6 +66,17 @@ fn take(book: &mut Book, message: Message) -> Result<Option<Message>, StepError>
     }
 }
 
+/// The least that the node has of a channel of its book, in satoshis, whichever commitment closes it. `None` if there is no such channel.
+fn least_in(alloc: Global, book: &Book, channel: u64) -> Result<Option<u64>> {
+    let Some(open) = book.channel(channel) else {
+        return Ok(None);
+    };
+    let preimages = Vec::from_slice(alloc, book.preimages(channel))?;
+    let mut known = KnownPreimages::from_vec(preimages);
+    known.index()?;
+    Ok(Some(at_least_sat(alloc, open, &known)?))
+}
+
 // A's book offers an HTLC.
 fn offered(rt: &impl Abort, a: &mut Book, expiry_height: u32) -> Message {
     let step = Step::Own(offer(1_000_000, expiry_height));
@@ -106,6 +118,14 @@ fn signs_once_penalties_are_kept(rt: HostRuntime) {
     let mut a = opened(&rt, rt.alloc(), Side::A);
     played(&rt, rt.alloc(), &mut a, &mut Vec::new(rt.alloc()));
     assert!(rt; guards(&rt, rt.alloc(), &mut a));
+}
+
+// Of 100,000 satoshis A has 80,000, and pays the fee of its peer's commitments and its own.
+#[test]
+fn tells_the_least_of_a_channel(rt: HostRuntime) {
+    let a = opened(&rt, rt.alloc(), Side::A);
+    assert!(rt; least_in(rt.alloc(), &a, 0).ok() == Some(Some(79_276)));
+    assert!(rt; least_in(rt.alloc(), &a, 1).ok() == Some(None));
 }
 
 // How many entries are loaded from a text that was kept.

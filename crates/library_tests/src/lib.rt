@@ -3,7 +3,7 @@
 //!
 //! Each block of code of `docs/LIBRARY.md` stands here word for word, but the one on threads, which `desk_tests` has.
 //!
-//! The calls are of `paths`, `claim`, `filling`, `channel`, `book`, `book_dump` and `watch`, and `book_peers` makes the peers.
+//! The calls are of `paths`, `claim`, `filling`, `channel`, `book`, `book_dump`, `least` and `watch`, and `book_peers` makes the peers.
 #![tactic(auto)]
 
 #[cfg(test)]

@@ -21,7 +21,7 @@ use Rattle.worth.specs.Bounds.{htlc_count, AreAtMost, DeductionsAreBounded, AllA
 
 -- ---- fees
 
-more_fee : (weight feerate more higher : ℕ) → weight ≤ more → feerate ≤ higher → fee_sat_of weight feerate ≤ fee_sat_of more higher
+pub more_fee : (weight feerate more higher : ℕ) → weight ≤ more → feerate ≤ higher → fee_sat_of weight feerate ≤ fee_sat_of more higher
 more_fee weight feerate more higher l m = let p = mul-le weight feerate more higher l m in divided _ _ p
   where
     divided : (a b : ℕ) → a ≤ b → a / 1000 ≤ b / 1000
@@ -65,7 +65,7 @@ below value limit_sat more l = by (nat_lt value limit_sat) refl
 
 -- ---- HTLCs without an output
 
-lighter : (direction : Direction) → htlc_weight direction ≤ htlc_weight Received
+pub lighter : (direction : Direction) → htlc_weight direction ≤ htlc_weight Received
 lighter Offered = omega arith
 lighter Received = omega arith
 

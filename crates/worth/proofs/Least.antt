@@ -1,5 +1,5 @@
 -- Whichever commitment closes a channel, it gives the side what it is worth, and the least at least.
-use Rattle.std.proofs.Common.{◌≡◌, ℕ, zero, suc, ◌+◌, ◌*◌, ◌<◌, ◌≤◌, min, Bool, true, false, List, [], ◌∷◌, ◌++◌, map, take, drop, Some, None, sym, subst, arith}
+use Rattle.std.proofs.Common.{◌≡◌, ℕ, zero, suc, ◌+◌, ◌*◌, ◌<◌, ◌≤◌, min, Bool, true, false, List, [], ◌∷◌, ◌++◌, map, take, drop, Some, None, refl, sym, subst, arith}
 use Rattle.std.specs.Prelude.{slice_get}
 use Rattle.std.specs.List.{AllByRecursion}
 use Rattle.terms.specs.declared.htlcs.Htlc.{Htlc}
@@ -8,6 +8,7 @@ use Rattle.terms.specs.declared.agreement.Terms.{Terms}
 use Rattle.terms.specs.Sides.{other}
 use Rattle.commit.specs.Order.{ThereIsOneOrder}
 use Rattle.commit.specs.Commitments.{commitment_of}
+use Rattle.penalty.specs.Worth.{value_of}
 use Rattle.channel.specs.declared.commitments.CommitmentState.{CommitmentState}
 use Rattle.channel.specs.Numbered.{IsNumbered}
 use Rattle.channel.specs.States.{Signing, State}
@@ -16,9 +17,10 @@ use Rattle.channel.specs.Recording.{SidesNumber}
 use Rattle.channel.specs.Tokens.{contents_of}
 use Rattle.worth.specs.Shares.{owner_by, counted_msat, counted_sat, values_sat, deductions, all_deductions, IsLess, SharesAreWorth, AllIsTheCapacity}
 use Rattle.worth.specs.Bounds.{AreAtMost, IsWithin, DeductionsAreBounded, AllAreBounded}
-use Rattle.worth.specs.Least.{MayClose, revoked, newest, next, own, own_sat, peers_sat, revoked_sat, gives_sat, whole_msat, taken_off, most_off, claims_sat, least, at_least_sat, WhicheverCloses}
+use Rattle.worth.specs.Least.{MayClose, revoked, newest, next, own, peers_sat, gives_sat, whole_msat, taken_off, most_off, counted_by, fees_by, least, own_left_sat, revoked_left_sat, at_least_sat, WhicheverCloses}
 use Rattle.worth.proofs.Counted.{counted_worth}
 use Rattle.worth.proofs.Staged.{staged_worth}
+use Rattle.worth.proofs.Fees.{fewer_fees_with, fewer_fees_counted}
 
 -- ---- the least of a list
 
@@ -66,27 +68,59 @@ module _ (P : ℕ → Type 0) where
     of_earlier (suc n) (y ∷ ys) zero x l e a = subst (λ z. P (f z)) (some_is y x e) a.0
     of_earlier (suc n) (y ∷ ys) (suc i) x l e a = of_earlier n ys i x (omega (arith, l)) e a.1
 
-module _ (known : Htlc → Bool) (s : State) (k : CommitmentState) where
+-- ---- what can be claimed, whichever HTLC transactions stand
+
+-- with the fees of those that stand the claims are worth the outputs
+are_claimed : ThereIsOneOrder → (known : Htlc → Bool) (stands : ℕ → Bool) (s : State) (k : CommitmentState) (m : MayClose s k) → value_of (counted_by known stands s k m) + fees_by known stands s k m ≡ gives_sat known s k m
+are_claimed order known stands s k (revoked n l at) = staged_worth order s.held.terms k.view k.owner k.number k.point.bytes stands
+are_claimed order known stands s k (newest at) = counted_worth order s.held.terms k.view k.owner k.number k.point.bytes false known stands
+are_claimed order known stands s k (next e at) = counted_worth order s.held.terms k.view k.owner k.number k.point.bytes false known stands
+are_claimed order known stands s k (own at) = counted_worth order s.held.terms k.view k.owner k.number k.point.bytes true known stands
+
+fewer_fees : (known : Htlc → Bool) (stands : ℕ → Bool) (s : State) (k : CommitmentState) (m : MayClose s k) → fees_by known stands s k m ≤ fees_by known (λ _. true) s k m
+fewer_fees known stands s k (revoked n l at) = fewer_fees_with stands (contents_of s.held.terms k)
+fewer_fees known stands s k (newest at) = omega arith
+fewer_fees known stands s k (next e at) = omega arith
+fewer_fees known stands s k (own at) = fewer_fees_counted known stands (contents_of s.held.terms k)
+
+-- so they are worth the least where each stands
+left_at_least : ThereIsOneOrder → (known : Htlc → Bool) (stands : ℕ → Bool) (s : State) (k : CommitmentState) (m : MayClose s k) → value_of (counted_by known (λ _. true) s k m) ≤ value_of (counted_by known stands s k m)
+left_at_least order known stands s k m = by _ _ _ _ _ (are_claimed order known stands s k m) (are_claimed order known (λ _. true) s k m) (fewer_fees known stands s k m)
+  where
+    by : (value left fees most gives : ℕ) → value + fees ≡ gives → left + most ≡ gives → fees ≤ most → left ≤ value
+    by value left fees most gives e f l = omega (arith, e, f, l)
+
+module _ (order : ThereIsOneOrder) (known : Htlc → Bool) (s : State) (k : CommitmentState) where
   abbrev P : ℕ → Type 0
   P x = at_least_sat known s ≤ x
 
   abbrev mine : List ℕ
-  mine = map (own_sat known s) (drop s.number s.mine)
+  mine = map (own_left_sat known s) (drop s.number s.mine)
 
   abbrev newer : List ℕ
   newer = map (peers_sat known s) (drop s.peer_number s.signed)
 
   abbrev older : List ℕ
-  older = map (revoked_sat s) (take s.peer_number s.signed)
+  older = map (revoked_left_sat s) (take s.peer_number s.signed)
 
   every : AllByRecursion P ((mine ++ newer) ++ older)
   every = least_below ((mine ++ newer) ++ older)
 
-  is_least : (m : MayClose s k) → at_least_sat known s ≤ gives_sat known s k m
-  is_least (revoked n l at) = of_earlier P (revoked_sat s) s.peer_number s.signed n k l at (in_second P (mine ++ newer) older every)
-  is_least (newest at) = of_later P (peers_sat known s) s.peer_number s.signed s.peer_number k (omega arith) at (in_second P mine newer (in_first P (mine ++ newer) older every))
-  is_least (next e at) = of_later P (peers_sat known s) s.peer_number s.signed (s.peer_number + 1) k (omega arith) at (in_second P mine newer (in_first P (mine ++ newer) older every))
-  is_least (own at) = of_later P (own_sat known s) s.number s.mine s.number k (omega arith) at (in_first P mine newer (in_first P (mine ++ newer) older every))
+  -- of its peer's it claims all that the outputs are worth on which it counts
+  of_peers : (m : MayClose s k) → fees_by known (λ _. true) s k m ≡ 0 → P (gives_sat known s k m) → P (value_of (counted_by known (λ _. true) s k m))
+  of_peers m none l = let e = are_claimed order known (λ _. true) s k m in omega (arith, none, l, e)
+
+  is_left : (m : MayClose s k) → P (value_of (counted_by known (λ _. true) s k m))
+  is_left (revoked n l at) = of_earlier P (revoked_left_sat s) s.peer_number s.signed n k l at (in_second P (mine ++ newer) older every)
+  is_left (newest at) = of_peers (newest at) refl (of_later P (peers_sat known s) s.peer_number s.signed s.peer_number k (omega arith) at (in_second P mine newer (in_first P (mine ++ newer) older every)))
+  is_left (next e at) = of_peers (next e at) refl (of_later P (peers_sat known s) s.peer_number s.signed (s.peer_number + 1) k (omega arith) at (in_second P mine newer (in_first P (mine ++ newer) older every)))
+  is_left (own at) = of_later P (own_left_sat known s) s.number s.mine s.number k (omega arith) at (in_first P mine newer (in_first P (mine ++ newer) older every))
+
+is_least : ThereIsOneOrder → (known : Htlc → Bool) (stands : ℕ → Bool) (s : State) (k : CommitmentState) (m : MayClose s k) → at_least_sat known s ≤ value_of (counted_by known stands s k m)
+is_least order known stands s k m = let l = is_left order known s k m in let more = left_at_least order known stands s k m in omega (arith, l, more)
+
+is_given : ThereIsOneOrder → (known : Htlc → Bool) (s : State) (k : CommitmentState) (m : MayClose s k) → at_least_sat known s ≤ gives_sat known s k m
+is_given order known s k m = let l = is_left order known s k m in let e = are_claimed order known (λ _. true) s k m in omega (arith, l, e)
 
 -- ---- what each gives
 
@@ -132,11 +166,5 @@ module _ (shares : SharesAreWorth) (all : AllIsTheCapacity) (each : DeductionsAr
   are_bounded tokens_of s lived known k (own at) feerate_per_kw limit_sat w =
       each s.held.terms k.view true s.held.side known feerate_per_kw limit_sat (of_owner s.held.terms k s.held.side feerate_per_kw limit_sat (of_mine numbered tokens_of s lived s.number k at).owner w)
 
-  are_claimed : (tokens_of : Signing) (s : State) → IsLived tokens_of s → (known : Htlc → Bool) (stands : ℕ → Bool) (k : CommitmentState) (m : MayClose s k) → claims_sat known stands s k m ≡ gives_sat known s k m
-  are_claimed tokens_of s lived known stands k (revoked n l at) = staged_worth order s.held.terms k.view k.owner k.number k.point.bytes stands
-  are_claimed tokens_of s lived known stands k (newest at) = counted_worth order s.held.terms k.view k.owner k.number k.point.bytes false known stands
-  are_claimed tokens_of s lived known stands k (next e at) = counted_worth order s.held.terms k.view k.owner k.number k.point.bytes false known stands
-  are_claimed tokens_of s lived known stands k (own at) = counted_worth order s.held.terms k.view k.owner k.number k.point.bytes true known stands
-
   pub whichever_closes : WhicheverCloses
-  whichever_closes = record { worth = is_worth; bounded = are_bounded; claims = are_claimed; least = is_least }
+  whichever_closes = record { worth = is_worth; bounded = are_bounded; claims = are_claimed order; least = is_least order; given = is_given order }

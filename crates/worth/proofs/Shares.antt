@@ -19,12 +19,13 @@ use Rattle.commit.specs.declared.outputs.CommitmentOutput.{CommitmentOutput}
 use Rattle.commit.specs.declared.amounts.Amounts.{Amounts}
 use Rattle.commit.specs.Fees.{satoshis_of, is_trimmed_by}
 use Rattle.commit.specs.Amounts.{unless_dust, owed_sat_by, amounts_of}
-use Rattle.commit.specs.Sums.{millisatoshis_of, total_msat_of, worth_sat_of, dust_sat_of, rests_msat_of}
+use Rattle.commit.specs.Sums.{millisatoshis_of, total_msat_of, worth_sat_of, paid_out_sat, dust_sat_of, rests_msat_of}
 use Rattle.commit.specs.Keys.{KeyBytes, keys_of}
 use Rattle.commit.specs.Outputs.{htlc_output, to_local_output, to_remote_output, where_paid, outputs_of}
 use Rattle.commit.specs.Order.{in_order, ThereIsOneOrder}
 use Rattle.commit.specs.Commitments.{commitment_of}
 use Rattle.worth.specs.Shares.{counted_msat, counts_on, values_sat, counted_sat, direction_of_mine, direction_of_theirs, deductions, IsLess, SharesAreWorth, none_known, AllIsTheCapacity}
+use Rattle.worth.specs.Placed.{placed_sat, SharesArePlaced}
 
 -- ---- one list of HTLCs
 
@@ -129,21 +130,8 @@ parts own known ws xs ys zs =
     four : (w v u p q s t : ℕ) → w ≡ v + t → v ≡ u + s → u ≡ p + q → w ≡ p + q + (s + t)
     four _ _ _ _ _ _ _ a b c = omega (arith, a, b, c)
 
--- to_local of one's own commitment, else to_remote
-abbrev main_of : Bool → Amounts → Option ℕ
-main_of true a = a.to_local
-main_of false a = a.to_remote
-
-abbrev mine_of : Bool → Amounts → List Htlc
-mine_of true a = a.offered
-mine_of false a = a.received
-
-abbrev theirs_of : Bool → Amounts → List Htlc
-theirs_of true a = a.received
-theirs_of false a = a.offered
-
 in_amounts : (own : Bool) (known : Htlc → Bool) (delay_blocks : ℕ) (k : KeyBytes) (a : Amounts)
-    → worth_in own known (outputs_of delay_blocks k a) ≡ unwrap_or (main_of own a) 0 + worth_sat_of (mine_of own a) + worth_sat_of (filter known (theirs_of own a))
+    → worth_in own known (outputs_of delay_blocks k a) ≡ placed_sat own known a
 unfolding outputs_of
 in_amounts true known delay_blocks k a =
     summed _ _ _ _ _ _ _ _ (parts true known (map (htlc_output k Offered) a.offered) (map (htlc_output k Received) a.received) (where_paid (to_local_output delay_blocks k) a.to_local) (where_paid (to_remote_output k) a.to_remote))
@@ -160,8 +148,7 @@ in_amounts false known delay_blocks k a =
 
 -- in any order
 ordered : ThereIsOneOrder → (own : Bool) (known : Htlc → Bool) (terms : Terms) (view : View) (owner : Side) (n : ℕ) (point : List ℕ)
-    → counted_sat own known (commitment_of terms view owner n point).outputs
-    ≡ unwrap_or (main_of own (amounts_of terms view owner)) 0 + worth_sat_of (mine_of own (amounts_of terms view owner)) + worth_sat_of (filter known (theirs_of own (amounts_of terms view owner)))
+    → counted_sat own known (commitment_of terms view owner n point).outputs ≡ placed_sat own known (amounts_of terms view owner)
 unfolding commitment_of
 ordered law own known terms view owner n point =
     let os = outputs_of (party owner terms).delay_blocks (keys_of terms owner point) (amounts_of terms view owner) in
@@ -238,3 +225,20 @@ all_is_the_capacity law terms view owner n point whole =
         → 1000 * peers + (1000 * (fee-p + dust-p + trimmed-p) + rest-p) ≡ has-p → own + peers ≡ values → has-o + has-p ≡ total → total ≡ 1000 * capacity_sat
         → 1000 * values + (1000 * (fee-o + fee-p + (dust-o + dust-p) + (trimmed-o + trimmed-p)) + (rest-o + rest-p)) ≡ 1000 * capacity_sat
     summed _ _ _ _ _ _ _ _ _ _ _ _ _ _ _ a b c d e = omega (arith, a, b, c, d, e)
+
+-- ---- by amounts
+
+all_placed : (a : Amounts) → placed_sat true none_known a + placed_sat false none_known a ≡ paid_out_sat a
+all_placed a = summed _ _ _ _ _ _ (ap worth_sat_of (none_left a.received)) (ap worth_sat_of (none_left a.offered))
+  where
+    summed : (local remote offered received none-r none-o : ℕ) → none-r ≡ 0 → none-o ≡ 0 → local + offered + none-r + (remote + received + none-o) ≡ offered + received + (local + remote)
+    summed _ _ _ _ _ _ a b = omega (arith, a, b)
+
+pub shares_are_placed : ThereIsOneOrder → SharesArePlaced
+shares_are_placed law = record {
+  counted = λ terms view owner own n point known. ordered law own known terms view owner n point;
+  all =
+      λ terms view owner n point. (let c = commitment_of terms view owner n point in
+      sym (all_counted c.outputs) ∙ ap (λ m. m + counted_sat false none_known c.outputs) (ordered law true none_known terms view owner n point)
+      ∙ ap (λ m. placed_sat true none_known (amounts_of terms view owner) + m) (ordered law false none_known terms view owner n point) ∙ all_placed (amounts_of terms view owner));
+}

@@ -1,17 +1,19 @@
 -- What a side claims of a commitment that closed its channel: one claim for each output on which it counts (BOLT 5, "Unilateral Close Handling").
-use Rattle.std.specs.Prelude.{◌≡◌, ℕ, ◌+◌, Bool, true, false, if◌then◌else◌, List, [], ◌∷◌, sum_by}
+use Rattle.std.specs.Prelude.{◌≡◌, ℕ, ◌+◌, ◌*◌, ◌≤◌, Bool, true, false, if◌then◌else◌, List, [], ◌∷◌, length, sum_by}
 use Rattle.std.specs.List.{Contains, AllByRecursion}
 use Rattle.terms.specs.declared.htlcs.Htlc.{Htlc}
 use Rattle.terms.specs.declared.sides.Side.{Side}
 use Rattle.terms.specs.declared.agreement.Terms.{Terms}
 use Rattle.terms.specs.declared.views.View.{View}
 use Rattle.claim.specs.declared.parts.Place.{Place}
+use Rattle.commit.specs.declared.fees.Direction.TheVariants.{Received}
 use Rattle.commit.specs.declared.outputs.OutputKind.{OutputKind}
 use Rattle.commit.specs.declared.outputs.OutputKind.TheVariants.{ToLocal, ToRemote, ToHtlc}
 use Rattle.commit.specs.declared.outputs.HtlcOutput.{HtlcOutput}
+use Rattle.commit.specs.Fees.{fee_sat_of, htlc_weight}
 use Rattle.commit.specs.Commitments.{Contents, commitment_of, htlcs_of}
 use Rattle.penalty.specs.Claimable.{Claimable, payment_on, claims_by}
-use Rattle.penalty.specs.Worth.{value_of, fee_with}
+use Rattle.penalty.specs.Worth.{value_of, fee_with, fees_with}
 use Rattle.resolve.specs.Preimages.{is_known}
 use Rattle.resolve.specs.Due.{can_time_out, can_pay, delayed_on, second_stage_on, delayed_second_stage, direct_on, owners_due, peers_due}
 use Rattle.worth.specs.Shares.{owner_by, counts_on, counted_msat, deductions, IsLess}
@@ -53,6 +55,12 @@ CountedAreWorth =
     (terms : Terms) (view : View) (own : Bool) (me : Side) (n : ℕ) (point : List ℕ) (known : Htlc → Bool) (stands : ℕ → Bool)
     → (let c = commitment_of terms view (owner_by own me) n point in
     IsLess (counted_msat known me view) (deductions terms view own me known) (value_of (counted own known stands c) + fees_counted own known stands c))
+
+-- these fees are at most those of all HTLC transactions that stand, and those at most the fee of HTLC-success for each HTLC with an output
+abbrev pub FeesAreBounded : Type 0
+FeesAreBounded =
+    (known : Htlc → Bool) (stands : ℕ → Bool) (c : Contents)
+    → (fees_counted true known stands c ≤ fees_with stands c) × (fees_with stands c ≤ length (htlcs_of c) * fee_sat_of (htlc_weight Received) c.feerate_per_kw)
 
 -- ---- what is due
 

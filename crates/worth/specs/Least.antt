@@ -3,6 +3,7 @@ use Rattle.std.specs.Prelude.{◌≡◌, ℕ, ◌+◌, ◌*◌, ◌<◌, ◌≤�
 use Rattle.terms.specs.declared.amounts.TheConstants.{MSAT_PER_SAT}
 use Rattle.terms.specs.declared.htlcs.Htlc.{Htlc}
 use Rattle.terms.specs.Sides.{other}
+use Rattle.penalty.specs.Claimable.{Claimable}
 use Rattle.penalty.specs.Worth.{staged, value_of, fees_with}
 use Rattle.channel.specs.declared.commitments.CommitmentState.{CommitmentState}
 use Rattle.channel.specs.States.{Signing, State}
@@ -59,12 +60,23 @@ most_off known s k (newest at) feerate_per_kw limit_sat = greatest s.held.terms.
 most_off known s k (next e at) feerate_per_kw limit_sat = greatest s.held.terms.opener s.held.side feerate_per_kw limit_sat (htlc_count k.view) (counted_count known s.held.side k.view)
 most_off known s k (own at) feerate_per_kw limit_sat = greatest s.held.terms.opener s.held.side feerate_per_kw limit_sat (htlc_count k.view) (counted_count known s.held.side k.view)
 
--- the claims, whichever HTLC transactions stand: a penalty on each output, if it is revoked; else one claim for each output on which the side counts
-abbrev pub claims_sat : (Htlc → Bool) → (ℕ → Bool) → (s : State) (k : CommitmentState) → MayClose s k → ℕ
-claims_sat known stands s k (revoked n l at) = let c = contents_of s.held.terms k in value_of (staged stands c) + fees_with stands c
-claims_sat known stands s k (newest at) = let c = contents_of s.held.terms k in value_of (counted false known stands c) + fees_counted false known stands c
-claims_sat known stands s k (next e at) = let c = contents_of s.held.terms k in value_of (counted false known stands c) + fees_counted false known stands c
-claims_sat known stands s k (own at) = let c = contents_of s.held.terms k in value_of (counted true known stands c) + fees_counted true known stands c
+-- ---- what the side can claim of it
+
+-- Below, `stands` says of an output's index whether the HTLC transaction that spends the output is on the chain.
+
+-- a penalty for each output, if it is revoked; else one claim for each output on which the side counts
+abbrev pub counted_by : (Htlc → Bool) → (ℕ → Bool) → (s : State) (k : CommitmentState) → MayClose s k → List Claimable
+counted_by known stands s k (revoked n l at) = staged stands (contents_of s.held.terms k)
+counted_by known stands s k (newest at) = counted false known stands (contents_of s.held.terms k)
+counted_by known stands s k (next e at) = counted false known stands (contents_of s.held.terms k)
+counted_by known stands s k (own at) = counted true known stands (contents_of s.held.terms k)
+
+-- the fees of the HTLC transactions that stand, where it is the claim on such a transaction that counts
+abbrev pub fees_by : (Htlc → Bool) → (ℕ → Bool) → (s : State) (k : CommitmentState) → MayClose s k → ℕ
+fees_by known stands s k (revoked n l at) = fees_with stands (contents_of s.held.terms k)
+fees_by known stands s k (newest at) = fees_counted false known stands (contents_of s.held.terms k)
+fees_by known stands s k (next e at) = fees_counted false known stands (contents_of s.held.terms k)
+fees_by known stands s k (own at) = fees_counted true known stands (contents_of s.held.terms k)
 
 -- ---- the least of them
 
@@ -73,15 +85,23 @@ least [] = 0
 least (n ∷ []) = n
 least (n ∷ m ∷ ns) = min n (least (m ∷ ns))
 
--- of one's own newest commitment, of the peer's newest and the one after it, and of those before
-abbrev pub at_least_sat : (Htlc → Bool) → State → ℕ
-at_least_sat known s = least (map (own_sat known s) (drop s.number s.mine) ++ map (peers_sat known s) (drop s.peer_number s.signed) ++ map (revoked_sat s) (take s.peer_number s.signed))
+-- the satoshis that can still be claimed once each HTLC transaction stands: of the outputs of its own commitment on which the side counts, and of all outputs of one that the peer revoked
+abbrev pub own_left_sat : (Htlc → Bool) → State → CommitmentState → ℕ
+own_left_sat known s k = value_of (counted true known (λ _. true) (contents_of s.held.terms k))
 
--- whatever messages came: whichever commitment closes the channel, what it gives is what it is worth, less deductions that are said exactly, and have a bound where the feerate and the dust limit have one; the claims are worth that, with the fees of HTLC transactions that stand;
--- and that is the least at least
+abbrev pub revoked_left_sat : State → CommitmentState → ℕ
+revoked_left_sat s k = value_of (staged (λ _. true) (contents_of s.held.terms k))
+
+-- the least of that of one's own newest commitment, of the outputs of the peer's newest and the one after it, and of that of those before
+abbrev pub at_least_sat : (Htlc → Bool) → State → ℕ
+at_least_sat known s = least (map (own_left_sat known s) (drop s.number s.mine) ++ map (peers_sat known s) (drop s.peer_number s.signed) ++ map (revoked_left_sat s) (take s.peer_number s.signed))
+
+-- Whatever messages came: whichever commitment closes the channel, what it gives is what it is worth, less deductions that are said exactly, and have a bound where the feerate and the dust limit have one. The claims on it
+-- are worth that, with the fees of HTLC transactions that stand. And whichever of these stand, the claims alone are worth the least at least
 pub record WhicheverCloses : Type 0 where
   pub worth : (tokens_of : Signing) (s : State) → IsLived tokens_of s → (known : Htlc → Bool) (k : CommitmentState) (m : MayClose s k) → IsLess (whole_msat known s k m) (taken_off known s k m) (gives_sat known s k m)
   pub bounded : (tokens_of : Signing) (s : State) → IsLived tokens_of s → (known : Htlc → Bool) (k : CommitmentState) (m : MayClose s k) (feerate_per_kw limit_sat : ℕ) → IsWithin s.held.terms k.view k.owner feerate_per_kw limit_sat
       → AreAtMost (taken_off known s k m) (most_off known s k m feerate_per_kw limit_sat)
-  pub claims : (tokens_of : Signing) (s : State) → IsLived tokens_of s → (known : Htlc → Bool) (stands : ℕ → Bool) (k : CommitmentState) (m : MayClose s k) → claims_sat known stands s k m ≡ gives_sat known s k m
-  pub least : (known : Htlc → Bool) (s : State) (k : CommitmentState) (m : MayClose s k) → at_least_sat known s ≤ gives_sat known s k m
+  pub claims : (known : Htlc → Bool) (stands : ℕ → Bool) (s : State) (k : CommitmentState) (m : MayClose s k) → value_of (counted_by known stands s k m) + fees_by known stands s k m ≡ gives_sat known s k m
+  pub least : (known : Htlc → Bool) (stands : ℕ → Bool) (s : State) (k : CommitmentState) (m : MayClose s k) → at_least_sat known s ≤ value_of (counted_by known stands s k m)
+  pub given : (known : Htlc → Bool) (s : State) (k : CommitmentState) (m : MayClose s k) → at_least_sat known s ≤ gives_sat known s k m
