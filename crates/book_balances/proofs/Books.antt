@@ -1,19 +1,21 @@
 -- Each channel of a careful history has its balance.
-use Rattle.std.proofs.Common.{◌≡◌, true, List, reverse}
+use Rattle.std.proofs.Common.{◌≡◌, ◌≢◌, true, List, None, inl, inr}
+use Rattle.std.specs.Prelude.{◌⊎◌}
 use Rattle.std.specs.List.{AllByRecursion}
 use Rattle.std.proofs.lemmas.List.Elements.{All-from_recursion, All-contains}
+use Rattle.terms.specs.Agreement.{party}
 use Rattle.channel.specs.Peers.{IsLived}
 use Rattle.channel.specs.States.{Signing}
-use Rattle.safety.specs.Holdings.{Holding}
+use Rattle.safety.specs.Closers.{IsWatched}
+use Rattle.safety.specs.Holdings.{Holding, terms_in, peer_in}
+use Rattle.safety.specs.Premises.{none_revokes}
 use Rattle.balance.specs.Own.{LivedKeepOwnRules}
-use Rattle.balance.specs.Balances.{AllBalancesAreThere}
+use Rattle.balance.specs.Balances.{BalanceIsThere, BalancesAreThere, AllBalancesAreThere}
 use Rattle.book.specs.declared.calls.Entry.{Entry}
 use Rattle.book.specs.Books.{replay}
-use Rattle.book.specs.Accepted.{all_accepted, AcceptedMeans}
-use Rattle.book.proofs.KeptReleases.{all_at}
+use Rattle.book.specs.Lived.{ChannelsAreLived}
 use Rattle.holdings.specs.Holdings.{holdings_of}
 use Rattle.holdings.specs.Keeping.{IsCareful, BooksKeepRules}
-use Rattle.holdings.proofs.Channels.{Lives, all_live}
 use Rattle.holdings.proofs.Complete.{all_held}
 use Rattle.book_balances.specs.Books.{BooksHaveBalances}
 
@@ -21,13 +23,19 @@ use Rattle.book_balances.specs.Books.{BooksHaveBalances}
 abbrev HasLived : Signing → Holding → Type 0
 HasLived tokens_of h = IsLived tokens_of h.state
 
-all_lived : AcceptedMeans → (tokens_of : Signing) (history : List Entry) → IsCareful tokens_of history → AllByRecursion (HasLived tokens_of) (holdings_of history)
-all_lived means tokens_of history careful =
-    let accepted : all_accepted tokens_of history ≡ true = (means.accepted_exactly tokens_of history).0 careful.called in
-    all_held (HasLived tokens_of) history 0 (replay history) (λ c ch there. all_at (Lives tokens_of) (replay history) c ch (all_live tokens_of (reverse history) accepted) there)
+all_lived : ChannelsAreLived → (tokens_of : Signing) (history : List Entry) → IsCareful tokens_of history → AllByRecursion (HasLived tokens_of) (holdings_of history)
+all_lived lives tokens_of history careful = all_held (HasLived tokens_of) history 0 (replay history) (λ c ch there. lives tokens_of history c ch careful.called there)
 
-pub books_have_balances : AcceptedMeans → BooksKeepRules → LivedKeepOwnRules → AllBalancesAreThere → BooksHaveBalances
-books_have_balances means keep own there tokens_of history blocks careful ledger given unrevoked h held apart funded known =
-    let lived : IsLived tokens_of h.state =
-    All-contains (HasLived tokens_of) (holdings_of history) h (All-from_recursion (HasLived tokens_of) (holdings_of history) (all_lived means tokens_of history careful)) held in
-    there (holdings_of history) blocks (record { kept = keep tokens_of history careful; ledger = ledger; own = given }) unrevoked h held (own tokens_of h lived apart) funded known
+pub books_have_balances : ChannelsAreLived → BooksKeepRules → LivedKeepOwnRules → BalancesAreThere → AllBalancesAreThere → BooksHaveBalances
+books_have_balances lives keep own there all tokens_of history blocks careful ledger given h held funded asked known = by asked
+  where
+    watched : IsWatched (holdings_of history) blocks
+    watched = record { kept = keep tokens_of history careful; ledger = ledger; own = given }
+
+    lived : IsLived tokens_of h.state
+    lived = All-contains (HasLived tokens_of) (holdings_of history) h (All-from_recursion (HasLived tokens_of) (holdings_of history) (all_lived lives tokens_of history careful)) held
+
+    by : (h.closed ≡ None) ⊎ ((none_revokes (holdings_of history) blocks ≡ true) × ((party h.state.held.side (terms_in h)).bases.htlc.bytes ≢ (party (peer_in h) (terms_in h)).bases.htlc.bytes))
+        → BalanceIsThere (holdings_of history) blocks h known
+    by (inl not_closed) = there (holdings_of history) blocks watched h held not_closed funded known
+    by (inr two) = all (holdings_of history) blocks watched two.0 h held (own tokens_of h lived two.1) funded known

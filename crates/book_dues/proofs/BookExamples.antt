@@ -14,13 +14,14 @@ use Rattle.resolve.specs.Due.{due_of}
 use Rattle.watch.specs.Verdicts.{verdict_of}
 use Rattle.channel.specs.declared.commitments.CommitmentState.{CommitmentState}
 use Rattle.channel.specs.Tokens.{contents_of}
-use Rattle.worth.specs.Least.{newest}
+use Rattle.worth.specs.Counted.{known_by}
+use Rattle.worth.specs.Least.{newest, counted_by}
 use Rattle.safety.specs.Holdings.{Holding, terms_in, KeepsRules}
 use Rattle.safety.proofs.Lists.{contains_none}
 use Rattle.dues.specs.Breaks.{DuesBreak}
 use Rattle.dues.specs.Knowing.{IsKnownTo}
 use Rattle.dues.specs.Verdicts.{IsJudged, rightly, as_own, broken, ClosersAreJudged}
-use Rattle.dues.specs.Counting.{counted_by, AreExactly, DuesAreCounted}
+use Rattle.dues.specs.Counting.{AreExactly, DuesAreCounted}
 use Rattle.dues.specs.Filling.{OwnsBases, IsDueBy, CanFillAllSlots, DuesAreFillable}
 use Rattle.dues.specs.Passing.{FillingsPass}
 use Rattle.book_dues.specs.Books.{AreInHand}
@@ -48,10 +49,10 @@ module _ (h : Holding) (known : Known) where
         by (broken x) = none x
 
     -- no: AreInHand
-    counted_and_not_due : (o : Claimable) → due_of known Theirs ≡ [] → Contains (counted_by known.preimages (λ _. false) h.state k (newest there)) o → AreInHand h known → ⊥
+    counted_and_not_due : (o : Claimable) → due_of known Theirs ≡ [] → Contains (counted_by (known_by known.preimages) (λ _. false) h.state k (newest there)) o → AreInHand h known → ⊥
     counted_and_not_due o e c i = by (i.counted k (newest there))
       where
-        by : AreExactly (due_of known Theirs) (λ stands. counted_by known.preimages stands h.state k (newest there)) ⊎ DuesBreak h.state known.preimages → ⊥
+        by : AreExactly (due_of known Theirs) (λ stands. counted_by (known_by known.preimages) stands h.state k (newest there)) ⊎ DuesBreak h.state known.preimages → ⊥
         by (inl x) = contains_none o (subst (λ (os : List Claimable). Contains os o) e (x.all (λ _. false) o c))
         by (inr x) = none x
 

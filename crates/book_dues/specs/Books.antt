@@ -14,17 +14,19 @@ use Rattle.resolve.specs.Numbered.{AreNumbered}
 use Rattle.channel.specs.declared.commitments.CommitmentState.{CommitmentState}
 use Rattle.channel.specs.States.{Signing}
 use Rattle.channel.specs.Tokens.{contents_of}
-use Rattle.worth.specs.Least.{MayClose}
+use Rattle.worth.specs.Counted.{known_by}
+use Rattle.worth.specs.Least.{MayClose, counted_by}
 use Rattle.safety.specs.Passing.{HasTwinOn}
-use Rattle.safety.specs.Holdings.{Holding, terms_in}
+use Rattle.safety.specs.Holdings.{Holding, terms_in, IsOnRecorded}
 use Rattle.book.specs.declared.calls.Entry.{Entry}
+use Rattle.book.specs.Accepted.{IsHistory}
 use Rattle.book.specs.Books.{ChannelBook, is_kept, replay}
 use Rattle.book.specs.Knowing.{IsKnownOf}
 use Rattle.holdings.specs.Holdings.{holding_of}
 use Rattle.holdings.specs.Keeping.{IsCareful}
 use Rattle.dues.specs.Breaks.{DuesBreak}
 use Rattle.dues.specs.Verdicts.{verdict_by, IsJudged}
-use Rattle.dues.specs.Counting.{counted_by, AreExactly}
+use Rattle.dues.specs.Counting.{AreExactly}
 use Rattle.dues.specs.Filling.{IsDueBy, CanFillAllSlots}
 use Rattle.dues.specs.Passing.{MayBeFilled, KeepLimits}
 
@@ -32,7 +34,7 @@ use Rattle.dues.specs.Passing.{MayBeFilled, KeepLimits}
 -- whole
 pub record AreInHand (h : Holding) (known : Known) : Type 0 where
   pub judged : (t : Transaction) (k : CommitmentState) (m : MayClose h.state k) → unsigned_transaction t ≡ transaction_of (contents_of (terms_in h) k) → IsJudged h known t k m
-  pub counted : (k : CommitmentState) (m : MayClose h.state k) → AreExactly (due_of known (verdict_by h.state k m)) (λ stands. counted_by known.preimages stands h.state k m) ⊎ DuesBreak h.state known.preimages
+  pub counted : (k : CommitmentState) (m : MayClose h.state k) → AreExactly (due_of known (verdict_by h.state k m)) (λ stands. counted_by (known_by known.preimages) stands h.state k m) ⊎ DuesBreak h.state known.preimages
   pub fillable : (claims : List ClaimParts) → AllByRecursion (IsDueBy known) claims → CanFillAllSlots h known claims
   pub pass : (blocks : List Block) (claims : List ClaimParts) (outputs : List Output) → MayBeFilled known blocks claims outputs → KeepLimits blocks (filling_of claims outputs known.preimages)
       → (transaction_refusal (empty_block ∷ blocks) (filling_of claims outputs known.preimages) ≡ None) ⊎ HasTwinOn blocks (filling_of claims outputs known.preimages)
@@ -44,3 +46,11 @@ BooksHaveDues =
     (tokens_of : Signing) (history : List Entry) → IsCareful tokens_of history → (c : ℕ) (ch : ChannelBook) → slice_get (replay history) c ≡ Some ch
     → (preimages : List (List ℕ)) (known : Known) → IsKnownOf ch.state (is_kept ch.kept) preimages known → AreNumbered known.revoked → AllByRecursion (λ x. length x ≡ 32) known.preimages
     → AreInHand (holding_of history c ch) known
+
+-- A claim that is due by what a book tells of a channel is on what a recorded commitment of the channel gives its node, over every history of its calls. So a node that releases just such claims takes the care that
+-- `IsCareful` asks of releases
+abbrev pub BookDuesAreRecorded : Type 0
+BookDuesAreRecorded =
+    (tokens_of : Signing) (history : List Entry) → IsHistory tokens_of history → (c : ℕ) (ch : ChannelBook) → slice_get (replay history) c ≡ Some ch
+    → (preimages : List (List ℕ)) (known : Known) → IsKnownOf ch.state (is_kept ch.kept) preimages known → AreNumbered known.revoked → AllByRecursion (λ x. length x ≡ 32) known.preimages
+    → (x : ClaimParts) → IsDueBy known x → IsOnRecorded (holding_of history c ch) x

@@ -21,14 +21,14 @@ use Rattle.resolve.specs.Due.{can_pay, is_owners, second_stage_on, delayed_secon
 use Rattle.channel.specs.declared.commitments.CommitmentState.{CommitmentState}
 use Rattle.channel.specs.Tokens.{contents_of}
 use Rattle.worth.specs.Counted.{counted_on, counted, known_by, due_by, HasNoTwin, CountedAreDue}
-use Rattle.worth.specs.Least.{MayClose, revoked, newest, next, own}
+use Rattle.worth.specs.Least.{MayClose, revoked, newest, next, own, counted_by}
 use Rattle.safety.specs.Holdings.{Holding, terms_in, KeepsRules}
 use Rattle.safety.proofs.Slots.{contains_first, contains_later, contains_cases}
 use Rattle.safety.proofs.Places.{contains_one}
 use Rattle.dues.specs.Breaks.{IsOfChannel, own_newest, of_peers, DuesBreak}
 use Rattle.dues.specs.Knowing.{IsKnownTo}
 use Rattle.dues.specs.Verdicts.{verdict_by}
-use Rattle.dues.specs.Counting.{counted_by, AreExactly, DuesAreCounted}
+use Rattle.dues.specs.Counting.{AreExactly, DuesAreCounted}
 use Rattle.dues.proofs.Lists.{if_true}
 use Rattle.dues.proofs.Known.{own_known, theirs_known, next_known, revoked_known}
 use Rattle.dues.proofs.Twins.{no_twin}
@@ -172,10 +172,10 @@ next_due known = refl
 
 module _ (law : CountedAreDue) (h : Holding) (kept : KeepsRules h) (known : Known) (w : IsKnownTo h known) where
   abbrev Counts : (k : CommitmentState) → MayClose h.state k → Type 0
-  Counts k m = AreExactly (due_of known (verdict_by h.state k m)) (λ stands. counted_by known.preimages stands h.state k m) ⊎ DuesBreak h.state known.preimages
+  Counts k m = AreExactly (due_of known (verdict_by h.state k m)) (λ stands. counted_by (known_by known.preimages) stands h.state k m) ⊎ DuesBreak h.state known.preimages
 
   unless_twin : (k : CommitmentState) (m : MayClose h.state k) → IsOfChannel h.state k
-      → (HasNoTwin known.preimages (contents_of (terms_in h) k) → AreExactly (due_of known (verdict_by h.state k m)) (λ stands. counted_by known.preimages stands h.state k m)) → Counts k m
+      → (HasNoTwin known.preimages (contents_of (terms_in h) k) → AreExactly (due_of known (verdict_by h.state k m)) (λ stands. counted_by (known_by known.preimages) stands h.state k m)) → Counts k m
   unless_twin k m i f =
       ⊎_elim {C = Counts k m} (λ (n : HasNoTwin known.preimages (contents_of (terms_in h) k)). inl (f n)) (λ (x : DuesBreak h.state known.preimages). inr x) (no_twin h.state k i known.preimages w.preimages)
 

@@ -1,6 +1,6 @@
 -- Where the relations of what is due hold, and where they don't. There is another hash, a claim left out, one too many, and a preimage of 31 bytes. There is a key of somebody else's, a satoshi too much, and an age and a lock
 -- time one block on.
-use Rattle.std.proofs.Common.{◌≡◌, ◌≢◌, ℕ, zero, suc, ◌+◌, Bool, true, false, List, [], ◌∷◌, ◌++◌, length, Some, sym, ap, ◌∙◌, refl, subst, inl, inr, arith}
+use Rattle.std.proofs.Common.{◌≡◌, ◌≢◌, ℕ, zero, suc, ◌+◌, ◌<◌, Bool, true, false, List, [], ◌∷◌, ◌++◌, length, Some, sym, ap, ◌∙◌, refl, subst, inl, inr, arith}
 use Rattle.std.specs.Prelude.{◌⊎◌, ◌||◌, slice_get, if◌then◌else◌}
 use Rattle.std.specs.List.{Contains, AllByRecursion}
 use Rattle.std.specs.Str.{bytes_eq}
@@ -11,7 +11,7 @@ use Rattle.sha2.specs.Sha256.{sha256}
 use Rattle.digest.specs.Hash.{sha256d, hash160, Collide}
 use Rattle.tx.specs.Parts.{Output}
 use Rattle.tx.specs.Fields.{Transaction, KeepsLimits}
-use Rattle.tx.specs.Spelling.{number, outpoint, stripped_spelling}
+use Rattle.tx.specs.Spelling.{number, outpoint, stripped_spelling, transaction_id}
 use Rattle.keys.specs.declared.bases.Base.TheVariants.{Payment, Htlc as HtlcBase}
 use Rattle.keys.specs.declared.compressed.Key.{Key}
 use Rattle.keys.specs.Derivation.{base_key}
@@ -27,6 +27,7 @@ use Rattle.claim.specs.declared.parts.Shell.TheVariants.{Open, Fixed}
 use Rattle.claim.specs.Fitting.{output_at}
 use Rattle.claim.specs.Claims.{ClaimParts, IsWhole, sequence_of, lock_time_of}
 use Rattle.filling.specs.Refusals.{IsFillable, AreFillable, ArePassed}
+use Rattle.commit.specs.Outputs.{to_remote_output}
 use Rattle.commit.specs.Commitments.{Contents, transaction_of}
 use Rattle.penalty.specs.Claimable.{Claimable}
 use Rattle.penalty.specs.Sets.{claimed_by}
@@ -42,14 +43,15 @@ use Rattle.channel.specs.declared.commitments.CommitmentState.{CommitmentState}
 use Rattle.channel.specs.Rights.{rights_of}
 use Rattle.channel.specs.States.{State}
 use Rattle.channel.specs.Tokens.{contents_of}
-use Rattle.worth.specs.Least.{newest}
+use Rattle.worth.specs.Least.{revoked, newest, next, own}
+use Rattle.safety.specs.Standing.{StandsAt}
 use Rattle.safety.specs.Holdings.{Holding, terms_in}
 use Rattle.safety.proofs.Samples.{bases_of}
 use Rattle.safety.proofs.Lists.{none_some, contains_none}
 use Rattle.book.specs.Knowing.{IsKnownOf}
 use Rattle.dues.specs.Breaks.{IsOfChannel, own_newest, of_peers, IsHashedForId, DuesBreak, by_ids, by_empty_item, by_known_preimage}
 use Rattle.dues.specs.Knowing.{IsKnownTo}
-use Rattle.dues.specs.Verdicts.{IsJudged, rightly, as_own, broken}
+use Rattle.dues.specs.Verdicts.{verdict_by, IsJudged, rightly, as_own, broken}
 use Rattle.dues.specs.Counting.{AreExactly}
 use Rattle.dues.specs.Filling.{OwnsBases, IsDueBy, CanFillAllSlots}
 use Rattle.dues.specs.Passing.{IsRipe, MayBeFilled, KeepLimits}
@@ -170,7 +172,19 @@ one_transaction : (a b : Contents) → a.funding ≡ b.funding → a.hidden ≡ 
 unfolding transaction_of
 one_transaction a b f g x y = rw (f, g, x, y) refl
 
-module _ (h : Holding) (known : Known) (t : Transaction) (k o : CommitmentState) (there : slice_get h.state.signed h.state.peer_number ≡ Some k) (own : slice_get h.state.mine h.state.number ≡ Some o) where
+-- so are two that pay one key one amount, and nothing else
+one_payment : (a b : Contents) (value : ℕ) → a.funding ≡ b.funding → a.hidden ≡ b.hidden → a.outputs ≡ to_remote_output a.keys value ∷ [] → b.outputs ≡ to_remote_output b.keys value ∷ [] → a.keys.remote ≡ b.keys.remote
+    → transaction_of a ≡ transaction_of b
+unfolding transaction_of
+one_payment a b value f g x y e = rw (f, g, x, y, e) refl
+
+-- of a state with each of the four
+four_verdicts : (s : State) (past theirs following mine : CommitmentState) → (l : 7 < s.peer_number) (p : slice_get s.signed 7 ≡ Some past) (q : slice_get s.signed s.peer_number ≡ Some theirs) (e : s.awaiting ≡ true)
+    → (r : slice_get s.signed (s.peer_number + 1) ≡ Some following) (m : slice_get s.mine s.number ≡ Some mine)
+    → verdict_by s past (revoked 7 l p) ∷ verdict_by s theirs (newest q) ∷ verdict_by s following (next e r) ∷ verdict_by s mine (own m) ∷ [] ≡ Revoked 7 ∷ Theirs ∷ TheirsNext ∷ Ours ∷ []
+four_verdicts s past theirs following mine l p q e r m = refl
+
+module _ (h : Holding) (known : Known) (t : Transaction) (k o : CommitmentState) (there : slice_get h.state.signed h.state.peer_number ≡ Some k) (mine : slice_get h.state.mine h.state.number ≡ Some o) where
   -- yes: IsJudged
   judged_rightly : verdict_of known t ≡ Theirs → IsJudged h known t k (newest there)
   judged_rightly e = rightly e
@@ -178,7 +192,14 @@ module _ (h : Holding) (known : Known) (t : Transaction) (k o : CommitmentState)
   -- yes: IsJudged
   without_outputs : (contents_of (terms_in h) o).funding ≡ (contents_of (terms_in h) k).funding → (contents_of (terms_in h) o).hidden ≡ (contents_of (terms_in h) k).hidden → (contents_of (terms_in h) o).outputs ≡ []
       → (contents_of (terms_in h) k).outputs ≡ [] → verdict_of known t ≡ Ours → IsJudged h known t k (newest there)
-  without_outputs f g x y e = as_own o own (one_transaction (contents_of (terms_in h) o) (contents_of (terms_in h) k) f g x y) e
+  without_outputs f g x y e = as_own o mine (one_transaction (contents_of (terms_in h) o) (contents_of (terms_in h) k) f g x y) e
+
+  -- both sides have one payment base key, so that the node's own commitment pays its peer by the key by which the peer's pays the node
+  -- yes: IsJudged
+  with_one_payment_key : (value : ℕ) → (contents_of (terms_in h) o).funding ≡ (contents_of (terms_in h) k).funding → (contents_of (terms_in h) o).hidden ≡ (contents_of (terms_in h) k).hidden
+      → (contents_of (terms_in h) o).outputs ≡ to_remote_output (contents_of (terms_in h) o).keys value ∷ [] → (contents_of (terms_in h) k).outputs ≡ to_remote_output (contents_of (terms_in h) k).keys value ∷ []
+      → (contents_of (terms_in h) o).keys.remote ≡ (contents_of (terms_in h) k).keys.remote → verdict_of known t ≡ Ours → IsJudged h known t k (newest there)
+  with_one_payment_key value f g x y e v = as_own o mine (one_payment (contents_of (terms_in h) o) (contents_of (terms_in h) k) value f g x y e) v
 
   -- no: IsJudged
   not_found : verdict_of known t ≡ Unknown → (DuesBreak h.state known.preimages → ⊥) → IsJudged h known t k (newest there) → ⊥
@@ -190,7 +211,7 @@ module _ (h : Holding) (known : Known) (t : Transaction) (k o : CommitmentState)
   taken_for_own : verdict_of known t ≡ Ours → transaction_of (contents_of (terms_in h) o) ≢ transaction_of (contents_of (terms_in h) k) → (DuesBreak h.state known.preimages → ⊥) → IsJudged h known t k (newest there) → ⊥
   taken_for_own e d n (rightly f) = false≢true (ap is_theirs (sym e ∙ f))
   taken_for_own e d n (as_own x i s f) =
-      d (subst (λ (y : CommitmentState). transaction_of (contents_of (terms_in h) y) ≡ transaction_of (contents_of (terms_in h) k)) (same_Some x o (sym i ∙ own)) s)
+      d (subst (λ (y : CommitmentState). transaction_of (contents_of (terms_in h) y) ≡ transaction_of (contents_of (terms_in h) k)) (same_Some x o (sym i ∙ mine)) s)
   taken_for_own e d n (broken b) = n b
 
 -- ---- exactly those that are counted
@@ -382,7 +403,16 @@ module _ (h : Holding) (known : Known) (x : ClaimParts) where
 
 -- yes: KeepLimits
 empty_chain : (t : Transaction) → KeepsLimits t → KeepLimits [] t
-empty_chain t k = record { chain = λ height u s. absurd (none_some s.block (sym (slice_get_past [] height (omega arith)) ∙ s.there)); filling = k }
+empty_chain t k = record { twins = λ height u s e. absurd (none_some s.block (sym (slice_get_past [] height (omega arith)) ∙ s.there)); filling = k }
+
+-- what stands there may be of any size, if it has another id
+-- yes: KeepLimits
+another_id : (blocks : List Block) (t : Transaction) → KeepsLimits t → ((height : ℕ) (u : Transaction) → StandsAt blocks height u → transaction_id u ≢ transaction_id t) → KeepLimits blocks t
+another_id blocks t k n = record { twins = λ height u s e. absurd (n height u s e); filling = k }
+
+-- no: KeepLimits
+twin_without_inputs : (blocks : List Block) (t u : Transaction) (height : ℕ) → StandsAt blocks height u → transaction_id u ≡ transaction_id t → u.inputs ≡ [] → KeepLimits blocks t → ⊥
+twin_without_inputs blocks t u height s i e k = let l = (k.twins height u s i).some_input in let n = ap length e in omega (arith, l, n)
 
 -- no: KeepLimits
 without_inputs : (blocks : List Block) (t : Transaction) → t.inputs ≡ [] → KeepLimits blocks t → ⊥

@@ -58,7 +58,7 @@ pub record IsRevokedAt (h : Holding) (known : Known) (n : ℕ) (k : CommitmentSt
   pub terms : revoked.state.terms ≡ known.terms
   pub contents : commitment_in revoked.state ≡ contents_of (terms_in h) k
 
-abbrev contents_by : Revoked → Contents
+abbrev pub contents_by : Revoked → Contents
 contents_by p = commitment_of p.terms p.view p.owner p.number (point_of p.secret)
 
 pub revoked_known : (h : Holding) → KeepsRules h → (known : Known) → IsKnownTo h known → (n : ℕ) (k : CommitmentState) → n < h.state.peer_number → slice_get h.state.signed n ≡ Some k → IsRevokedAt h known n k
@@ -99,6 +99,7 @@ pub record IsTold (s : State) (r : RevokedCommitment) : Type 0 where
   pub commitment : CommitmentState
   pub secret : List ℕ
   pub flag : Bool
+  pub signed : slice_get s.signed number ≡ Some commitment
   pub told : slice_get s.secrets number ≡ Some secret
   pub is : revoked_parts r ≡ revoked_by s commitment secret flag
 
@@ -111,6 +112,7 @@ told_if s f n r (Some c) (Some secret) signed told e = record {
   commitment = c;
   secret = secret;
   flag = f n;
+  signed = signed;
   told = told;
   is = sym (same_Some (revoked_by s c secret (f n)) (revoked_parts r) (sym (one_revoked s f n c secret signed told) ∙ e));
 }

@@ -4,6 +4,7 @@ pub mod Twins
 pub mod Verdicts
 pub mod Counting
 pub mod Filling
+pub mod Recorded
 pub mod Passing
 mod DueExamples
 mod WorkedExamples

@@ -36,7 +36,8 @@ use Rattle.channel.specs.declared.commitments.CommitmentState.{CommitmentState}
 use Rattle.channel.specs.Rights.{rights_of}
 use Rattle.channel.specs.States.{State}
 use Rattle.channel.specs.Tokens.{contents_of, peer_tokens}
-use Rattle.worth.specs.Least.{revoked, newest}
+use Rattle.worth.specs.Counted.{known_by}
+use Rattle.worth.specs.Least.{revoked, newest, counted_by}
 use Rattle.worth.proofs.Due.{counted_are_due}
 use Rattle.safety.specs.Holdings.{Holding, KeepsRules}
 use Rattle.safety.proofs.Lists.{none_some}
@@ -49,7 +50,7 @@ use Rattle.safety.proofs.WorkedChannels.{plain, first_opened, first_newest, firs
 use Rattle.dues.specs.Breaks.{IsOfChannel, own_newest, of_peers, DuesBreak, by_ids, by_empty_item, by_known_preimage}
 use Rattle.dues.specs.Knowing.{IsKnownTo}
 use Rattle.dues.specs.Verdicts.{IsJudged, rightly, as_own, broken}
-use Rattle.dues.specs.Counting.{counted_by, AreExactly}
+use Rattle.dues.specs.Counting.{AreExactly}
 use Rattle.dues.specs.Filling.{OwnsBases}
 use Rattle.dues.proofs.Verdicts.{closers_are_judged}
 use Rattle.dues.proofs.Counting.{dues_are_counted}
@@ -267,10 +268,10 @@ module _ (any : Known) where
           absurd (differ first_own first_opened own_and_opened (ap transaction_id (ap (λ (k : CommitmentState). transaction_of (contents_of terms k)) is ∙ same)))
       by (broken x) = absurd (nothing_breaks x)
 
-  pub due_exactly : AreExactly (due_of known Theirs) (λ stands. counted_by (preimage ∷ []) stands s first_newest (newest refl))
+  pub due_exactly : AreExactly (due_of known Theirs) (λ stands. counted_by (known_by (preimage ∷ [])) stands s first_newest (newest refl))
   due_exactly = by (dues_are_counted counted_are_due channel keeps known (is_known any) first_newest (newest refl))
     where
-      by : AreExactly (due_of known Theirs) (λ stands. counted_by (preimage ∷ []) stands s first_newest (newest refl)) ⊎ DuesBreak s (preimage ∷ [])
-          → AreExactly (due_of known Theirs) (λ stands. counted_by (preimage ∷ []) stands s first_newest (newest refl))
+      by : AreExactly (due_of known Theirs) (λ stands. counted_by (known_by (preimage ∷ [])) stands s first_newest (newest refl)) ⊎ DuesBreak s (preimage ∷ [])
+          → AreExactly (due_of known Theirs) (λ stands. counted_by (known_by (preimage ∷ [])) stands s first_newest (newest refl))
       by (inl x) = x
       by (inr x) = absurd (nothing_breaks x)

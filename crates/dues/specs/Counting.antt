@@ -2,29 +2,18 @@
 use Rattle.std.specs.Prelude.{◌⊎◌, ℕ, Bool, true, false, List}
 use Rattle.std.specs.List.{Contains}
 use Rattle.penalty.specs.Claimable.{Claimable}
-use Rattle.penalty.specs.Worth.{staged}
 use Rattle.resolve.specs.declared.known.Known.{Known}
 use Rattle.resolve.specs.Due.{due_of}
 use Rattle.channel.specs.declared.commitments.CommitmentState.{CommitmentState}
-use Rattle.channel.specs.States.{State}
-use Rattle.channel.specs.Tokens.{contents_of}
-use Rattle.worth.specs.Counted.{counted, known_by}
-use Rattle.worth.specs.Least.{MayClose, revoked, newest, next, own}
+use Rattle.worth.specs.Counted.{known_by}
+use Rattle.worth.specs.Least.{MayClose, counted_by}
 use Rattle.safety.specs.Holdings.{Holding, KeepsRules}
 use Rattle.dues.specs.Breaks.{DuesBreak}
 use Rattle.dues.specs.Knowing.{IsKnownTo}
 use Rattle.dues.specs.Verdicts.{verdict_by}
 
--- Below, `stands` says of an output's index whether the HTLC transaction that spends the output is on the chain.
-
--- What a side counts on, by why the commitment may close the channel. If it is revoked, that is a penalty for each output; else one claim for each output on which the side counts by these preimages
-abbrev pub counted_by : List (List ℕ) → (ℕ → Bool) → (s : State) (k : CommitmentState) → MayClose s k → List Claimable
-counted_by preimages stands s k (revoked n l at) = staged stands (contents_of s.held.terms k)
-counted_by preimages stands s k (newest at) = counted false (known_by preimages) stands (contents_of s.held.terms k)
-counted_by preimages stands s k (next e at) = counted false (known_by preimages) stands (contents_of s.held.terms k)
-counted_by preimages stands s k (own at) = counted true (known_by preimages) stands (contents_of s.held.terms k)
-
--- Claims are exactly those that are counted. Whichever HTLC transactions stand, all that are counted are among them. And each of them is counted where no HTLC transaction stands, or where each does
+-- Claims are exactly those that are counted. Whichever HTLC transactions stand (`stands` says so of the index of the output that is spent), all that are counted are among them. And each of them is counted where no HTLC
+-- transaction stands, or where each does
 pub record AreExactly (claims : List Claimable) (counts : (ℕ → Bool) → List Claimable) : Type 0 where
   pub all : (stands : ℕ → Bool) (o : Claimable) → Contains (counts stands) o → Contains claims o
   pub only : (o : Claimable) → Contains claims o → Contains (counts (λ _. false)) o ⊎ Contains (counts (λ _. true)) o
@@ -33,4 +22,4 @@ pub record AreExactly (claims : List Claimable) (counts : (ℕ → Bool) → Lis
 abbrev pub DuesAreCounted : Type 0
 DuesAreCounted =
     (h : Holding) → KeepsRules h → (known : Known) → IsKnownTo h known
-    → (k : CommitmentState) (m : MayClose h.state k) → AreExactly (due_of known (verdict_by h.state k m)) (λ stands. counted_by known.preimages stands h.state k m) ⊎ DuesBreak h.state known.preimages
+    → (k : CommitmentState) (m : MayClose h.state k) → AreExactly (due_of known (verdict_by h.state k m)) (λ stands. counted_by (known_by known.preimages) stands h.state k m) ⊎ DuesBreak h.state known.preimages

@@ -3,4 +3,5 @@ pub mod Knowing
 pub mod Verdicts
 pub mod Counting
 pub mod Filling
+pub mod Recorded
 pub mod Passing

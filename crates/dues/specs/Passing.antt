@@ -3,6 +3,7 @@ use Rattle.std.specs.Prelude.{◌≡◌, ◌⊎◌, ◌<◌, ◌≤◌, ℕ, ◌
 use Rattle.std.specs.List.{AllByRecursion}
 use Rattle.tx.specs.Parts.{Output}
 use Rattle.tx.specs.Fields.{Transaction, KeepsLimits}
+use Rattle.tx.specs.Spelling.{transaction_id}
 use Rattle.chain.specs.Blocks.{Contents as Block, Coin, empty_block, coin_at}
 use Rattle.chain.specs.Checks.{transaction_refusal}
 use Rattle.claim.specs.Fitting.{output_at}
@@ -34,9 +35,9 @@ pub record MayBeFilled (known : Known) (blocks : List Block) (claims : List Clai
   pub passed : ArePassed claims outputs
   pub ripe : AllByRecursion (IsRipe blocks) claims
 
--- transactions keep their limits, as their types say: those on the chain, and the one that fills the claims
+-- transactions keep their limits, as their types say: the one that fills the claims, and one on the chain that has its id
 pub record KeepLimits (blocks : List Block) (t : Transaction) : Type 0 where
-  pub chain : (height : ℕ) (u : Transaction) → StandsAt blocks height u → KeepsLimits u
+  pub twins : (height : ℕ) (u : Transaction) → StandsAt blocks height u → transaction_id u ≡ transaction_id t → KeepsLimits u
   pub filling : KeepsLimits t
 
 -- Then the transaction that fills them passes all tests of the next block. Or what is hashed for its id collides with what is hashed for the id of one on the chain

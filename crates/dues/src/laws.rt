@@ -3,6 +3,7 @@
 ghost use Rattle.dues.specs.Counting.{DuesAreCounted};
 ghost use Rattle.dues.specs.Filling.{DuesAreFillable};
 ghost use Rattle.dues.specs.Passing.{FillingsPass};
+ghost use Rattle.dues.specs.Recorded.{DuesAreRecorded};
 ghost use Rattle.dues.specs.Verdicts.{ClosersAreJudged};
 
 use claim::laws::accepted_claims_spend;
@@ -28,6 +29,13 @@ pub fn dues_are_fillable()
     ensures { DuesAreFillable }
 {
     peer_can_fill();
+    due_places();
+}
+
+/// Each claim that is due by a verdict is on what a recorded commitment of the channel gives the node. So whoever releases just what is due releases what is its own.
+pub fn dues_are_recorded()
+    ensures { DuesAreRecorded }
+{
     due_places();
 }
 

@@ -26,7 +26,13 @@ use Rattle.channel.specs.declared.commitments.CommitmentState.{CommitmentState}
 use Rattle.channel.specs.Tokens.{contents_of}
 use Rattle.safety.proofs.Lists.{contained}
 use Rattle.safety.proofs.Indices.{htlc_in}
-use Rattle.holdings.proofs.Channels.{IsLater, AreLater}
+
+abbrev pub IsLater : Htlc → Type 0
+IsLater h = 0 < h.expiry_height
+
+-- the HTLCs that a side offers in a commitment expire above 0
+abbrev pub AreLater : Side → CommitmentState → Type 0
+AreLater side k = AllByRecursion IsLater (share side k.view).offered
 
 -- an HTLC that the commitment's owner had received expires above 0
 abbrev HasExpiry : OutputKind → Type 0

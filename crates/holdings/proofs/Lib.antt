@@ -1,7 +1,4 @@
 pub mod Lists
-pub mod Limited
-pub mod Channels
-pub mod Apart
 pub mod Expiries
 pub mod Fields
 pub mod Complete

@@ -14,6 +14,7 @@ use Rattle.penalty.specs.Claimable.{Claimable, claims_from}
 use Rattle.penalty.specs.Sets.{claimed_by, AreClaimsOn}
 use Rattle.channel.specs.declared.limits.TheConstants.{LAST_NUMBER}
 use Rattle.channel.specs.declared.commitments.CommitmentState.{CommitmentState}
+use Rattle.channel.specs.Learning.{HasLearnt, IsLimited}
 use Rattle.channel.specs.Recording.{AreByNumber}
 use Rattle.channel.specs.States.{Signing, State}
 use Rattle.channel.specs.Tokens.{contents_of}
@@ -26,7 +27,7 @@ use Rattle.safety.proofs.Slots.{contains_first, contains_later, contains_cases}
 use Rattle.safety.proofs.Lists.{contains_none}
 use Rattle.book.specs.declared.calls.Batch.{Batch}
 use Rattle.book.specs.declared.calls.Call.{Call}
-use Rattle.book.specs.declared.calls.Call.TheVariants.{Open, Step as Stepping, Sign, Revoke, Keep, Release as Releasing, Close}
+use Rattle.book.specs.declared.calls.Call.TheVariants.{Release as Releasing}
 use Rattle.book.specs.declared.calls.Entry.{Entry}
 use Rattle.book.specs.Penalties.{revoked_contents, claimable_in, claimable_at}
 use Rattle.book.specs.Books.{ChannelBook, replay}
@@ -36,7 +37,6 @@ use Rattle.book.specs.Releasing.{IsKeptIn}
 use Rattle.holdings.specs.Holdings.{release_by, releases_in, holding_of}
 use Rattle.holdings.specs.Keeping.{TakesCare}
 use Rattle.holdings.proofs.Lists.{all_from}
-use Rattle.holdings.proofs.Limited.{IsLimited}
 use Rattle.holdings.proofs.Fields.{IsFit, owners_fit, peers_fit, revoked_fit, input_of, transaction_keeps}
 
 -- ---- the laws that it rests on
@@ -54,6 +54,7 @@ pub record Laws : Type 0 where
 -- what is known of the state of a channel
 pub record IsSure (s : State) : Type 0 where
   pub numbered : AreByNumber s
+  pub learnt : HasLearnt s
   pub limited : IsLimited s
 
 last_is_low : (n many : ℕ) → n < many → many ≤ LAST_NUMBER + 1 → n < 2 ^ 48
@@ -64,7 +65,7 @@ own_payable laws s funding sure n k there =
     let record_of : ChannelRecord = record { terms = s.held.terms; seed = λ (side : Side). s.seed; own = λ (side : Side). s.mine } in
     let within = slice_get_within s.mine n k there in
     let count = sure.numbered.mine.count in
-    let low = sure.limited.own in
+    let low = sure.limited.number in
     (laws.own record_of s.held.side n k funding (last_is_low n (length s.mine) within (omega (arith, count, low))) (sure.numbered.mine.each n k there)).payable
 
 peers_payable : Laws → (s : State) → IsOutPoint s.held.terms.funding → IsSure s → (n : ℕ) (k : CommitmentState) → slice_get s.signed n ≡ Some k → IsPayable s.held.terms k
@@ -72,7 +73,7 @@ peers_payable laws s funding sure n k there =
     let record_of : ChannelRecord = record { terms = s.held.terms; seed = λ (side : Side). s.seed; own = λ (side : Side). s.signed } in
     let within = slice_get_within s.signed n k there in
     let count = sure.numbered.signed.count in
-    let low = sure.limited.peers in
+    let low = sure.limited.peer_number in
     (laws.own record_of (other s.held.side) n k funding (last_is_low n (length s.signed) within (omega (arith, count, low))) (sure.numbered.signed.each n k there)).payable
 
 -- ---- a claim
@@ -106,9 +107,7 @@ on_claimable h sure n os x e i = by (slice_get h.state.signed n) (slice_get h.st
     by None secret a b e = absurd (none-some os e)
     by (Some k) None a b e = absurd (none-some os e)
     by (Some k) (Some secret) a b e =
-        let r = sure.limited.reveals n secret b in
-        let one : r.commitment ≡ k = same_Some r.commitment k (sym r.signed ∙ a) in
-        let point : k.point.bytes ≡ point_of secret = ap (λ (c : CommitmentState). c.point.bytes) (sym one) ∙ r.point in
+        let point : k.point.bytes ≡ point_of secret = sure.learnt.each n k secret a b in
         let owner = (sure.numbered.signed.each n k a).owner in
         on_revoked n k a
         (subst (λ (ps : List Claimable). Contains ps (claimed_by x)) (sym (same_Some (claimable_in (revoked_contents h.state k secret)) os e) ∙ same_claims h.state k secret owner point) i)
@@ -147,15 +146,10 @@ module _ (laws : Laws) (history : List Entry) (c : ℕ) (ch : ChannelBook) (fund
     where
       by : (call : Call) → TakesCare call → AllByRecursion (IsDue it) (cons_option (release_by c call) (releases_in c es)) → (AllByRecursion (IsDue it) (releases_in c es) → AllByRecursion (IsRightful it) (releases_in c es))
           → AllByRecursion (IsRightful it) (cons_option (release_by c call) (releases_in c es))
-      by (Open o) g due others = others due
-      by (Stepping d step) g due others = others due
-      by (Sign d) g due others = others due
-      by (Revoke d revocation) g due others = others due
-      by (Keep d n claims) g due others = others due
-      by (Close d) g due others = others due
       by (Releasing d batch) g due others = here (d == c) due
         where
           here : (b : Bool) → AllByRecursion (IsDue it) (cons_option (if b then Some (record { claims = batch.claims; outputs = batch.outputs }) else None) (releases_in c es))
               → AllByRecursion (IsRightful it) (cons_option (if b then Some (record { claims = batch.claims; outputs = batch.outputs }) else None) (releases_in c es))
           here true due = (rightful batch g due.0, others due.1)
           here false due = others due
+      by call g due others = others due

@@ -3,8 +3,10 @@
 ghost use Rattle.holdings.specs.Holdings.{HoldingsAreComplete};
 ghost use Rattle.holdings.specs.Keeping.{BooksKeepRules, ClaimablesAreRecorded, KeptAreRecorded, BooksStand};
 
-use book::laws::{accepted_is_called, kept_are_exact, what_is_closed_stays_closed};
-use channel::laws::sides_are_sound;
+use book::laws::{
+    accepted_is_called, kept_are_exact, what_channels_have, what_is_closed_stays_closed,
+};
+use channel::laws::{sides_are_sound, what_is_signed};
 use safety::laws::{due_places, one_against_everybody, what_commitments_have, what_is_recorded};
 
 /// The holdings of a history are one for each channel that it leaves, in the order in which they were opened, and each release of the history stands in that of its channel.
@@ -21,7 +23,9 @@ pub fn books_keep_rules()
     ensures kept { KeptAreRecorded }
 {
     accepted_is_called();
+    what_channels_have();
     sides_are_sound();
+    what_is_signed();
     kept_are_exact();
     what_is_closed_stays_closed();
     what_is_recorded();

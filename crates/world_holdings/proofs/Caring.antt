@@ -13,7 +13,7 @@ use Rattle.safety.specs.Taken.{GrantsAreOutPoints}
 use Rattle.safety.proofs.Slots.{contains_first, contains_later}
 use Rattle.book.specs.declared.calls.Batch.{Batch}
 use Rattle.book.specs.declared.calls.Call.{Call}
-use Rattle.book.specs.declared.calls.Call.TheVariants.{Open, Step as Stepping, Sign, Revoke, Keep, Release as Releasing, Close}
+use Rattle.book.specs.declared.calls.Call.TheVariants.{Release as Releasing}
 use Rattle.book.specs.declared.calls.Entry.{Entry}
 use Rattle.book.specs.Books.{ChannelBook, Channels, fundings_of, replay}
 use Rattle.book.specs.Accepted.{IsHistory}
@@ -56,12 +56,6 @@ module _ (revoked_are : ClaimablesAreRecorded) (grants : GrantsAreOutPoints) (n 
     where
       by : (call : Call) → e.call ≡ call → AllByRecursion (IsDue (holding_of n.history c ch)) (releases_in c es)
           → AllByRecursion (IsDue (holding_of n.history c ch)) (cons_option (release_by c call) (releases_in c es))
-      by (Open o) same rest = rest
-      by (Stepping d step) same rest = rest
-      by (Sign d) same rest = rest
-      by (Revoke d revocation) same rest = rest
-      by (Keep d m claims) same rest = rest
-      by (Close d) same rest = rest
       by (Releasing d batch) same rest = here (d == c) refl
         where
           here : (b : Bool) → (d == c) ≡ b → AllByRecursion (IsDue (holding_of n.history c ch)) (cons_option (if b then Some (record { claims = batch.claims; outputs = batch.outputs }) else None) (releases_in c es))
@@ -73,6 +67,7 @@ module _ (revoked_are : ClaimablesAreRecorded) (grants : GrantsAreOutPoints) (n 
                 rest,
               )
           here false at = rest
+      by call same rest = rest
 
   pub all_due : AllByRecursion (λ (h : Holding). AllByRecursion (IsDue h) h.releases) (holdings_of n.history)
   all_due =
