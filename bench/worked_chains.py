@@ -1,5 +1,5 @@
 #!/usr/bin/env python3
-"""Whether the bytes in crates/worked_chains are those of the two channels and three chains that are worked out there.
+"""Whether the bytes in crates/worked_chains are those of the channels and chains that are worked out there.
 
 They are worked out here from BOLT 3, BIP 143 and the stand-ins of docs/DECISIONS.md for keys and signatures, and no program of this repository is asked: ids of grants and of transactions, keys, scripts,
 programs, what is signed, and the first four bytes of the hashes in the tables. The prover holds each to the definitions; here each is held to what stands outside of them.
@@ -19,7 +19,7 @@ from ripemd160 import ripemd160
 PROOFS = f"{TOP}/crates/worked_chains/proofs"
 OTHER = {"A": "B", "B": "A"}
 BASES = ("funding", "payment", "delayed", "htlc", "revocation")
-DELAY, DUST, RATE, CAPACITY = {"A": 144, "B": 2}, 546, 1000, 100000
+DELAYS, LIMITS, RATE, CAPACITY = {"A": 144, "B": 2}, {"A": 546, "B": 546}, 1000, 100000
 Htlc = namedtuple("Htlc", "satoshis byte expiry")
 Output = namedtuple("Output", "value script program kind htlc")
 # what is signed: a transaction, the script of the output that it spends, and that output's value
@@ -101,10 +101,25 @@ class Tx:
         return begin + sha256d(self.payments()) + little(self.lock_time, 4) + little(1, 4)
 
 
+def seed_secret(seed, number):
+    return sha256(b"base" + seed + bytes([number]))
+
+
+def secret_at(seed, n):
+    """The per-commitment secret of a number (BOLT 3), from index 2^48 - 1 down."""
+    index, secret = 2**48 - 1 - n, bytearray(seed_secret(seed, 5))
+    for bit in reversed(range(48)):
+        if index >> bit & 1:
+            secret[bit // 8] ^= 1 << bit % 8
+            secret = bytearray(sha256(bytes(secret)))
+    return bytes(secret)
+
+
 class Channel:
-    def __init__(self, grant, mine, theirs):
-        self.grant = sha256d(b"grant" + little(grant, 8))
+    def __init__(self, grant, mine, theirs, delays=DELAYS, limits=LIMITS, their_bases=None):
+        self.grant, self.delays, self.limits = sha256d(b"grant" + little(grant, 8)), delays, limits
         self.bases = {side: {name: key(first + at) for at, name in enumerate(BASES)} for side, first in (("A", mine), ("B", theirs))}
+        self.bases["B"].update(their_bases or {})
         keys = sorted(self.bases[side]["funding"] for side in "AB")
         self.script = b"\x52" + push(keys[0]) + push(keys[1]) + b"\x52\xae"
         self.mask = int.from_bytes(sha256(self.bases["A"]["payment"] + self.bases["B"]["payment"])[26:], "big")
@@ -143,7 +158,7 @@ class Commitment:
             "remote_htlc": derived(b"derive", peer["htlc"], at),
             "remote": peer["payment"],
         }
-        self.delayed = to_local(self.keys, DELAY[owner])
+        self.delayed = to_local(self.keys, channel.delays[owner])
         self.outputs = self.sorted_outputs(balances, offered)
         hidden = n ^ channel.mask
         self.lock_time, self.sequence = 0x20000000 + hidden % 2**24, 0x80000000 + hidden // 2**24 % 2**24
@@ -151,17 +166,17 @@ class Commitment:
         self.stages = {at: self.stage(at, it) for at, it in enumerate(self.outputs) if it.htlc}
 
     def sorted_outputs(self, balances, offered):
-        owner, outputs = self.owner, []
+        owner, outputs, limit = self.owner, [], self.channel.limits[self.owner]
         for side in (owner, OTHER[owner]):
             for htlc in offered.get(side, []):
-                if htlc.satoshis >= DUST + (663 if side == owner else 703) * RATE // 1000:
+                if htlc.satoshis >= limit + (663 if side == owner else 703) * RATE // 1000:
                     script = htlc_script(self.keys, side == owner, htlc)
                     outputs.append(Output(htlc.satoshis, script, script_program(script), "Offered" if side == owner else "Received", htlc))
         fee = (724 + 172 * len(outputs)) * RATE // 1000
         left = {side: balances[side] - (fee if side == "A" else 0) for side in "AB"}
         remote = self.keys["remote"]
         paid = [Output(left[owner], self.delayed, script_program(self.delayed), "ToLocal", None), Output(left[OTHER[owner]], to_key(remote), b"\0\x14" + hash160(remote), "ToRemote", None)]
-        return sorted(outputs + [it for it in paid if it.value >= DUST], key=lambda it: (it.value, it.program))
+        return sorted(outputs + [it for it in paid if it.value >= limit], key=lambda it: (it.value, it.program))
 
     def stage(self, at, output):
         """The HTLC transaction of an output."""
@@ -201,21 +216,78 @@ COMMITMENTS = {
     "second_newest": Commitment(CHANNELS["second"], "B", 1, key(0x57), EVEN, {}),
     "second_own": Commitment(CHANNELS["second"], "A", 0, key(0x67), EVEN, {}),
 }
-LOCKS = {(it.grant, 0): (it.script, CAPACITY) for it in CHANNELS.values()}
-for each in COMMITMENTS.values():
-    LOCKS.update(each.locks())
+
+
+class Node:
+    """A node's channels, and by channel the commitments of its peer and its own, with the number of its newest own."""
+
+    def __init__(self, channels, peers, own, newest):
+        self.channels, self.peers, self.own, self.newest = channels, peers, own, newest
+        self.locks = {(it.grant, 0): (it.script, CAPACITY) for it in channels.values()}
+        for name in channels:
+            for each in peers[name] + own[name]:
+                self.locks.update(COMMITMENTS[each].locks())
+
+    def strings(self):
+        return [text for name in self.channels for each in self.peers[name] for text in COMMITMENTS[each].strings()]
+
+    def keys(self):
+        found = []
+        for name, it in self.channels.items():
+            found.append(it.bases["A"]["funding"])
+            for each in self.peers[name]:
+                found += [COMMITMENTS[each].keys[word] for word in ("revocation", "remote_htlc", "remote")]
+            for each in self.own[name]:
+                found += [COMMITMENTS[each].keys[word] for word in ("delayed", "local_htlc")]
+        return found
+
+    def payments(self):
+        return [sha256(filled(it.htlc.byte)) for name in self.channels for each in self.peers[name] for it in COMMITMENTS[each].outputs if it.htlc]
+
+    def newest_own(self):
+        return [COMMITMENTS[self.own[name][self.newest[name]]] for name in self.channels]
+
+    def tables(self):
+        """What is hashed for the peers' commitments, the node's keys and the payment hashes."""
+        strings = self.strings()
+        found = {"hashed": [byte for it in strings for byte in sha256(it)], "once_begin": begins(sha256, strings), "twice_begin": begins(sha256d, strings), "short_begin": begins(hash160, strings)}
+        return {**found, "keys_begin": begins(hash160, self.keys()), "hashes_begin": begins(ripemd160, self.payments())}
+
+    def own_tables(self):
+        """The keys of the own commitments, the payment hashes, and what is hashed for the newest own commitments besides."""
+        derived_for = [b"derive" + it.channel.bases[side]["htlc"] + it.at for it in self.newest_own() for side in "AB"]
+        payments = [sha256(filled(each.htlc.byte)) for it in self.newest_own() for each in it.outputs if each.htlc]
+        newer = [COMMITMENTS[each].keys[word] for name in self.channels for each in self.own[name] for word in ("delayed", "local_htlc")]
+        found = {"new_keys_begin": begins(hash160, newer), "hashes_begin": begins(ripemd160, self.payments())}
+        return {**found, "htlc_keys_begin": begins(sha256, derived_for), "revocations_begin": begins(hash160, [it.keys["revocation"] for it in self.newest_own()]), "own_hashes_begin": begins(ripemd160, payments)}
+
+
+NODE = Node(CHANNELS, {"first": ["first_opened", "first_newest"], "second": ["second_opened", "second_newest"]}, {"first": ["first_own"], "second": ["second_own"]}, {"first": 0, "second": 0})
+
+# two channels of one seed: the node closed the first with its commitment 0, and revoked that of the second
+SEED, THEIR_SEED = filled(1), filled(2)
+SEEDED = Channel(0, 0x10, 0x20, {"A": 2, "B": 2}, {"A": 546, "B": 1500}, {"revocation": point(seed_secret(THEIR_SEED, 4))})
+POINTS = [point(secret_at(SEED, n)) for n in (0, 1)]
+BACK, PAID, RECEIVED, TRIMMED = Htlc(2000, 7, 3), Htlc(3000, 10, 3), Htlc(12000, 8, 3), Htlc(600, 11, 3)
+COMMITMENTS.update({
+    "seeded_own": Commitment(SEEDED, "A", 0, POINTS[0], {"A": 60000, "B": 22399}, {"A": [BACK, PAID, TRIMMED], "B": [RECEIVED]}),
+    "sibling_old": Commitment(CHANNELS["second"], "A", 0, POINTS[0], EVEN, {}),
+    "sibling_own": Commitment(CHANNELS["second"], "A", 1, POINTS[1], EVEN, {}),
+})
+ONE_SEED = Node({"seeded": SEEDED, "sibling": CHANNELS["second"]}, {"seeded": ["first_opened"], "sibling": ["second_opened"]}, {"seeded": ["seeded_own"], "sibling": ["sibling_old", "sibling_own"]}, {"seeded": 0, "sibling": 1})
 
 
 def begins(hashed, strings):
     return [int.from_bytes(hashed(it)[:4], "big") for it in strings]
 
 
-def recorded():
+def recorded(channels, names):
     found = {}
-    for name, it in CHANNELS.items():
+    for name, it in channels.items():
         found.update({f"{name}_grant": it.grant, f"{name}_funding": it.script, f"{name}_funding_program": script_program(it.script)})
         found.update({f"{name}_home_hash": hash160(it.bases["A"]["payment"]), f"{name}_away_hash": hash160(it.bases["B"]["payment"])})
-    for name, it in COMMITMENTS.items():
+    for name in names:
+        it = COMMITMENTS[name]
         found.update({f"{name}_id": it.tx.id(), f"{name}_digest": sha256d(it.tx.signed_list(it.channel.script, CAPACITY))})
         found.update({f"{name}_delayed": it.delayed, f"{name}_delayed_program": script_program(it.delayed)})
         found.update({f"{name}_keys.{word}": it.keys[word] for word in ("revocation", "delayed", "local_htlc", "remote_htlc")})
@@ -228,18 +300,12 @@ def recorded():
     return found
 
 
-def tables():
-    peers = [it for name, it in COMMITMENTS.items() if not name.endswith("own")]
-    strings, keys = [text for it in peers for text in it.strings()], []
-    for name, it in CHANNELS.items():
-        own = COMMITMENTS[f"{name}_own"].keys
-        keys.append(it.bases["A"]["funding"])
-        for number in ("opened", "newest"):
-            theirs = COMMITMENTS[f"{name}_{number}"].keys
-            keys += [theirs["revocation"], theirs["remote_htlc"], theirs["remote"]]
-        keys += [own["delayed"], own["local_htlc"]]
-    found = {"hashed": [byte for it in strings for byte in sha256(it)], "once_begin": begins(sha256, strings), "twice_begin": begins(sha256d, strings), "short_begin": begins(hash160, strings)}
-    return {**found, "keys_begin": begins(hash160, keys), "hashes_begin": begins(ripemd160, [sha256(filled(it.byte)) for it in (SEVENS, EIGHTS, NINES)])}
+def seeded():
+    """The points of the node's seed, the peer's base key, and what they make."""
+    found = {"peer_base": SEEDED.bases["B"]["revocation"]}
+    for n, at in enumerate(POINTS):
+        found.update({f"secret_{n}": secret_at(SEED, n), f"point_{n}": at})
+    return {**found, **recorded({}, ["seeded_own", "sibling_old", "sibling_own"])}
 
 
 # ---- chains
@@ -248,8 +314,8 @@ def tables():
 class Chain:
     """Blocks of transactions, by their names. A token is the key, what is signed, and 01."""
 
-    def __init__(self):
-        self.blocks, self.own, self.given = [[]], {}, {"first": [], "second": []}
+    def __init__(self, node=NODE):
+        self.node, self.blocks, self.own, self.given = node, [[]], {}, {name: [] for name in node.channels}
 
     def then(self):
         self.blocks.append([])
@@ -271,7 +337,7 @@ class Chain:
 
     def take(self, name, outpoint, outputs, witness, released=None, sequence=0, lock_time=0, spent=None):
         """A transaction that is named there: its id, and what its token is over."""
-        code, value = spent or LOCKS[outpoint]
+        code, value = spent or self.node.locks[outpoint]
         tx = self.add(Tx(outpoint, sequence, outputs, lock_time), code, value, witness)
         self.own.update({f"{name}_id": tx.id(), f"{name}_digest": sha256d(tx.signed_list(code, value))})
         if released:
@@ -281,14 +347,17 @@ class Chain:
     def tokens(self):
         """What the tokens of the node are over: of its peers' commitments, and of what it released or closed."""
         found = []
-        for name in CHANNELS:
-            for it in (COMMITMENTS[f"{name}_opened"], COMMITMENTS[f"{name}_newest"]):
+        for name in self.node.channels:
+            for it in map(COMMITMENTS.get, self.node.peers[name]):
                 found += [it.signed(), *map(it.stage_signed, it.stages)]
             found += self.given[name]
         return found
 
+    def named(self):
+        return [Signed(tx, *self.node.locks[tx.outpoint]) for block in reversed(self.blocks) for tx in reversed(block) if tx.outpoint in self.node.locks]
+
     def tables(self):
-        named = [Signed(tx, *LOCKS[tx.outpoint]) for block in reversed(self.blocks) for tx in reversed(block) if tx.outpoint in LOCKS]
+        named = self.named()
         items = [item for it in named for item in it.tx.witness]
         found = {**self.own, "items_hashed": [byte for it in items for byte in sha256(it)], "items_once": begins(sha256, items), "items_short": begins(hash160, items), "codes_once": begins(sha256, [it.code for it in named])}
         lists = {"lists": lambda it: it.tx.signed_list(it.code, it.value), "points": lambda it: it.tx.points(), "ages": lambda it: it.tx.ages(), "payments": lambda it: it.tx.payments()}
@@ -330,7 +399,7 @@ def own_close():
     it.then()
     it.then()
     returned = it.take("returned", (ids, 0), [(9000, HOME)], [(remote,), b"", NEWEST.outputs[0].script], lock_time=3)
-    it.given["first"] = [Signed(returned, *LOCKS[ids, 0]), Signed(claimed, *LOCKS[ids, 1])]
+    it.given["first"] = [Signed(returned, *NODE.locks[ids, 0]), Signed(claimed, *NODE.locks[ids, 1])]
     it.given["second"] = [COMMITMENTS["second_own"].signed()]
     return it.tables()
 
@@ -348,6 +417,37 @@ def thefts():
     return it.tables()
 
 
+OWN = COMMITMENTS["seeded_own"]
+
+
+def one_seed():
+    it, revocation = Chain(ONE_SEED), OWN.keys["revocation"]
+    it.close("seeded_own")
+    it.then()
+    it.take("takes_local", (OWN.tx.id(), 4), [(1000, b"")], [(revocation,), b"\x01", OWN.delayed])
+    it.take("takes_back", (OWN.tx.id(), 0), [(1000, b"")], [(revocation,), revocation, OWN.outputs[0].script])
+    it.then()
+    it.take("takes_received", (OWN.tx.id(), 2), [(1000, b"")], [(revocation,), revocation, OWN.outputs[2].script])
+    it.given["seeded"] = [OWN.signed()]
+    return it.tables()
+
+
+def own_stages():
+    it, delayed, success = Chain(ONE_SEED), OWN.keys["delayed"], OWN.stages[2]
+    it.close("seeded_own")
+    it.then()
+    it.stage("seeded_own", 2, filled(8))
+    it.take("pays", (OWN.tx.id(), 1), [(1000, b"")], [(OWN.keys["remote_htlc"],), filled(10), OWN.outputs[1].script])
+    it.then()
+    local = it.take("claims_local", (OWN.tx.id(), 4), [(58000, HOME)], [(delayed,), b"", OWN.delayed], sequence=2)
+    it.then()
+    it.stage("seeded_own", 0, b"")
+    second = it.take("claims_second", (success.id(), 0), [(11000, HOME)], [(delayed,), b"", OWN.delayed], sequence=2)
+    released = (success, OWN.stages[0], local, second)
+    it.given["seeded"] = [*(Signed(tx, *ONE_SEED.locks[tx.outpoint]) for tx in released), OWN.signed()]
+    return it.tables()
+
+
 def written(file):
     """The tables that stand in a file, by their names."""
     with open(f"{PROOFS}/{file}.antt", encoding="utf-8") as it:
@@ -362,7 +462,8 @@ def written(file):
 
 def main():
     count = wrong = 0
-    for file, made in (("Recorded", recorded()), ("Tables", tables()), ("ClosedExamples", closed()), ("OwnCloseExamples", own_close()), ("TokenTheftExamples", thefts())):
+    first = ["first_opened", "first_newest", "first_own", "second_opened", "second_newest", "second_own"]
+    for file, made in (("Recorded", recorded(CHANNELS, first)), ("Tables", NODE.tables()), ("ClosedExamples", closed()), ("OwnCloseExamples", own_close()), ("TokenTheftExamples", thefts()), ("SeededRecorded", seeded()), ("SeededTables", ONE_SEED.own_tables()), ("OneSeedExamples", one_seed()), ("OwnStageExamples", own_stages())):
         stand = written(file)
         for name in sorted({*made, *stand}):
             count += 1

@@ -15,3 +15,14 @@ mod ClosedExamples
 mod ClosedOutcomes
 mod OwnCloseExamples
 mod TokenTheftExamples
+mod SeededChannels
+mod SeededRecorded
+mod OwnSpends
+mod SeededTables
+mod SeededClosing
+mod OneSeedExamples
+mod OwnReleases
+mod OwnStageExamples
+mod OwnStageOutcomes
+mod OwnWorthExamples
+mod OwnShareExamples

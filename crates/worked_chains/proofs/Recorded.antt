@@ -72,7 +72,7 @@ second_masked = refl
 -- ---- the contents of a commitment
 
 -- by the id of the grant, by what obscures the numbers, and by the keys
-abbrev contents_with : Terms → CommitmentState → List ℕ → ℕ → KeyBytes → Contents
+abbrev pub contents_with : Terms → CommitmentState → List ℕ → ℕ → KeyBytes → Contents
 contents_with terms k grant mask keys = record {
   funding = record { txid = grant; index = 0 };
   hidden = obscured mask k.number;

@@ -1,8 +1,8 @@
--- Why a side that closed a channel may revoke no more, and why no two channels may have one seed. On the chain here the node closed the channel with its commitment 0, and then took a signature for number 1, so that it
--- gave out the secret of the commitment that stands there. All else that the laws ask is met, and what they say of the channel is refuted.
-use Rattle.std.proofs.Common.{◌≡◌, ℕ, Bool, true, false, not, List, [], ◌∷◌, Some, refl, sym, ap, ◌∙◌, subst, arith}
+-- Why a side that closed a channel may revoke no more. On the chain here the node closed the channel with its commitment 0, and then took a signature for number 1, so that it gave out the secret of the commitment that
+-- stands there. All else that the laws ask is met, and what they say of the channel is refuted.
+use Rattle.std.proofs.Common.{◌≡◌, Bool, true, false, not, List, [], ◌∷◌, Some, refl, sym, ap, ◌∙◌, subst, arith}
 use Rattle.std.specs.Prelude.{◌&&◌}
-use Rattle.std.specs.List.{Contains, list_all}
+use Rattle.std.specs.List.{list_all}
 use Rattle.std.specs.Str.{bytes_eq}
 use Rattle.std.proofs.lemmas.Bool.{false≢true, and_parts}
 use Rattle.std.proofs.lemmas.Option.{slice_get_past}
@@ -16,9 +16,7 @@ use Rattle.script.specs.Run.{state_after}
 use Rattle.tx.specs.Spelling.{number, compact_size, bytes_with_length, outpoint, input, output, body, stripped_spelling, transaction_id}
 use Rattle.sighash.specs.Signing.{all_outpoints, all_sequences, all_outputs, signed_list}
 use Rattle.sighash.specs.Programs.{single_op, script_ops, key_hash_program, script_hash_program, given_of, run_of}
-use Rattle.keys.specs.declared.bases.Base.TheVariants.{Revocation}
-use Rattle.keys.specs.Derivation.{point_of, derived_key, revocation_key, base_key}
-use Rattle.keys.specs.Rights.{Rights, MaySign, revoked as with_secret}
+use Rattle.keys.specs.Derivation.{point_of, derived_key, revocation_key}
 use Rattle.terms.specs.Numbers.{mask_of}
 use Rattle.terms.specs.Scripts.{number_push}
 use Rattle.chain.specs.Checks.{transaction_refusal}
@@ -33,13 +31,10 @@ use Rattle.tx.specs.Fields.{Transaction}
 use Rattle.tx.proofs.Witnesses.{same_id}
 use Rattle.chain.specs.Blocks.{Contents as Block, Coin, grant_id, coin_at}
 use Rattle.terms.specs.declared.sides.Side.TheVariants.{A}
-use Rattle.terms.specs.Agreement.{party}
 use Rattle.channel.specs.declared.commitments.CommitmentState.{CommitmentState}
-use Rattle.channel.specs.Points.{secret_at, point_at}
 use Rattle.channel.specs.Tokens.{contents_of}
 use Rattle.safety.specs.Whereabouts.{IsOnChain}
-use Rattle.safety.specs.Holdings.{Holding, terms_in, peer_in}
-use Rattle.safety.specs.Premises.{newest_revocation}
+use Rattle.safety.specs.Holdings.{Holding}
 use Rattle.safety.specs.Closers.{IsCloser, revoked, newest, next, own}
 use Rattle.safety.specs.Everybody.{ChannelStands, absent, unclosed, closed, broken}
 use Rattle.safety.proofs.Lists.{none_some, some_is}
@@ -110,9 +105,3 @@ stands_nowhere (absent e) = none_some (record { output = funded first_terms; hei
 stands_nowhere (unclosed coin at free ready) = false≢true (sym free ∙ ap (λ (x : Coin). x.spent) (sym (some_is (record { output = funded first_terms; height = 0; spent = true }) coin (sym spent ∙ at))))
 stands_nowhere (closed k closer on held) = no_closer k closer on
 stands_nowhere (broken b) = nothing_breaks (channel ∷ []) chain (and_parts (is_worked (channel ∷ []) chain) is_lost passed).0 b
-
--- ---- two channels of one seed
-
--- Whoever knows the secret of this number, since the node revoked the same number in another channel of the seed, may sign with the revocation key of the newest commitment in this one
-signs : (h : Holding) (r : Rights) → Contains r.secrets (secret_at h.state.seed h.state.number) → (party (peer_in h) (terms_in h)).bases.revocation.bytes ≡ base_key r.seed Revocation → MaySign r (newest_revocation h)
-signs h r knows e = with_secret Revocation (secret_at h.state.seed h.state.number) knows (ap (λ (b : List ℕ). revocation_key b (point_at h.state.seed h.state.number).bytes) e)

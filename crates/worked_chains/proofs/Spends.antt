@@ -82,7 +82,7 @@ named_in (v ∷ ws) t input w i names =
     (λ (k : Contains ws w). put_before (same_outpoint input.outpoint v.place.outpoint) (naming t input v) (named_by ws t input) (naming t input w) (named_in ws t input w k names))
     (contains_cases v ws w i)
 
-is_naming : (ws : List LockedOutput) (blocks : List Block) (height : ℕ) (t : Transaction) (input : TxIn) → StandsAt blocks height t → Contains t.inputs input → (w : LockedOutput) → Contains ws w → input.outpoint ≡ w.place.outpoint
+pub is_naming : (ws : List LockedOutput) (blocks : List Block) (height : ℕ) (t : Transaction) (input : TxIn) → StandsAt blocks height t → Contains t.inputs input → (w : LockedOutput) → Contains ws w → input.outpoint ≡ w.place.outpoint
     → Contains (namings ws blocks) (naming t input w)
 is_naming ws blocks height t input s i w k names =
     flat_in (λ (b : Block). flat_map (λ (u : Transaction). flat_map (named_by ws u) u.inputs) b.transactions) blocks s.block (naming t input w) (block_in blocks height t s)
@@ -91,7 +91,7 @@ is_naming ws blocks height t input s i w k names =
 
 -- ---- tokens
 
-abbrev shows : (List (List ℕ) → List ℕ → Bool) → Naming → Bool
+abbrev pub shows : (List (List ℕ) → List ℕ → Bool) → Naming → Bool
 shows test n = test n.input.witness (digest_over n)
 
 all_append : {X : Type 0} (p : X → Bool) (xs ys : List X) → list_all p (xs ++ ys) ≡ true → (list_all p xs ≡ true) × (list_all p ys ≡ true)
@@ -117,7 +117,7 @@ each_one : (test : List (List ℕ) → List ℕ → Bool) (ws : List LockedOutpu
 each_one test [] t input e = refl
 each_one test (w ∷ ws) t input e = one_more (same_outpoint input.outpoint w.place.outpoint) test w ws t input (each_one test ws t input) e
 
-each_shows : (test : List (List ℕ) → List ℕ → Bool) (ws : List LockedOutput) (blocks : List Block) → list_all (shows test) (namings ws blocks) ≡ true → each_input (each_spend test ws) blocks ≡ true
+pub each_shows : (test : List (List ℕ) → List ℕ → Bool) (ws : List LockedOutput) (blocks : List Block) → list_all (shows test) (namings ws blocks) ≡ true → each_input (each_spend test ws) blocks ≡ true
 each_shows test ws blocks e =
     all_flat (shows test) (λ (b : Block). flat_map (λ (t : Transaction). flat_map (named_by ws t) t.inputs) b.transactions) (λ (b : Block). list_all (λ (t : Transaction). list_all (each_spend test ws t) t.inputs) b.transactions)
     (λ (b : Block).

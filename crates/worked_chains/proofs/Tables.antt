@@ -54,7 +54,7 @@ locks =
     first_funding_lock ∷ first_opened_lock_0 ∷ first_opened_lock_1 ∷ first_newest_lock_0 ∷ first_newest_stage_0_lock ∷ first_newest_lock_1 ∷ first_newest_stage_1_lock ∷ first_newest_lock_2 ∷ first_newest_lock_3 ∷ first_own_lock_0 ∷ first_own_lock_1 ∷ second_funding_lock ∷ second_opened_lock_0 ∷ second_opened_lock_1 ∷ second_opened_stage_1_lock ∷ second_opened_lock_2 ∷ second_newest_lock_0 ∷ second_newest_lock_1 ∷ second_own_lock_0 ∷ second_own_lock_1 ∷ []
 
 -- an HTLC transaction, by the id of the commitment that it spends
-abbrev htlc_tx_with : List ℕ → Contents → HtlcOutput → Transaction
+abbrev pub htlc_tx_with : List ℕ → Contents → HtlcOutput → Transaction
 htlc_tx_with id c x = spending (record { txid = id; index = x.index }) 0 (htlc_tx_output c x ∷ []) (lock_time_of x.direction x.htlc)
 
 first_newest_stage_0_from : transaction_id (htlc_tx_with first_newest_id first_newest_contents first_htlc) ≡ first_newest_stage_0_id
@@ -77,7 +77,7 @@ second_opened_stage_1_from : transaction_id (htlc_tx_with second_opened_id secon
 unfolding sha256 digest_bytes hash_after compress rounds schedule first_words number compact_size bytes_with_length outpoint input output body stripped_spelling transaction_id digits minimal_bytes_of number_push script_hash_program to_local_script
 second_opened_stage_1_from = refl
 
-second_opened_stage_1_named : transaction_id (htlc_tx_of second_opened_contents third_htlc) ≡ second_opened_stage_1_id
+pub second_opened_stage_1_named : transaction_id (htlc_tx_of second_opened_contents third_htlc) ≡ second_opened_stage_1_id
 unfolding htlc_tx_of
 second_opened_stage_1_named = ap (λ (id : List ℕ). transaction_id (htlc_tx_with id second_opened_contents third_htlc)) second_opened_named ∙ second_opened_stage_1_from
 
@@ -147,18 +147,18 @@ keys_hashed = refl
 
 -- ---- strings that are hashed for the peers' commitments
 
-abbrev strings_one : Terms → CommitmentState → Contents → List (List ℕ)
+abbrev pub strings_one : Terms → CommitmentState → Contents → List (List ℕ)
 strings_one terms k c = own_strings terms k c ++ flat_map (htlc_strings c) (htlcs_of c)
 
 abbrev strings_from : (a b c d e f : Contents) → List (List ℕ)
 strings_from a b c d e f =
     (strings_one first_terms first_opened a ++ (strings_one first_terms first_newest b ++ [])) ++ ((strings_one second_terms second_opened d ++ (strings_one second_terms second_newest e ++ [])) ++ [])
 
-abbrev strings : List (List ℕ)
+abbrev pub strings : List (List ℕ)
 strings = strings_from first_opened_contents first_newest_contents first_own_contents second_opened_contents second_newest_contents second_own_contents
 
 -- the same by the ids of the commitments that HTLC transactions spend
-abbrev strings_one_at : List ℕ → Terms → CommitmentState → Contents → List (List ℕ)
+abbrev pub strings_one_at : List ℕ → Terms → CommitmentState → Contents → List (List ℕ)
 strings_one_at id terms k c = own_strings terms k c ++ flat_map (λ x. stripped_spelling (htlc_tx_with id c x) ∷ htlc_script c.keys x.direction x.htlc ∷ []) (htlcs_of c)
 
 abbrev strings_at : (newest opened : List ℕ) → List (List ℕ)
@@ -207,10 +207,10 @@ hashed_from = refl
 hashed_are : map sha256 strings ≡ hashed
 hashed_are = ap (map sha256) strings_are ∙ hashed_from
 
-abbrev once_begin : List ℕ
+abbrev pub once_begin : List ℕ
 once_begin = 0x1fda0bb1 ∷ 0xeedcb8b4 ∷ 0xe1577700 ∷ 0x28503742 ∷ 0x20be9c97 ∷ 0x568cdc8f ∷ 0x6804425e ∷ 0xe1577700 ∷ 0xfe47cc20 ∷ 0x11a33ede ∷ 0x6048bebe ∷ 0xede05cf6 ∷ 0x7088d534 ∷ 0xe972ffe3 ∷ 0x4a19d398 ∷ 0x3a63d94a ∷ 0xa2d5eec4 ∷ 0x72c365bf ∷ 0x2cd3f5da ∷ 0x1ff90409 ∷ 0x5dfe5a54 ∷ 0x5089534b ∷ 0x8b268d96 ∷ 0xa2d5eec4 ∷ 0x774c9721 ∷ 0x3980c21f ∷ []
 
-once_hashed : beginnings sha256 strings ≡ once_begin
+pub once_hashed : beginnings sha256 strings ≡ once_begin
 once_hashed = from_hashes sha256 strings hashed hashed_are ∙ refl
 
 once_distinct : are_distinct (marked strings once_begin) ≡ true
@@ -220,14 +220,14 @@ once_distinct = refl
 pub once_whole : (n : ℕ) (a : Bool) (ss : List (List ℕ)) (r q : List Release) (c : Option ℕ) → NoneCollide sha256 (strings_in (node n a ss r q c)) (strings_in (node n a ss r q c))
 once_whole n a ss r q c = subst (λ (xs : List (List ℕ)). NoneCollide sha256 xs xs) (sym (by_contents strings_from)) (no_two sha256 strings once_begin once_hashed once_distinct)
 
-abbrev twice_begin : List ℕ
+abbrev pub twice_begin : List ℕ
 twice_begin = 0x999c126f ∷ 0x2c9164a8 ∷ 0x46d338a9 ∷ 0xeb6b6114 ∷ 0xf83d4248 ∷ 0x3a246ec1 ∷ 0xe5bb54e4 ∷ 0x46d338a9 ∷ 0xf39e33eb ∷ 0xc2143b72 ∷ 0xda40eaa8 ∷ 0xc1018d2f ∷ 0x351d3c38 ∷ 0xa4f8c096 ∷ 0x953815cc ∷ 0xe0534987 ∷ 0x5d72536b ∷ 0x266edbce ∷ 0x3f49b74a ∷ 0x0ed1777b ∷ 0x590c6bb5 ∷ 0xb8d45e1f ∷ 0xbffa47bd ∷ 0x5d72536b ∷ 0x2f49c9e3 ∷ 0xa883f6d7 ∷ []
 
 twice_are : beginnings sha256 hashed ≡ twice_begin
 unfolding sha256 digest_bytes hash_after compress rounds schedule first_words
 twice_are = refl
 
-twice_hashed : beginnings sha256d strings ≡ twice_begin
+pub twice_hashed : beginnings sha256d strings ≡ twice_begin
 twice_hashed = from_first sha256 sha256 strings hashed hashed_are ∙ twice_are
 
 twice_distinct : are_distinct (marked strings twice_begin) ≡ true
@@ -237,14 +237,14 @@ twice_distinct = refl
 pub twice_whole : (n : ℕ) (a : Bool) (ss : List (List ℕ)) (r q : List Release) (c : Option ℕ) → NoneCollide sha256d (strings_in (node n a ss r q c)) (strings_in (node n a ss r q c))
 twice_whole n a ss r q c = subst (λ (xs : List (List ℕ)). NoneCollide sha256d xs xs) (sym (by_contents strings_from)) (no_two sha256d strings twice_begin twice_hashed twice_distinct)
 
-abbrev short_begin : List ℕ
+abbrev pub short_begin : List ℕ
 short_begin = 0xe4e50085 ∷ 0xc6658f82 ∷ 0xadfce54f ∷ 0x49d5ca13 ∷ 0x7c5fd1e4 ∷ 0xe8c66160 ∷ 0x6b51cb37 ∷ 0xadfce54f ∷ 0x26da4299 ∷ 0xb1c5e3ae ∷ 0x06437983 ∷ 0xc69e205b ∷ 0xad51a0f4 ∷ 0x47459b89 ∷ 0x7a3e14fa ∷ 0xe7dc806a ∷ 0x84829d93 ∷ 0xe1ef164e ∷ 0x869cbb93 ∷ 0x7cc3424d ∷ 0xf688ccce ∷ 0xdb5a9df6 ∷ 0x90aa5904 ∷ 0x84829d93 ∷ 0xa13a70e4 ∷ 0xbe4f4856 ∷ []
 
 short_are : beginnings ripemd160 hashed ≡ short_begin
 unfolding ripemd160 left_words right_words left_rotations right_rotations left_constants right_constants block_words left_line right_line blocks ripemd_compress ripemd_hash_after ripemd_digest_bytes
 short_are = refl
 
-short_hashed : beginnings hash160 strings ≡ short_begin
+pub short_hashed : beginnings hash160 strings ≡ short_begin
 short_hashed = from_first sha256 ripemd160 strings hashed hashed_are ∙ short_are
 
 short_distinct : are_distinct (marked strings short_begin) ≡ true
@@ -256,7 +256,7 @@ short_whole n a ss r q c = subst (λ (xs : List (List ℕ)). NoneCollide hash160
 
 -- ---- payment hashes
 
-abbrev hashes_one : Contents → List (List ℕ)
+abbrev pub hashes_one : Contents → List (List ℕ)
 hashes_one c = map (λ x. x.htlc.hash) (htlcs_of c)
 
 abbrev hashes_from : (a b c d e f : Contents) → List (List ℕ)

@@ -44,7 +44,7 @@ mapped {X} {Y} f first second released also closing {p} {q} {u} {v} {w} a b c d 
     ∙ ap (λ (ys : List Y). joined p q ys (map f also) (map f closing)) c ∙ ap (λ (ys : List Y). joined p q u ys (map f closing)) d ∙ ap (λ (ys : List Y). joined p q u v ys) e
 
 -- those that the node gives out with a commitment of these contents
-abbrev given_one : Terms → CommitmentState → Contents → List GivenToken
+abbrev pub given_one : Terms → CommitmentState → Contents → List GivenToken
 given_one terms k c =
     record { key = funding_key terms k; over = record { transaction = transaction_of c; input = input_of c.funding c.hidden.sequence; code = funding_script terms; value = terms.capacity_sat } }
     ∷ map (λ x. record { key = c.keys.remote_htlc; over = htlc_signed c x }) (htlcs_of c)
@@ -60,7 +60,7 @@ given_from first second closing a b c d e f = joined (given_two first_terms firs
 -- ---- those with the peers' commitments
 
 -- a token of a key, over the only input of a transaction
-abbrev token : (key txid : List ℕ) (index sequence : ℕ) → List Output → (lock_time : ℕ) (code : List ℕ) (value : ℕ) → GivenToken
+abbrev pub token : (key txid : List ℕ) (index sequence : ℕ) → List Output → (lock_time : ℕ) (code : List ℕ) (value : ℕ) → GivenToken
 token key txid index sequence outputs lock_time code value = record {
   key = key;
   over = record {
