@@ -84,19 +84,19 @@ class Channel:
                     balances[whose if update[0] == "fulfil" else 1 - whose] += htlc[2]
         return balances, standing, feerate
 
-    def amounts(self, commitment):
-        """The outputs of a commitment of the peer (BOLT 3): to_local, to_remote, and its HTLCs that are not trimmed, the peer's first."""
+    def amounts(self, commitment, owner=1):
+        """The outputs of a commitment of this side (0) or of the peer (1; BOLT 3): to_local, to_remote, and its HTLCs that are not trimmed, the owner's first."""
         balances, standing, feerate = self.view(commitment)
-        dust = self.terms["dust"][self.index(1)]
+        dust = self.terms["dust"][self.index(owner)]
         kept = []
-        for whose, weight in ((1, 663), (0, 703)):
+        for whose, weight in ((owner, 663), (1 - owner, 703)):
             least = dust + weight * feerate // 1000
             kept.append([it for _, it in sorted(standing[whose].items()) if it[2] // 1000 >= least])
         fee = (724 + 172 * (len(kept[0]) + len(kept[1]))) * feerate // 1000
         shares = [balance // 1000 for balance in balances]
         payer = 0 if self.terms["opener"] == self.side else 1
         shares[payer] = max(shares[payer] - fee, 0)
-        local, remote = (value if value >= dust else None for value in (shares[1], shares[0]))
+        local, remote = (value if value >= dust else None for value in (shares[owner], shares[1 - owner]))
         return local, remote, kept[0], kept[1]
 
     def claims(self, commitment, is_revoked):
@@ -117,6 +117,21 @@ class Channel:
         for _, number, amount, _, expiry in offered:
             claim("offered", number, amount // 1000, "penalty" if is_revoked else "timeout", None if is_revoked else expiry, "no_preimage", None)
         return found
+
+    def left(self, commitment, owner, is_revoked):
+        """What this side can claim of a commitment once each HTLC's transaction stands. Those of its own commitment, and of a revoked one, take their fees off."""
+        hashes = [hashlib.sha256(it).hexdigest() for it in self.preimages]
+        local, remote, of_owner, of_other = self.amounts(commitment, owner)
+        feerate = self.view(commitment)[2]
+        values = [local if owner == 0 else remote, local if is_revoked else None]
+        for whose, weight, htlcs in ((owner, 663, of_owner), (1 - owner, 703, of_other)):
+            fee = weight * feerate // 1000 if owner == 0 or is_revoked else 0
+            values += [it[2] // 1000 - fee for it in htlcs if is_revoked or whose == 0 or it[3] in hashes]
+        return sum(it for it in values if it is not None)
+
+    def at_least(self):
+        peers = [self.left(it, 1, False) for it in (self.theirs[-1], self.next) if it]
+        return min([self.left(self.ours[-1], 0, False), *peers, *(self.left(it, 1, True) for it in self.theirs[:-1])])
 
     def commitment(self, number, counts):
         balances, _, feerate = self.view(counts)
@@ -153,7 +168,7 @@ class Channel:
             "ours": self.commitment(len(self.ours) - 1, self.ours[-1]),
             "theirs": self.commitment(len(self.theirs) - 1, self.theirs[-1]),
             "next": self.next and self.commitment(len(self.theirs), self.next),
-            "htlcs": self.htlcs(), "closes": self.closes(),
+            "at_least": self.at_least(), "htlcs": self.htlcs(), "closes": self.closes(),
         }
 
 

@@ -22,10 +22,10 @@ mod telling;
 
 use crate::dumps::telling::tell_book;
 use crate::replies::refuse_words;
-use book::Book;
 use book_dump::errors::LoadError;
 use loading::load_dump;
 use page::Page;
+use page::Piece::Count;
 use std::alloc::Global;
 use std::io::{Read, Write};
 use std::mem;
@@ -51,7 +51,11 @@ pub fn run_words(
         return refuse_words(err, HELP);
     }
     match read_all(alloc, input) {
-        Ok(bytes) => tell_dump(alloc, bytes.as_slice(), out),
+        Ok(bytes) => {
+            let mut line = Page::new(alloc);
+            let status = tell_dump(alloc, &mut line, bytes.as_slice());
+            write_told(out, &mut line, status)
+        }
         Err(InputError::NoMemory) => refuse_memory(out),
         Err(error) => {
             let number = u64::from(error.number()) + 4;
@@ -60,32 +64,26 @@ pub fn run_words(
     }
 }
 
-// Writes the lines of the dump in the bytes, and returns the status.
-fn tell_dump(alloc: Global, bytes: &[u8], out: &mut dyn Write) -> u8
+// Writes the lines of the dump in the bytes, or why it is refused, and returns the status.
+fn tell_dump(alloc: Global, line: &mut Page, bytes: &[u8]) -> u8
     ensures { result ≤ 1 }
 {
     match load_dump(alloc, bytes) {
         Ok(book) => {
-            let status = tell_loaded(alloc, &book, out);
+            tell_book(alloc, line, &book);
             // not dropped: the program ends now, which frees all at once
             mem::forget(book);
-            status
+            0
         }
-        Err(error) => match error {
-            LoadError::NoMemory => refuse_memory(out),
-            _ => {
-                let number = u64::from(error.number());
-                write_refusal(alloc, out, error, Some(number))
-            }
-        },
+        Err(LoadError::NoMemory) => {
+            line.fail();
+            1
+        }
+        Err(error) => {
+            line.push(r#"{"refused":""#);
+            line.show(&error);
+            line.write("\",\"number\":%}\n", &[Count(u64::from(error.number()))]);
+            1
+        }
     }
-}
-
-// Writes the lines of a book, and returns the status.
-fn tell_loaded(alloc: Global, book: &Book, out: &mut dyn Write) -> u8
-    ensures { result ≤ 1 }
-{
-    let mut line = Page::new(alloc);
-    tell_book(alloc, &mut line, book);
-    write_told(out, &mut line, 0)
 }

@@ -25,12 +25,12 @@ use streams::refuse_memory;
 // The note after words of which the first is none.
 const HELP: &str = "note: trace --help says which words there are\n";
 
-/// The words after the program's name.
+/// The program's name, and the words after it.
 fn words(rt: &HostRuntime) -> io::Result<Vec<String>> {
-    Ok(env::args(rt)?.skip(1).collect(rt.alloc())?)
+    Ok(env::args(rt)?.collect(rt.alloc())?)
 }
 
-/// Does what the words say. Arguments that are not UTF-8 are wrong words.
+/// Does what the words after the program's name say. The first of them says which. Arguments that are not UTF-8 are wrong words.
 fn run(
     alloc: Global,
     words: &io::Result<Vec<String>>,
@@ -39,7 +39,10 @@ fn run(
     err: &mut dyn Write,
 ) -> u8 {
     match words {
-        Ok(words) => run_words(alloc, words.as_slice(), input, out, err),
+        Ok(words) => match words.as_slice() {
+            [_, word, rest @ ..] => run_word(alloc, word.as_str(), rest, input, out, err),
+            _ => refuse_words(err, HELP),
+        },
         Err(error) => match error.kind() {
             io::ErrorKind::OutOfMemory => refuse_memory(out),
             _ => refuse_words(err, HELP),
@@ -47,18 +50,15 @@ fn run(
     }
 }
 
-/// Does what the words say. The first word says which.
-fn run_words(
+/// Does what a word says, with the words after it.
+fn run_word(
     alloc: Global,
-    words: &[String],
+    word: &str,
+    rest: &[String],
     input: &mut dyn Read,
     out: &mut dyn Write,
     err: &mut dyn Write,
 ) -> u8 {
-    let Some((word, rest)) = words.split_first() else {
-        return refuse_words(err, HELP);
-    };
-    let word = word.as_str();
     if word == "scenario" {
         scenarios::run_words(alloc, rest, input, out, err)
     } else if word == "dump" {

@@ -3,17 +3,8 @@
 use crate::formats::Form;
 use page::Page;
 
-// Writes a note into a JSON string. A note has no control characters.
-fn tell_escaped(line: &mut Page, note: &str) {
-    for character in note.chars() {
-        if character == '"' || character == '\\' {
-            line.push("\\");
-        }
-        line.show(&character);
-    }
-}
-
-/// Writes notes, if there are any: as they are, or as a member with an element for each line.
+/// Writes notes, if there are any: as they are, or as a member with an element for each line. All characters of a note are ASCII and can be seen, so JSON
+/// and Rust write it in quotes alike.
 pub fn tell_notes(line: &mut Page, form: Form, notes: &str) {
     if let Form::Text = form {
         line.push(notes);
@@ -24,9 +15,8 @@ pub fn tell_notes(line: &mut Page, form: Form, notes: &str) {
     }
     line.push(r#","notes":["#);
     for note in notes.lines() {
-        line.element("\"", &[]);
-        tell_escaped(line, note.strip_prefix("note: ").unwrap_or(note));
-        line.push("\"");
+        line.element("", &[]);
+        line.debug(&note.strip_prefix("note: ").unwrap_or(note));
     }
     line.push("]");
 }

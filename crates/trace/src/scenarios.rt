@@ -118,7 +118,7 @@ fn words_in(value: &Value) -> &[Value] {
     }
 }
 
-// Writes the lines of a world and the events of its scenario, and returns the status: where that is wished, also 1 where an event was refused.
+// Writes what is wished of a world and the events of its scenario, and returns the status: where that is wished, also 1 where an event was refused.
 fn tell_world(
     alloc: Global,
     out: &mut dyn Write,
@@ -130,6 +130,10 @@ fn tell_world(
     ensures { result ≤ 1 }
 {
     let mut line = Page::new(alloc);
+    if let Wish::Dump(side) = wish {
+        dump_played(&mut line, world, events, side);
+        return write_told(out, &mut line, 0);
+    }
     let mut told = Told::new(alloc);
     let status = tell_events(alloc, out, &mut line, world, &mut told, events, words);
     match wish {
@@ -167,11 +171,8 @@ fn tell_scenario(
 {
     match World::new(alloc, &scenario.seeds, scenario.channels.values()) {
         Ok(mut world) => {
-            let events = scenario.events.values();
-            let status = match wish {
-                Wish::Dump(side) => dump_played(alloc, out, &mut world, events, side),
-                _ => tell_world(alloc, out, &mut world, events, words_in(value), wish),
-            };
+            let (events, words) = (scenario.events.values(), words_in(value));
+            let status = tell_world(alloc, out, &mut world, events, words, wish);
             // its books and its chain are not dropped: the program ends now, which frees all at once
             mem::forget(world.into_parts());
             status

@@ -6,6 +6,7 @@ use crate::names::{explorer_id, side_name};
 use book::Book;
 use channel::{Channel, CommitmentState};
 use commit::commitment_amounts;
+use least::at_least_sat_with;
 use page::Piece::{Count, Hash, Text};
 use page::{Page, Piece};
 use std::alloc::Global;
@@ -26,6 +27,14 @@ fn tell_source(line: &mut Page, channel: &Channel, before: &'static str, source:
             ],
         ),
         None => line.push("null"),
+    }
+}
+
+// Writes the least that the side has of a channel, in satoshis, whichever commitment closes it, with these preimages.
+fn tell_least(alloc: Global, line: &mut Page, channel: &Channel, preimages: &[[u8; 32]]) {
+    match at_least_sat_with(alloc, channel, preimages) {
+        Ok(sat) => line.write(r#","at_least":%"#, &[Count(sat)]),
+        Err(_) => line.fail(),
     }
 }
 
@@ -193,13 +202,14 @@ fn tell_terms(line: &mut Page, book: &Book, index: u64, channel: &Channel) {
     }
 }
 
-// Writes the line of a channel: its terms, the commitments that may be broadcast without a penalty, the HTLCs in them, and the closings.
+// Writes the line of a channel: its terms, the commitments that may be broadcast without a penalty, the least that it gives, the HTLCs in them, and the closings.
 fn tell_channel(alloc: Global, line: &mut Page, book: &Book, index: u64, channel: &Channel) {
     let side = channel.side();
     tell_terms(line, book, index, channel);
     tell_source(line, channel, r#","ours":"#, Source::Ours);
     tell_source(line, channel, r#","theirs":"#, Source::Theirs);
     tell_source(line, channel, r#","next":"#, Source::Next);
+    tell_least(alloc, line, channel, book.preimages(index));
     line.push(r#","htlcs":["#);
     tell_offered(line, channel, "offered", side);
     tell_offered(line, channel, "received", side.other());

@@ -10,33 +10,27 @@ use sighash::programs::is_key_hash_program;
 use terms::Side;
 use world::World;
 
-// The name of the way in which a claim spends its output.
-fn way(due: &DueClaim) -> &'static str {
-    let claim = &due.claim;
-    let path = claim.path();
-    if path.age.is_some() {
-        return "delay";
-    }
-    if !due.preimages.is_empty() {
-        return "preimage";
-    }
-    if path.lock.is_some() || matches!(claim.shell(), Shell::Fixed(_)) {
-        return "timeout";
-    }
-    if is_key_hash_program(claim.place().program.bytes()) {
-        return "key";
-    }
-    "revocation"
-}
-
 // Writes a claim of a side. It is due in the first block that can take it, if the claimed output is on the chain.
 fn tell_claim(line: &mut Page, told: &Told, side: Side, due: &DueClaim) {
-    let place = due.claim.place();
+    let claim = &due.claim;
+    let (path, place) = (claim.path(), claim.place());
     let txid = place.outpoint.txid;
+    // by what the claim spends its output
+    let by = if path.age.is_some() {
+        "delay"
+    } else if !due.preimages.is_empty() {
+        "preimage"
+    } else if path.lock.is_some() || matches!(claim.shell(), Shell::Fixed(_)) {
+        "timeout"
+    } else if is_key_hash_program(place.program.bytes()) {
+        "key"
+    } else {
+        "revocation"
+    };
     let height = match told.coin(&place.outpoint) {
         Some(coin) => {
-            let aged = coin.height.saturating_add(u64::from(due.claim.needs_age()));
-            match due.claim.needs_height() {
+            let aged = coin.height.saturating_add(u64::from(claim.needs_age()));
+            match claim.needs_height() {
                 0 => Count(aged),
                 lock => Count(aged.max(lock.saturating_add(1))),
             }
@@ -51,7 +45,7 @@ fn tell_claim(line: &mut Page, told: &Told, side: Side, due: &DueClaim) {
             Hash(txid),
             Count(u64::from(place.outpoint.index)),
             Count(place.value),
-            Text(way(due)),
+            Text(by),
             height,
         ],
     );

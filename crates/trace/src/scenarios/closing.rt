@@ -4,12 +4,11 @@ use crate::names::side_name;
 use crate::scenarios::coins::{Coin, Kind, Told};
 use crate::scenarios::outputs::tell_output;
 use chain::Confirmed;
-use channel::CommitmentState;
 use commit::{Commitment, CommitmentOutput, Direction, OutputKind, build};
 use page::Piece::Count;
 use page::{Page, Piece};
 use std::alloc::Global;
-use terms::{Side, Terms, number_of};
+use terms::{Side, number_of};
 use world::World;
 
 // The coin of an output of a commitment, by that of its holder's own balance.
@@ -113,20 +112,6 @@ fn tell_if_of(
         height,
         due: height.saturating_add(u64::from(terms.party(holder).delay_blocks)),
     };
-    tell_if_built(alloc, told, line, &to_local, terms, state, confirmed)
-}
-
-// Writes a transaction as the commitment of this state, if it is that one, and returns whether it is.
-fn tell_if_built(
-    alloc: Global,
-    told: &mut Told,
-    line: &mut Page,
-    to_local: &Coin,
-    terms: &Terms,
-    state: &CommitmentState,
-    confirmed: &Confirmed,
-) -> bool {
-    let holder = to_local.holder;
     match build(
         alloc,
         terms,
@@ -135,7 +120,7 @@ fn tell_if_built(
         state.number,
         &state.point,
     ) {
-        Ok(commitment) => tell_closing(told, line, state.number, to_local, &commitment, confirmed),
+        Ok(commitment) => tell_closing(told, line, state.number, &to_local, &commitment, confirmed),
         Err(_) => {
             line.fail();
             false

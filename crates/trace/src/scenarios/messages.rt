@@ -10,10 +10,30 @@ use terms::Side;
 use updates::{PeerStep, Update};
 use world::World;
 
-// The templates of a message on its way to a side, and of one that was delivered to it.
-const SENT: &str = r#","sent":{"to":"%","channel":%,"message":"%","waiting":%}"#;
+// What is written of a message: its template, and the stages of an HTLC that is offered, fulfilled or failed in it.
+#[derive(Clone, Copy)]
+struct Words {
+    message: &'static str,
+    offered: &'static str,
+    fulfilled: &'static str,
+    failed: &'static str,
+}
 
-const DELIVERED: &str = r#","delivered":{"to":"%","channel":%,"message":"%","waiting":%}"#;
+// Of a message on its way to a side.
+const SENT: Words = Words {
+    message: r#","sent":{"to":"%","channel":%,"message":"%","waiting":%}"#,
+    offered: "offered",
+    fulfilled: "fulfilled",
+    failed: "failed",
+};
+
+// Of a message that was delivered to a side.
+const DELIVERED: Words = Words {
+    message: r#","delivered":{"to":"%","channel":%,"message":"%","waiting":%}"#,
+    offered: "received",
+    fulfilled: "fulfil_received",
+    failed: "fail_received",
+};
 
 // Writes a message to a side, by its template.
 fn tell_message(
@@ -34,59 +54,60 @@ fn tell_message(
     );
 }
 
-// Writes the next stage of the HTLC in an update on its way to a side, if it has one.
-fn tell_htlc(line: &mut Page, to: Side, channel: u64, stage: &'static str, update: &Update) {
-    let (channel, stage) = (Count(channel), Text(stage));
+// Writes an update that is on its way to a side, or that it received, and the next stage of the HTLC in it.
+fn tell_update(
+    line: &mut Page,
+    world: &World,
+    words: &Words,
+    to: Side,
+    channel: u64,
+    update: &Update,
+) {
+    let template = words.message;
     match update {
         Update::Add(htlc) => {
             let hash = htlc.hash;
+            tell_message(line, world, template, to, channel, "update_add_htlc");
             line.write(
                 r#","htlc":{"channel":%,"offerer":"%","id":%,"stage":"%","amount":%,"hash":"%","expiry":%}"#,
                 &[
-                    channel,
+                    Count(channel),
                     side_name(to.other()),
                     Count(htlc.id),
-                    stage,
+                    Text(words.offered),
                     Count(htlc.amount_msat),
                     Hash(hash),
                     Count(u64::from(htlc.expiry_height)),
                 ],
             );
         }
-        Update::Fulfil { id, preimage } => line.write(
-            r#","htlc":{"channel":%,"offerer":"%","id":%,"stage":"%","preimage":"%"}"#,
-            &[channel, side_name(to), Count(*id), stage, Hash(*preimage)],
-        ),
-        Update::Fail { id } => line.write(
-            r#","htlc":{"channel":%,"offerer":"%","id":%,"stage":"%"}"#,
-            &[channel, side_name(to), Count(*id), stage],
-        ),
-        Update::Fee { .. } => {}
+        Update::Fulfil { id, preimage } => {
+            tell_message(line, world, template, to, channel, "update_fulfill_htlc");
+            line.write(
+                r#","htlc":{"channel":%,"offerer":"%","id":%,"stage":"%","preimage":"%"}"#,
+                &[
+                    Count(channel),
+                    side_name(to),
+                    Count(*id),
+                    Text(words.fulfilled),
+                    Hash(*preimage),
+                ],
+            );
+        }
+        Update::Fail { id } => {
+            tell_message(line, world, template, to, channel, "update_fail_htlc");
+            line.write(
+                r#","htlc":{"channel":%,"offerer":"%","id":%,"stage":"%"}"#,
+                &[
+                    Count(channel),
+                    side_name(to),
+                    Count(*id),
+                    Text(words.failed),
+                ],
+            );
+        }
+        Update::Fee { .. } => tell_message(line, world, template, to, channel, "update_fee"),
     }
-}
-
-// Writes an update that is on its way to a side, or that it received, and the next stage of the HTLC in it.
-fn tell_update(
-    line: &mut Page,
-    world: &World,
-    is_received: bool,
-    to: Side,
-    channel: u64,
-    update: &Update,
-) {
-    let (message, sent, received) = match update {
-        Update::Add(_) => ("update_add_htlc", "offered", "received"),
-        Update::Fulfil { .. } => ("update_fulfill_htlc", "fulfilled", "fulfil_received"),
-        Update::Fail { .. } => ("update_fail_htlc", "failed", "fail_received"),
-        Update::Fee { .. } => ("update_fee", "", ""),
-    };
-    let (template, stage) = if is_received {
-        (DELIVERED, received)
-    } else {
-        (SENT, sent)
-    };
-    tell_message(line, world, template, to, channel, message);
-    tell_htlc(line, to, channel, stage, update);
 }
 
 /// Writes an update that a side made.
@@ -94,7 +115,7 @@ pub fn tell_own(line: &mut Page, world: &World, side: Side, channel: u64) {
     let to = side.other();
     if let Some(inbox) = world.inbox(to, channel) {
         if let Some(Message::Step(PeerStep::Update(update))) = inbox.back() {
-            tell_update(line, world, false, to, channel, update);
+            tell_update(line, world, &SENT, to, channel, update);
         }
     }
 }
@@ -102,7 +123,7 @@ pub fn tell_own(line: &mut Page, world: &World, side: Side, channel: u64) {
 /// Writes that a side signed.
 pub fn tell_signed(line: &mut Page, world: &World, side: Side, channel: u64) {
     let to = side.other();
-    tell_message(line, world, SENT, to, channel, "commitment_signed");
+    tell_message(line, world, SENT.message, to, channel, "commitment_signed");
     if let Some(own) = world.book(side).channel(channel) {
         if let Some(state) = own.peers_commitments().last() {
             line.write(
@@ -122,14 +143,35 @@ pub fn tell_delivered(line: &mut Page, world: &World, side: Side, channel: u64) 
         Call::Step {
             step: Step::Peer(PeerStep::Update(update)),
             ..
-        } => tell_update(line, world, true, side, channel, update),
+        } => tell_update(line, world, &DELIVERED, side, channel, update),
         Call::Step { .. } => {
-            tell_message(line, world, DELIVERED, side, channel, "commitment_signed");
-            tell_message(line, world, SENT, side.other(), channel, "revoke_and_ack");
+            tell_message(
+                line,
+                world,
+                DELIVERED.message,
+                side,
+                channel,
+                "commitment_signed",
+            );
+            tell_message(
+                line,
+                world,
+                SENT.message,
+                side.other(),
+                channel,
+                "revoke_and_ack",
+            );
             tell_held(line, world, side, channel);
         }
         Call::Revoke { .. } => {
-            tell_message(line, world, DELIVERED, side, channel, "revoke_and_ack");
+            tell_message(
+                line,
+                world,
+                DELIVERED.message,
+                side,
+                channel,
+                "revoke_and_ack",
+            );
             if let Some(own) = world.book(side).channel(channel) {
                 let number = own.peer_number().saturating_sub(1);
                 line.write(

@@ -18,44 +18,17 @@ use std::slice;
 use world::{Outcome, World};
 
 impl Told {
-    // Writes what new blocks changed, or a reorganisation. The chain had height `before` when the event came.
-    fn tell_blocks(
-        &mut self,
-        alloc: Global,
-        line: &mut Page,
-        world: &World,
-        before: u64,
-        event: &Event,
-    ) {
-        match *event {
-            Event::Blocks { .. } => {
-                self.tell_left(line, world.pool());
-                tell_mined(alloc, world, self, line, before);
-            }
-            Event::Reorg { depth, .. } => {
-                let above = before.saturating_sub(depth);
-                self.tell_left(line, &[]);
-                self.tell_joined(line, world.pool());
-                line.push(r#","undone":["#);
-                self.back_to(line, above);
-                line.push("]");
-                tell_mined(alloc, world, self, line, above);
-            }
-            _ => {}
-        }
-    }
-
-    // Writes what an event changed that put a transaction into the pool.
-    fn tell_sent(&mut self, line: &mut Page, world: &World, event: &Event) {
-        match *event {
-            Event::Close { side, channel } => tell_closed(line, world, side, channel),
-            Event::Release { side, .. } => tell_jobs(line, world, side),
-            _ => {}
-        }
+    // Writes what a reorganisation changed, above this height.
+    fn tell_reorganised(&mut self, alloc: Global, line: &mut Page, world: &World, above: u64) {
+        self.tell_left(line, &[]);
         self.tell_joined(line, world.pool());
+        line.push(r#","undone":["#);
+        self.back_to(line, above);
+        line.push("]");
+        tell_mined(alloc, world, self, line, above);
     }
 
-    // Writes what an accepted event changed. The chain had height `before` when it came.
+    // Writes what an accepted event changed, and at last what it put into the pool. The chain had height `before` when it came.
     fn tell_changes(
         &mut self,
         alloc: Global,
@@ -83,15 +56,18 @@ impl Told {
                 }
                 tell_jobs(line, world, side);
             }
-            Event::Take { side, .. } => tell_jobs(line, world, side),
-            Event::Blocks { .. } | Event::Reorg { .. } => {
-                self.tell_blocks(alloc, line, world, before, event)
+            Event::Take { side, .. } | Event::Release { side, .. } => tell_jobs(line, world, side),
+            Event::Blocks { .. } => {
+                self.tell_left(line, world.pool());
+                tell_mined(alloc, world, self, line, before);
             }
-            Event::Broadcast { .. }
-            | Event::BroadcastHtlc { .. }
-            | Event::Release { .. }
-            | Event::Close { .. } => self.tell_sent(line, world, event),
+            Event::Reorg { depth, .. } => {
+                self.tell_reorganised(alloc, line, world, before.saturating_sub(depth))
+            }
+            Event::Close { side, channel } => tell_closed(line, world, side, channel),
+            Event::Broadcast { .. } | Event::BroadcastHtlc { .. } => {}
         }
+        self.tell_joined(line, world.pool());
     }
 
     /// Ends the line of an event that was played: its outcome, the height, and what it changed. The chain had height `before` when it came.

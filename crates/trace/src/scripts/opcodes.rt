@@ -29,12 +29,12 @@ fn look_text(form: Form, item: &[u8], look: Look) -> &'static str {
 
 // Writes the bytes of a push, and what they look like.
 fn tell_push(line: &mut Page, form: Form, item: &[u8]) {
-    line.push(match form {
+    let before = match form {
         Form::Json => r#","hex":""#,
         Form::Text if item.is_empty() => " -",
         Form::Text => " ",
-    });
-    line.hex("", item);
+    };
+    line.hex(before, item);
     let look = Look::of(item);
     let text = look_text(form, item, look);
     match look {

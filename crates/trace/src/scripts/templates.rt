@@ -92,16 +92,15 @@ fn tell_signer(line: &mut Page, fact: &Fact, slot: usize) {
 fn tell_item(line: &mut Page, facts: &[Stated], slot: usize) {
     match telling(facts, slot) {
         Some(Fact::Is(_, bytes)) => {
-            line.push(if bytes.is_empty() { "<empty>" } else { "" });
-            line.hex("", bytes.bytes());
+            line.hex(if bytes.is_empty() { "<empty>" } else { "" }, bytes.bytes());
         }
         Some(Fact::Hash(_, hash)) => {
-            line.push(if is_said(facts, slot, Says::Key) {
+            let before = if is_said(facts, slot, Says::Key) {
                 "<key with HASH160 "
             } else {
                 "<preimage of HASH160 "
-            });
-            line.hex("", hash.bytes());
+            };
+            line.hex(before, hash.bytes());
             line.push(">");
         }
         Some(Fact::KeyForm(_)) => line.push("<key>"),

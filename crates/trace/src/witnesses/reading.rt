@@ -56,10 +56,12 @@ pub fn read_outputs(
     if text.lines().count().saturating_sub(1) != count {
         return Err(SpentError::BadCount);
     }
-    let mut number = 1usize;
-    for line in text.lines().skip(1) {
+    let mut number = 0usize;
+    for line in text.lines() {
         number = number.saturating_add(1);
-        read_output(alloc, outputs, line, number)?;
+        if number > 1 {
+            read_output(alloc, outputs, line, number)?;
+        }
     }
     Ok(())
 }

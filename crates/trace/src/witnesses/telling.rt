@@ -1,5 +1,7 @@
 // Writes the verdict on an input.
 
+ghost use Rattle.std.specs.Prelude.{◌≤◌};
+
 use crate::formats::Form;
 use crate::notes::tell_notes;
 use crate::scripts::{byte_of, opcode_name};
@@ -69,30 +71,42 @@ fn tell_stack(line: &mut Page, form: Form, items: &[ByteString]) {
 
 // Writes at which opcode a run stops, and why.
 fn tell_stop(line: &mut Page, form: Form, stopped: &Stopped) {
-    let (cause, index) = (stopped.cause, stopped.index);
+    let index = stopped.index;
     let ops = stopped.script.ops();
-    let (opcode, byte) = (Count(index as u64), Count(byte_of(ops, index)));
-    let says = Text(cause_sentence(cause));
-    // the name of the opcode and what stands on both sides of it, if there is one
-    let (quote, name) = match ops.get(index) {
-        Some(op) => (Text("\""), opcode_name(op)),
-        None => (Text(""), ""),
-    };
+    let byte = byte_of(ops, index);
+    let says = cause_sentence(stopped.cause);
     match form {
         Form::Json => {
-            let op = Text(if name.is_empty() { "null" } else { name });
+            // what stands on both sides of the opcode's name, and the name, if there is one
+            let (quote, op) = match ops.get(index) {
+                Some(op) => ("\"", opcode_name(op)),
+                None => ("", "null"),
+            };
             line.push(r#","stopped":""#);
-            line.show(&cause);
+            line.show(&stopped.cause);
             line.write(
                 r#"","opcode":%,"op":%%%,"byte":%,"says":"%","stack":["#,
-                &[opcode, quote, op, quote, byte, says],
+                &[
+                    Count(index as u64),
+                    Text(quote),
+                    Text(op),
+                    Text(quote),
+                    Count(byte),
+                    Text(says),
+                ],
             );
         }
         Form::Text => {
-            let op = Text(if name.is_empty() { "end" } else { name });
-            line.write(" stops at opcode % (%), byte %: ", &[opcode, op, byte]);
-            line.show(&cause);
-            line.write(": %\n", &[says]);
+            let op = match ops.get(index) {
+                Some(op) => opcode_name(op),
+                None => "end",
+            };
+            line.write(
+                " stops at opcode % (%), byte %: ",
+                &[Count(index as u64), Text(op), Count(byte)],
+            );
+            line.show(&stopped.cause);
+            line.write(": %\n", &[Text(says)]);
         }
     }
 }
@@ -116,48 +130,57 @@ fn tell_stopped(line: &mut Page, form: Form, stopped: &Stopped) {
 // Writes why no script runs.
 fn tell_fault(line: &mut Page, form: Form, fault: &Fault) {
     let (before, after) = match form {
-        Form::Json => (r#","refused":"%"#, "\",\"says\":\"%\"}\n"),
-        Form::Text => (" is refused: %", ": %\n"),
+        Form::Json => (r#","refused":""#, "\",\"says\":\"%\"}\n"),
+        Form::Text => (" is refused: ", ": %\n"),
     };
-    let (name, says) = match fault {
-        Fault::Program(ProgramFault::OtherProgram) => (
-            "OtherProgram",
-            "the program is not of version 0 with the hash of a key or of a script",
-        ),
-        Fault::Program(ProgramFault::NotTwoItems) => (
-            "NotTwoItems",
-            "the program has the hash of a key, and the witness has not two items",
-        ),
-        Fault::Program(ProgramFault::NoScript) => (
-            "NoScript",
-            "the program has the hash of a script, and the witness has no item",
-        ),
-        Fault::Program(ProgramFault::OtherScript) => (
-            "OtherScript",
-            "the last item of the witness has another hash than the program",
-        ),
-        Fault::BadScript(_) => (
-            "",
-            "the last item of the witness is no script of the opcodes here",
-        ),
+    line.push(before);
+    let says = match fault {
+        Fault::Program(fault) => {
+            line.debug(fault);
+            match fault {
+                ProgramFault::OtherProgram => {
+                    "the program is not of version 0 with the hash of a key or of a script"
+                }
+                ProgramFault::NotTwoItems => {
+                    "the program has the hash of a key, and the witness has not two items"
+                }
+                ProgramFault::NoScript => {
+                    "the program has the hash of a script, and the witness has no item"
+                }
+                ProgramFault::OtherScript => {
+                    "the last item of the witness has another hash than the program"
+                }
+            }
+        }
+        Fault::BadScript(error) => {
+            line.show(error);
+            "the last item of the witness is no script of the opcodes here"
+        }
     };
-    line.write(before, &[Text(name)]);
-    if let Fault::BadScript(error) = fault {
-        line.show(error);
-    }
     line.write(after, &[Text(says)]);
 }
 
-/// Writes the verdict on an input: an object on a line, or lines for people.
-pub fn tell_verdict(line: &mut Page, form: Form, input: usize, verdict: &Verdict) {
+/// Writes the verdict on an input, an object on a line or lines for people, and returns 0 if it runs clean.
+pub fn tell_verdict(line: &mut Page, form: Form, input: usize, verdict: &Verdict) -> u8
+    ensures { result ≤ 1 }
+{
     let before = match form {
         Form::Json => r#"{"input":%"#,
         Form::Text => "input %",
     };
     line.write(before, &[Count(input as u64)]);
     match verdict {
-        Verdict::Refused(fault) => tell_fault(line, form, fault),
-        Verdict::Stopped(stopped) => tell_stopped(line, form, stopped),
-        Verdict::Clean(clean) => tell_clean(line, form, clean),
+        Verdict::Refused(fault) => {
+            tell_fault(line, form, fault);
+            1
+        }
+        Verdict::Stopped(stopped) => {
+            tell_stopped(line, form, stopped);
+            1
+        }
+        Verdict::Clean(clean) => {
+            tell_clean(line, form, clean);
+            0
+        }
     }
 }

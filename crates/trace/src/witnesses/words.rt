@@ -5,13 +5,12 @@ ghost use Rattle.std.specs.Prelude.{◌≡◌, ◌≤◌, Some, slice_get};
 use crate::formats::Form;
 use crate::notes::tell_notes;
 use crate::replies::refuse_words;
-use crate::verdict::{Verdict, judge};
+use crate::verdict::judge;
 use crate::witnesses::errors::SpentError;
 use crate::witnesses::hints::refused_note;
 use crate::witnesses::reading::{read_outputs, read_tx};
 use crate::witnesses::telling::tell_verdict;
 use page::Page;
-use page::Piece::Count;
 use sighash::SighashCache;
 use std::alloc::Global;
 use std::io::{Read, Write};
@@ -82,7 +81,7 @@ fn refuse(alloc: Global, form: Form, text: &str, error: &SpentError, out: &mut d
         SpentError::Input(error) => line.push(error.text()),
         SpentError::Decode(error) => line.show(error),
         SpentError::BadCount => line.push("BadCount"),
-        SpentError::BadLine(number) => line.write("BadLine %", &[Count(*number as u64)]),
+        SpentError::BadLine(number) => line.count("BadLine ", *number as u64),
     }
     line.push(after);
     tell_notes(&mut line, form, refused_note(alloc, text, error));
@@ -107,7 +106,7 @@ fn tell_inputs(alloc: Global, form: Form, tx: &Tx, outputs: &[TxOut], out: &mut 
     status
 }
 
-// Judges an input, and returns 0 if it runs clean.
+// Judges an input, writes the verdict, and returns 0 if it runs clean.
 fn tell_input(
     alloc: Global,
     form: Form,
@@ -123,26 +122,11 @@ fn tell_input(
     ensures { result ≤ 1 }
 {
     match judge(alloc, tx, cache, index, input, output) {
-        Ok(verdict) => write_verdict(alloc, form, index, &verdict, out),
+        Ok(verdict) => {
+            let mut line = Page::new(alloc);
+            let status = tell_verdict(&mut line, form, index, &verdict);
+            write_told(out, &mut line, status)
+        }
         Err(_) => refuse_memory(out),
     }
-}
-
-// Writes the verdict on an input, and returns 0 if it runs clean.
-fn write_verdict(
-    alloc: Global,
-    form: Form,
-    input: usize,
-    verdict: &Verdict,
-    out: &mut dyn Write,
-) -> u8
-    ensures { result ≤ 1 }
-{
-    let mut line = Page::new(alloc);
-    tell_verdict(&mut line, form, input, verdict);
-    let status = match verdict {
-        Verdict::Clean(_) => 0,
-        _ => 1,
-    };
-    write_told(out, &mut line, status)
 }
