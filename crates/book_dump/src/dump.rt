@@ -13,8 +13,9 @@ use crate::reading::dump_in;
 use crate::replaying::book_of;
 use book::Book;
 use std::alloc::{AllocError, Global};
+use std::mem;
 
-/// A book's two calls: it is dumped as a text, and loaded from one.
+/// A book's calls: it is dumped as a text, loaded from one, and let go.
 pub trait Dump: Sized {
     // the history that is dumped
     ghost history: { Self → List Entry };
@@ -34,6 +35,9 @@ pub trait Dump: Sized {
     /// the call (`BadHistory`).
     fn load(alloc: Global, text: &str) -> Result<Self, LoadError>
         ensures { LoadsBy history result (loaded peer_tokens text.now) };
+
+    /// Lets the book go without freeing what it holds. For a program that ends now, which frees all at once.
+    fn leak(self);
 }
 
 impl Dump for Book {
@@ -49,5 +53,9 @@ impl Dump for Book {
             Ok(dump) => book_of(alloc, dump.history),
             Err(error) => Err(error),
         }
+    }
+
+    fn leak(self) {
+        mem::forget(self);
     }
 }

@@ -1,6 +1,6 @@
 //! The dump of a book: its history as a JSON text (RFC 8259), from which the same book is loaded.
 //!
-//! [`Dump`] gives a [`book::Book`] the two calls. `dump` writes the history, which is loaded as the same. `load` makes its calls
+//! [`Dump`] gives a [`book::Book`] its calls. `dump` writes the history, which is loaded as the same. `load` makes its calls
 //! again in a new book and accepts each claim anew, so it never trusts what the text says of a claim or a penalty set.
 //! A text that is no history is refused, and [`errors::LoadError`] says why: [`laws::refusals_come_in_order`].
 //!

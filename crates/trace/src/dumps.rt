@@ -8,7 +8,7 @@
 //! `book` loads the dump, `channel` has the commitments, and `commit` the amounts of their outputs. The program `trace` passes its streams.
 //!
 //! ```rust
-//! let status = run_words(alloc, words, &mut input, &mut out, &mut err);
+//! let status = run_words(alloc, words, &mut input, &mut out);
 //! ```
 //!
 //! Tested by `bench/dumps.py`, which finds anew what it has to write, and by the calls of `bench/answers.py`.
@@ -21,34 +21,28 @@ mod standing;
 mod telling;
 
 use crate::dumps::telling::tell_book;
-use crate::replies::refuse_words;
+use crate::replies::WRONG_WORDS;
+use book_dump::Dump as _;
 use book_dump::errors::LoadError;
 use loading::load_dump;
 use page::Page;
 use page::Piece::Count;
 use std::alloc::Global;
 use std::io::{Read, Write};
-use std::mem;
 use streams::{InputError, read_all, refuse_memory, write_refusal, write_told};
 
-// The note after wrong words.
-const HELP: &str =
+/// The note after wrong words.
+pub const HELP: &str =
     "note: dump takes no more words, and reads the dump of a book from standard input: trace dump <FILE\n";
 
 /// Runs the word `dump` on the words after it, of which there has to be none, and returns its status: 0 when all lines of the dump in the input are written, 1 for a refused dump, a failed
 /// write, or if memory ran out, 2 for wrong words, which are detected before any input is read. All lines are made before the first byte is written. A refusal is written with its number: that
 /// of the book's, or for input that can't be read one after them.
-pub fn run_words(
-    alloc: Global,
-    words: &[String],
-    input: &mut dyn Read,
-    out: &mut dyn Write,
-    err: &mut dyn Write,
-) -> u8
+pub fn run_words(alloc: Global, words: &[String], input: &mut dyn Read, out: &mut dyn Write) -> u8
     ensures { result ≤ 2 }
 {
     if !words.is_empty() {
-        return refuse_words(err, HELP);
+        return WRONG_WORDS;
     }
     match read_all(alloc, input) {
         Ok(bytes) => {
@@ -71,8 +65,7 @@ fn tell_dump(alloc: Global, line: &mut Page, bytes: &[u8]) -> u8
     match load_dump(alloc, bytes) {
         Ok(book) => {
             tell_book(alloc, line, &book);
-            // not dropped: the program ends now, which frees all at once
-            mem::forget(book);
+            book.leak();
             0
         }
         Err(LoadError::NoMemory) => {

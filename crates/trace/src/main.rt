@@ -15,7 +15,7 @@ mod scripts;
 mod verdict;
 mod witnesses;
 
-use crate::replies::refuse_words;
+use crate::replies::{WRONG_WORDS, refuse_words};
 use std::alloc::Global;
 use std::env;
 use std::io::{self, Read, Write};
@@ -30,7 +30,7 @@ fn words(rt: &HostRuntime) -> io::Result<Vec<String>> {
     Ok(env::args(rt)?.collect(rt.alloc())?)
 }
 
-/// Does what the words after the program's name say. The first of them says which. Arguments that are not UTF-8 are wrong words.
+/// Does what the words after the program's name say. The first of them says which. Arguments that are not UTF-8 are wrong words, of which the usage is written.
 fn run(
     alloc: Global,
     words: &io::Result<Vec<String>>,
@@ -40,7 +40,14 @@ fn run(
 ) -> u8 {
     match words {
         Ok(words) => match words.as_slice() {
-            [_, word, rest @ ..] => run_word(alloc, word.as_str(), rest, input, out, err),
+            [_, word, rest @ ..] => {
+                let (status, help) = run_word(alloc, word.as_str(), rest, input, out);
+                if status == WRONG_WORDS {
+                    refuse_words(err, help)
+                } else {
+                    status
+                }
+            }
             _ => refuse_words(err, HELP),
         },
         Err(error) => match error.kind() {
@@ -50,25 +57,30 @@ fn run(
     }
 }
 
-/// Does what a word says, with the words after it.
+/// Does what a word says, with the words after it, and returns the status, with the note after wrong words.
 fn run_word(
     alloc: Global,
     word: &str,
     rest: &[String],
     input: &mut dyn Read,
     out: &mut dyn Write,
-    err: &mut dyn Write,
-) -> u8 {
+) -> (u8, &'static str) {
     if word == "scenario" {
-        scenarios::run_words(alloc, rest, input, out, err)
+        (
+            scenarios::run_words(alloc, rest, input, out),
+            scenarios::HELP,
+        )
     } else if word == "dump" {
-        dumps::run_words(alloc, rest, input, out, err)
+        (dumps::run_words(alloc, rest, input, out), dumps::HELP)
     } else if word == "witness" {
-        witnesses::run_words(alloc, rest, input, out, err)
+        (
+            witnesses::run_words(alloc, rest, input, out),
+            witnesses::HELP,
+        )
     } else if word == "script" {
-        scripts::run_words(alloc, rest, input, out, err)
+        (scripts::run_words(alloc, rest, input, out), scripts::HELP)
     } else {
-        refuse_words(err, HELP)
+        (WRONG_WORDS, HELP)
     }
 }
 

@@ -8,7 +8,7 @@
 //! `world` plays what `scenario` reads, and has the books, the chain and the pool. The program `trace` passes its streams.
 //!
 //! ```rust
-//! let status = run_words(alloc, words, &mut input, &mut out, &mut err);
+//! let status = run_words(alloc, words, &mut input, &mut out);
 //! ```
 //!
 //! Tested by `show/check`, which computes the lines of all examples anew, and by the calls of `bench/answers.py`.
@@ -30,7 +30,7 @@ mod wishes;
 
 use crate::formats::Form;
 use crate::notes::tell_notes;
-use crate::replies::refuse_words;
+use crate::replies::WRONG_WORDS;
 use crate::scenarios::coins::Told;
 use crate::scenarios::dumping::dump_played;
 use crate::scenarios::endings::tell_end;
@@ -46,28 +46,24 @@ use serde_json::Value;
 use std::alloc::Global;
 use std::fmt::Display;
 use std::io::{Read, Write};
-use std::mem;
 use streams::{InputError, read_all, refuse_memory, write_refusal, write_told};
 use world::World;
 use world::errors::WorldError;
 
-// The note after wrong words.
-const HELP: &str =
+/// The note after wrong words.
+pub const HELP: &str =
     "note: scenario reads the scenario from standard input, and takes --strict, --dump A or --dump B, or no word: trace scenario <FILE\n";
 
-// Plays an event, writes its line at once, and returns the status.
+// Plays an event, and writes its line.
 fn tell_event(
     alloc: Global,
-    out: &mut dyn Write,
     line: &mut Page,
     world: &mut World,
     told: &mut Told,
     index: usize,
     event: &Event,
     words: &Value,
-) -> u8
-    ensures { result ≤ 1 }
-{
+) {
     let before = world.chain().height();
     line.write(r#"{"event":%,"words":"#, &[Count(index as u64)]);
     line.show(&words);
@@ -75,7 +71,6 @@ fn tell_event(
         Ok(outcomes) => told.tell_played(alloc, line, world, before, event, outcomes.as_slice()),
         Err(_) => line.fail(),
     }
-    write_told(out, line, 0)
 }
 
 // Writes the lines of a world and its events, by a line and a state that are new, and returns the status.
@@ -97,7 +92,8 @@ fn tell_events(
     let mut index = 0usize;
     for event in events {
         if let Some(words) = words.get(index) {
-            if tell_event(alloc, out, line, world, told, index, event, words) == 1 {
+            tell_event(alloc, line, world, told, index, event, words);
+            if write_told(out, line, 0) == 1 {
                 return 1;
             }
         }
@@ -173,8 +169,7 @@ fn tell_scenario(
         Ok(mut world) => {
             let (events, words) = (scenario.events.values(), words_in(value));
             let status = tell_world(alloc, out, &mut world, events, words, wish);
-            // its books and its chain are not dropped: the program ends now, which frees all at once
-            mem::forget(world.into_parts());
+            world.leak();
             status
         }
         Err(WorldError::NoMemory) => refuse_memory(out),
@@ -200,17 +195,11 @@ fn tell_bytes(alloc: Global, out: &mut dyn Write, bytes: &[u8], wish: Wish) -> u
 
 /// Runs the word `scenario` on the words after it and returns its status: 0 when all is written, 1 for refused input, a failed write, or if memory ran out, 2 for wrong words, which are detected
 /// before any input is read. After `--strict` it is 1 also where an event was refused. After `--dump A` or `--dump B` the dump of that side's book is written, and no line of an event.
-pub fn run_words(
-    alloc: Global,
-    words: &[String],
-    input: &mut dyn Read,
-    out: &mut dyn Write,
-    err: &mut dyn Write,
-) -> u8
+pub fn run_words(alloc: Global, words: &[String], input: &mut dyn Read, out: &mut dyn Write) -> u8
     ensures { result ≤ 2 }
 {
     let Some(wish) = Wish::read(words) else {
-        return refuse_words(err, HELP);
+        return WRONG_WORDS;
     };
     match read_all(alloc, input) {
         Ok(bytes) => tell_bytes(alloc, out, bytes.as_slice(), wish),

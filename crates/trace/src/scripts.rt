@@ -8,7 +8,7 @@
 //! `paths` lists the ways, and `facts` has what they ask for. The program `trace` passes it the words.
 //!
 //! ```rust
-//! let status = run_words(alloc, words, &mut input, &mut out, &mut err);
+//! let status = run_words(alloc, words, &mut input, &mut out);
 //! ```
 //!
 //! Tested by the recorded run of the program `trace`, and by the calls of `bench/answers.py`.
@@ -29,7 +29,7 @@ mod templates;
 mod weights;
 
 use crate::formats::Form;
-use crate::replies::refuse_words;
+use crate::replies::WRONG_WORDS;
 use crate::scripts::lines::{refuse_input, tell_text, told};
 pub use names::opcode_name;
 pub use places::byte_of;
@@ -37,19 +37,13 @@ use std::alloc::Global;
 use std::io::{Read, Write};
 use streams::read_all;
 
-// The note after wrong words.
-const HELP: &str =
+/// The note after wrong words.
+pub const HELP: &str =
     "note: script takes one script in hexadecimal, after --text if that is wished, or reads scripts from standard input, one a line: trace script --text HEX\n";
 
 /// Runs the word `script` on the words after it and returns its status: 0 when all scripts are listed, 1 for a refused script, refused input or a failed
 /// write, 2 for wrong words, which are detected before any input is read. All text about a script is made before its first byte is written.
-pub fn run_words(
-    alloc: Global,
-    words: &[String],
-    input: &mut dyn Read,
-    out: &mut dyn Write,
-    err: &mut dyn Write,
-) -> u8
+pub fn run_words(alloc: Global, words: &[String], input: &mut dyn Read, out: &mut dyn Write) -> u8
     ensures { result ≤ 2 }
 {
     let (form, rest) = Form::read(words);
@@ -59,6 +53,6 @@ pub fn run_words(
             Err(refusal) => refuse_input(alloc, form, refusal, out),
         },
         [text] => told(alloc, text.as_str(), None, form, out),
-        _ => refuse_words(err, HELP),
+        _ => WRONG_WORDS,
     }
 }

@@ -9,7 +9,7 @@
 //! The module `verdict` judges the inputs. The program `trace` passes it the words.
 //!
 //! ```rust
-//! let status = run_words(alloc, words, &mut input, &mut out, &mut err);
+//! let status = run_words(alloc, words, &mut input, &mut out);
 //! ```
 //!
 //! Tested by `bench/witnesses.py`, which makes the digests anew, and by the calls of `bench/answers.py`.
@@ -21,4 +21,4 @@ mod reading;
 mod telling;
 mod words;
 
-pub use words::run_words;
+pub use words::{HELP, run_words};

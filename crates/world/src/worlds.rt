@@ -14,6 +14,7 @@ use side::DueClaim;
 use std::alloc::{AllocError, Global};
 use std::collections::VecDeque;
 use std::marker::Model;
+use std::mem;
 use terms::{ProposedTerms, Side};
 use tx::Tx;
 
@@ -117,6 +118,11 @@ impl World {
     {
         let World { parts } = self;
         parts.into_books_and_chain()
+    }
+
+    /// Lets the world go without freeing what it holds. For a program that ends now, which frees all at once.
+    pub fn leak(self) {
+        mem::forget(self);
     }
 
     // Tells the proof the Enforcement theorem at this moment.

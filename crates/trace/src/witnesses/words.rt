@@ -4,7 +4,7 @@ ghost use Rattle.std.specs.Prelude.{◌≡◌, ◌≤◌, Some, slice_get};
 
 use crate::formats::Form;
 use crate::notes::tell_notes;
-use crate::replies::refuse_words;
+use crate::replies::WRONG_WORDS;
 use crate::verdict::judge;
 use crate::witnesses::errors::SpentError;
 use crate::witnesses::hints::refused_note;
@@ -17,24 +17,18 @@ use std::io::{Read, Write};
 use streams::{InputError, read_all, refuse_memory, write_told};
 use tx::{Tx, TxIn, TxOut};
 
-// The note after wrong words.
-const HELP: &str =
+/// The note after wrong words.
+pub const HELP: &str =
     "note: witness reads a transaction and the outputs that it spends from standard input, and takes --text or no word: trace witness --text <FILE\n";
 
 /// Runs the word `witness` on the words after it and returns its status: 0 when each input runs clean, 1 for an input that does not, refused text or a failed
 /// write, 2 for wrong words, which are detected before any input is read. The verdict on an input is written before the next input is judged.
-pub fn run_words(
-    alloc: Global,
-    words: &[String],
-    input: &mut dyn Read,
-    out: &mut dyn Write,
-    err: &mut dyn Write,
-) -> u8
+pub fn run_words(alloc: Global, words: &[String], input: &mut dyn Read, out: &mut dyn Write) -> u8
     ensures { result ≤ 2 }
 {
     let (form, rest) = Form::read(words);
     if !rest.is_empty() {
-        return refuse_words(err, HELP);
+        return WRONG_WORDS;
     }
     match read_all(alloc, input) {
         Ok(bytes) => tell_bytes(alloc, form, bytes.as_slice(), out),
