@@ -1,4 +1,5 @@
-//! Tests of the simulated chain and of what waits for its blocks: `chain` and `mempool`.
+//! Tests of the simulated chain, of what waits for its blocks, and of what is said of an input: `chain`, `mempool` and
+//! `judge`.
 //!
 //! They are a crate of their own, so that each library is proved without them. They include the examples in the
 //! libraries' documentation.
@@ -18,5 +19,7 @@ mod rows;
 mod shown;
 #[cfg(test)]
 mod steps;
+#[cfg(test)]
+mod verdicts;
 #[cfg(test)]
 mod waiting;

@@ -1,5 +1,3 @@
 mod Texts
 pub mod SentenceExamples
 pub mod NumberExamples
-pub mod Items
-pub mod Piles

@@ -5,8 +5,4 @@ pub mod Names
 pub mod Looks
 pub mod Weights
 pub mod Sentences
-pub mod Meeting
-pub mod Verdicts
-pub mod VerdictRefusals
-pub mod Faults
 pub mod Refusals

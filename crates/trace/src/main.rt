@@ -12,7 +12,6 @@ mod notes;
 mod replies;
 mod scenarios;
 mod scripts;
-mod verdict;
 mod witnesses;
 
 use crate::replies::{WRONG_WORDS, refuse_words};

@@ -6,7 +6,7 @@
 //! witness takes, or at which opcode its script stops, why, and the stack there. It returns a status of at most 2. The
 //! verdicts are those of `judge`, whose contract is exact. Their layout is tested, not proved.
 //!
-//! The module `verdict` judges the inputs. The program `trace` passes it the words.
+//! The crate `judge` judges the inputs. The program `trace` passes it the words.
 //!
 //! ```rust
 //! let status = run_words(alloc, words, &mut input, &mut out);

@@ -1,7 +1,7 @@
 // Notes on what stands in the place of a transaction with the outputs that it spends, and of a token.
 
-use crate::verdict::Stopped;
 use crate::witnesses::errors::SpentError;
+use judge::Stopped;
 use script::{Cause, Kind};
 use script_notes::is_der;
 use std::alloc::Global;

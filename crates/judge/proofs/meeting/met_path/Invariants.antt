@@ -1,7 +1,7 @@
 use Rattle.std.proofs.Common.{◌≡◌, drop}
 use Rattle.std.specs.List.{position_from}
-use Rattle.trace.specs.Meeting.{is_met}
-use Rattle.trace.proofs.verdict.meeting.met_path.Given as goal
+use Rattle.judge.specs.Meeting.{is_met}
+use Rattle.judge.proofs.meeting.met_path.Given as goal
 
 -- the first path of those that are left is the first of all
 abbrev pub invariant-loop-number : goal.invariant-loop-number

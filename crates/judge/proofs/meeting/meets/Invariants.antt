@@ -1,7 +1,7 @@
 use Rattle.std.proofs.Common.{◌≡◌, drop}
 use Rattle.std.specs.List.{list_all}
-use Rattle.trace.specs.Meeting.{is_as_stated}
-use Rattle.trace.proofs.verdict.meeting.meets.Given as goal
+use Rattle.judge.specs.Meeting.{is_as_stated}
+use Rattle.judge.proofs.meeting.meets.Given as goal
 
 -- the facts that are left are as they are stated where all are
 abbrev pub invariant-loop-stated : goal.invariant-loop-stated

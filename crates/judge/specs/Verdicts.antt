@@ -11,9 +11,9 @@ use Rattle.tx.specs.declared.input.TxIn.{TxIn}
 use Rattle.tx.specs.Parts.{Output}
 use Rattle.tx.specs.Fields.{Transaction}
 use Rattle.sighash.specs.Programs.{Given, given_of, script_ops, spend_of}
-use Rattle.trace.specs.declared.verdict.verdicts.Verdict.{Verdict}
-use Rattle.trace.specs.declared.verdict.verdicts.Verdict.TheVariants.{Refused, Stopped, Clean}
-use Rattle.trace.specs.Meeting.{path_taken}
+use Rattle.judge.specs.declared.verdicts.Verdict.{Verdict}
+use Rattle.judge.specs.declared.verdicts.Verdict.TheVariants.{Refused, Stopped, Clean}
+use Rattle.judge.specs.Meeting.{path_taken}
 
 -- a script that is to be run, on what items, and under which spend
 pub record Case : Type 0 where

@@ -1,7 +1,7 @@
 // The verdict on an input.
 
 ghost use Rattle.std.specs.Prelude.{◌≡◌};
-ghost use Rattle.trace.specs.VerdictRefusals.{fault_number};
+ghost use Rattle.judge.specs.Refusals.{fault_number};
 
 use chain::ProgramFault;
 use lists::{ByteString, Stack};

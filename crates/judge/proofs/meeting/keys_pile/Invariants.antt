@@ -1,6 +1,6 @@
 use Rattle.std.proofs.Common.{◌≡◌, ◌++◌, map, reverse, length}
 use Rattle.facts.specs.Meaning.{key_of}
-use Rattle.trace.proofs.verdict.meeting.keys_pile.Given as goal
+use Rattle.judge.proofs.meeting.keys_pile.Given as goal
 
 -- the bytes of the keys that are left, before the pile, are those of all
 abbrev pub invariant-loop-key : goal.invariant-loop-key

@@ -1,8 +1,8 @@
 -- The numbers of the faults.
 use Rattle.std.specs.Prelude.{ℕ}
 use Rattle.chain.specs.declared.given.ProgramFault.TheVariants.{OtherProgram, NotTwoItems, NoScript, OtherScript}
-use Rattle.trace.specs.declared.verdict.verdicts.Fault.{Fault}
-use Rattle.trace.specs.declared.verdict.verdicts.Fault.TheVariants.{Program, BadScript}
+use Rattle.judge.specs.declared.verdicts.Fault.{Fault}
+use Rattle.judge.specs.declared.verdicts.Fault.TheVariants.{Program, BadScript}
 
 -- why no script runs
 abbrev pub fault_number : Fault → ℕ

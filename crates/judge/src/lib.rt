@@ -5,14 +5,23 @@
 //! `chain` takes transactions). The path is the first listed one that the witness meets (`met_path`), and the elements
 //! are those that the definition has before that opcode.
 //!
-//! `machine` runs the scripts, and `paths` lists the ways. The module `witnesses` prints the verdicts.
+//! `machine` runs the scripts, and `paths` lists the ways. The program `trace` prints the verdicts.
 //!
 //! ```rust
-//! let cache = SighashCache::new(tx);
-//! let verdict = judge(alloc, tx, &cache, index, input, output)?;
+//! /// What is said of the first input, if it spends this output.
+//! fn first_verdict(alloc: Global, tx: &Tx, output: &TxOut) -> Result<Option<Verdict>, AllocError> {
+//!     match tx.inputs().first() {
+//!         Some(input) => {
+//!             let cache = SighashCache::new(tx);
+//!             Ok(Some(judge(alloc, tx, &cache, 0, input, output)?))
+//!         }
+//!         None => Ok(None),
+//!     }
+//! }
 //! ```
 //!
-//! The word `witness` calls it so for each input. What it says of inputs of each kind is tested by `bench/witnesses.py`.
+//! The test `names_the_path` of `chain_tests` calls this function.
+#![tactic(auto)]
 
 mod judging;
 mod meeting;

@@ -1,6 +1,6 @@
 use Rattle.std.proofs.Common.{◌≡◌, ◌++◌, map, reverse, length}
 use Rattle.facts.specs.Meaning.{slot_of}
-use Rattle.trace.proofs.verdict.meeting.slots_pile.Given as goal
+use Rattle.judge.proofs.meeting.slots_pile.Given as goal
 
 -- the items of the slots that are left, before the pile, are those of all
 abbrev pub invariant-loop-slot : goal.invariant-loop-slot

@@ -3,10 +3,10 @@ use Rattle.std.specs.Prelude.{◌≡◌, ℕ, List, Some}
 use Rattle.script.specs.Spelling.{IsFault}
 use Rattle.sighash.specs.Programs.{Given, given_of}
 use Rattle.chain.specs.Given.{IsProgramFault}
-use Rattle.trace.specs.declared.verdict.verdicts.Fault.{Fault}
-use Rattle.trace.specs.declared.verdict.verdicts.Fault.TheVariants.{Program, BadScript}
-use Rattle.trace.specs.declared.verdict.verdicts.Verdict.{Verdict}
-use Rattle.trace.specs.declared.verdict.verdicts.Verdict.TheVariants.{Refused, Stopped, Clean}
+use Rattle.judge.specs.declared.verdicts.Fault.{Fault}
+use Rattle.judge.specs.declared.verdicts.Fault.TheVariants.{Program, BadScript}
+use Rattle.judge.specs.declared.verdicts.Verdict.{Verdict}
+use Rattle.judge.specs.declared.verdicts.Verdict.TheVariants.{Refused, Stopped, Clean}
 
 -- bytes are not a script, for this reason
 abbrev pub IsBadScript : List ℕ → Fault → Type 0

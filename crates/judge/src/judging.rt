@@ -3,12 +3,12 @@
 ghost use Rattle.std.specs.Prelude.{◌≡◌, Some, IfOk, slice_get};
 ghost use Rattle.script.specs.Run.{outcome, Stopped as StopsAt};
 ghost use Rattle.sighash.specs.Programs.{spend_of};
-ghost use Rattle.trace.specs.Meeting.{path_taken};
-ghost use Rattle.trace.specs.Verdicts.{case_of_given, case_of, IsParsed, IsJudged};
-ghost use Rattle.trace.specs.Faults.{IsBadScript, IsFaultOf, OnRefused};
+ghost use Rattle.judge.specs.Meeting.{path_taken};
+ghost use Rattle.judge.specs.Verdicts.{case_of_given, case_of, IsParsed, IsJudged};
+ghost use Rattle.judge.specs.Faults.{IsBadScript, IsFaultOf, OnRefused};
 
-use crate::verdict::meeting::met_path;
-use crate::verdict::verdicts::{Clean, Fault, Stopped, Verdict};
+use crate::meeting::met_path;
+use crate::verdicts::{Clean, Fault, Stopped, Verdict};
 use chain::given_of;
 use lists::ByteString;
 use machine::{Stop, elements_at, run};

@@ -4,7 +4,7 @@ ghost use Rattle.std.specs.Prelude.{◌≡◌, map, reverse, IfOk};
 ghost use Rattle.std.specs.List.{position_from};
 ghost use Rattle.script.specs.Token.{assigned};
 ghost use Rattle.facts.specs.Meaning.{slot_of, key_of, holds_of};
-ghost use Rattle.trace.specs.Meeting.{is_met};
+ghost use Rattle.judge.specs.Meeting.{is_met};
 
 use digest::hash160;
 use facts::{Fact, KeySource};

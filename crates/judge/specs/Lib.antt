@@ -1,0 +1,4 @@
+pub mod Meeting
+pub mod Verdicts
+pub mod Refusals
+pub mod Faults
