@@ -376,7 +376,7 @@ def what(story, outpoints):
         if it in story.outputs:
             found.append(f"{satoshis(story.outputs[it].value)} ({kind_of(story.outputs[it])})")
         elif it in story.claims:
-            found.append(satoshis(story.claims[it]["value"]))
+            found.append(f'{satoshis(story.claims[it]["value"])} (not on chain yet)')
     return listed(found) if found else many(len(outpoints), "output")
 
 
