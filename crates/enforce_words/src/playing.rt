@@ -3,8 +3,8 @@
 use crate::endings::text_of;
 use crate::errors::CommandError;
 use crate::refused::first_refused;
-use scenario::Scenario;
-use std::alloc::{AllocError, Global};
+use scenario::{Event, Scenario};
+use std::alloc::Global;
 use std::io;
 use std::io::Read;
 use world::World;
@@ -20,9 +20,7 @@ pub fn play<R: Read>(
     note: &mut String,
 ) -> Result<String, CommandError> {
     let scenario = scenario_in(alloc, input)?;
-    let world = World::new(alloc, &scenario.seeds, scenario.channels.values());
-    let mut world = world.map_err(CommandError::World)?;
-    Ok(lines_of(alloc, &mut world, &scenario, note)?)
+    play_scenario(alloc, &scenario, note)
 }
 
 /// The scenario in the input. Its refusals come in this order: input that can't be read (`ReadFailed`), input that is too long (`TooLong`), and what
@@ -48,14 +46,24 @@ fn read_all<R: Read>(alloc: Global, input: &mut R) -> Result<Vec<u8>, CommandErr
     Ok(bytes)
 }
 
-// Plays the events of a scenario, and returns the lines. The only error is that memory ran out.
+// Plays a scenario in a new world, and returns the lines of its events and of the world after them.
+fn play_scenario(
+    alloc: Global,
+    scenario: &Scenario,
+    note: &mut String,
+) -> Result<String, CommandError> {
+    let world = World::new(alloc, &scenario.seeds, scenario.channels.values());
+    let mut world = world.map_err(CommandError::World)?;
+    lines_of(alloc, &mut world, scenario.events.values(), note)
+}
+
+// Plays events in a world, and returns the lines. The only error is that memory ran out.
 fn lines_of(
     alloc: Global,
     world: &mut World,
-    scenario: &Scenario,
+    events: &[Event],
     note: &mut String,
-) -> Result<String, AllocError> {
-    let events = scenario.events.values();
+) -> Result<String, CommandError> {
     let outcomes = world.play(events)?;
     let text = text_of(alloc, outcomes.as_slice(), world)?;
     if let Ok(line) = first_refused(alloc, events, outcomes.as_slice()) {
