@@ -235,7 +235,7 @@ ROWS = [
     ("scenario", SCENARIO.ljust(LIMIT + 1), '{"refused":"TooLong"}\n', 1),
     ("dump", '{"history":[],"version":2}'.ljust(LIMIT), '{"entries":0,"channels":0}\n', 0),
     ("dump", '{"history":[],"version":2}'.ljust(LIMIT + 1), '{"refused":"TooLong","number":6}\n', 1),
-    ("scenario", NOT_TEXT, '{"refused":"NotJson","notes":["no JSON text from byte 3 on: line 2, column 1"]}\n', 1),
+    ("scenario", NOT_TEXT, '{"refused":"NotJson","notes":["invalid JSON at byte 3: line 2, column 1"]}\n', 1),
     ("dump", ENDLESS, '{"refused":"TooLong","number":6}\n', 1),
     ("dump", UNREADABLE, '{"refused":"ReadFailed","number":5}\n', 1),
     ("dump", NOT_TEXT, '{"refused":"NotJson","number":1}\n', 1),

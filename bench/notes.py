@@ -521,7 +521,7 @@ def main():
     pairs = list(pair_rows())
     texts = [(json.dumps(value), [note]) for value, note in scenario_rows()]
     # the place of what is no JSON, in a text of as many bytes as there may be; one more byte is not looked at
-    texts += [("x".ljust(LIMIT), ["no JSON text from byte 0 on: line 1, column 1"]), ("x".ljust(LIMIT + 1), [])]
+    texts += [("x".ljust(LIMIT), ["invalid JSON at byte 0: line 1, column 1"]), ("x".ljust(LIMIT + 1), [])]
     wrong = sum(not is_noted(command, ["paths", code], "", notes) for code, notes in scripts)
     wrong += sum(not is_noted(command, ["paths", code], "", notes, facts) for code, facts, notes in pairs)
     wrong += sum(not is_noted(command, ["run"], given, notes) for given, notes in texts)

@@ -71,7 +71,7 @@ pub fn open_side(alloc: Global, number: u32, side: Side) -> Result<Opened> {
     open_side_with(alloc, number, side, 100_000)
 }
 
-/// The same for a channel of so many satoshis, of which A has four fifths.
+/// The same for a channel of this many satoshis. A has four fifths of them.
 pub fn open_side_with(alloc: Global, number: u32, side: Side, capacity_sat: u32) -> Result<Opened> {
     let seed_a = channel_seed(0x0a, number);
     let seed_b = channel_seed(0x0b, number);

@@ -6,7 +6,7 @@ use book::errors::{CloseError, KeepError, OpenError, SignError, StepError};
 use terms::Side;
 use updates::{ChannelError, OwnUpdate};
 
-// A funding output is opened once, and there is no other channel.
+// A channel is opened on a funding output once, and there is no other channel.
 const OPENED: [Row; 10] = [
     Row::HasOneChannel,
     Row::Keeps(1, 0, None),

@@ -86,7 +86,7 @@ fn refuses_what_is_not_json(rt: HostRuntime) {
     assert!(rt; refusal(rt.alloc(), &[0x22, 0xff, 0x22]) == Some(ReadError::NotJson));
 }
 
-// Brackets that open so many arrays, and close them.
+// Brackets that open `depth` arrays, and close them.
 fn nested(rt: &impl Abort, alloc: Global, depth: usize) -> Option<ReadError> {
     let mut text = "[".repeat(alloc, depth).expect(rt, "memory");
     let end = "]".repeat(alloc, depth).expect(rt, "memory");

@@ -61,7 +61,7 @@ pub(crate) enum Row {
     Release(bool),
     /// The same, and the transaction is handed out twice.
     ReleaseTwice(bool),
-    /// A releases again what is left of an entry of its book, where so many of the claims' outputs were spent. The answer is the number of inputs, or that of the refusal.
+    /// A releases again what is left of an entry of its book, where this number of the claims' outputs were spent. The answer is the number of inputs, or that of the refusal.
     ReleaseAgain(u64, usize, Result<usize, u8>),
     /// The channel's signer fills this number of claims.
     FilledByChannel(usize),

@@ -20,7 +20,7 @@ const BAD_CHANNEL: &str =
 const EVENTS: &str =
     "[\"offer\",\"A\",0,1000000,\"66687aadf862bd776c8fc18b8e9f8e20089714856ee233b3902a591d0d5f2925\",500],[\"deliver\",\"B\",0],[\"sign\",\"A\",0],[\"deliver\",\"B\",0],[\"deliver\",\"A\",0],[\"offer\",\"A\",0,1000000,\"66687aadf862bd776c8fc18b8e9f8e20089714856ee233b3902a591d0d5f2925\",501],[\"sign\",\"A\",0],[\"keep\",\"A\",0,0],[\"sign\",\"A\",0],[\"keep\",\"A\",0,0]";
 
-// So many channels whose terms are good, then so many whose terms are not, and the same events a number of times.
+// Channels whose terms are good, then channels whose terms are not, and the same events a number of times.
 #[derive(Clone, Copy)]
 struct Outline {
     good: usize,

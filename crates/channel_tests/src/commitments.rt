@@ -30,7 +30,7 @@ fn are_amounts(amounts: &Amounts, count: usize) -> bool
         && amounts.to_local == Some(3_000_000)
 }
 
-// Whether a view with so many HTLCs has these amounts.
+// Whether a view with this number of HTLCs has these amounts.
 fn has_amounts(rt: &impl Abort, alloc: Global, terms: &Terms, view: &View, count: usize) -> bool
     requires { count ≤ 40 }
 {

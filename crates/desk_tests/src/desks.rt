@@ -96,7 +96,7 @@ fn signs_at_a_desk(rt: HostRuntime) {
     assert!(rt; signs(&rt, rt.alloc(), book));
 }
 
-/// A desk over a book, and so many seats.
+/// A desk over a book, and this number of seats.
 pub(crate) fn desk_over<R: Wait + Abort>(
     rt: &R,
     alloc: Global,

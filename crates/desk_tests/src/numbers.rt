@@ -10,7 +10,7 @@ use std::alloc::Global;
 use std::process::Abort;
 use std::sync::Wait;
 
-// The book that comes back where its desk has no number for one of so many seats.
+// The book that comes back where its desk has no number for one of the seats.
 fn refused<R: Wait + Abort>(rt: &R, alloc: Global, book: Book, seats: u16) -> Book
     requires { 0 < seats }
 {

@@ -1,7 +1,7 @@
 -- The items that a row refers to.
 use Rattle.std.specs.Prelude.{ℕ, ◌-◌, Bool, ◌&&◌, nat_le, List, length, take, drop}
 
--- whether there are so many items from an index on
+-- whether there are at least `count` items from an index on
 abbrev pub has_part : {A : Type 0} → ℕ → ℕ → List A → Bool
 has_part at count items = nat_le at (length items) && nat_le count (length items - at)
 

@@ -3,7 +3,7 @@
 ghost use Rattle.std.specs.Prelude.{◌≡◌, true, false, MatchOption};
 ghost use Rattle.enforce_c.specs.Ranges.{has_part, part};
 
-/// The items from an index on, so many of them, if they are all there.
+/// `count` items from an index on, if they are all there.
 pub(crate) fn part<T: Copy>(items: &[T], at: usize, count: usize) -> Option<&[T]>
     ensures { MatchOption result (has_part at count items.now ≡ false)
         (λ xs. (has_part at count items.now ≡ true) × (xs.now ≡ part at count items.now)) }

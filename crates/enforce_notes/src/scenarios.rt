@@ -50,7 +50,7 @@ fn note_place(notes: &mut String, input: &[u8], error: &Error) -> Result<(), All
     }
     writeln!(
         notes,
-        "note: no JSON text from byte {byte} on: line {line}, column {column}"
+        "note: invalid JSON at byte {byte}: line {line}, column {column}"
     )
 }
 

@@ -31,7 +31,7 @@ path_of c = path_taken c.spend c.ops c.items
 abbrev pub elements_of : ℕ → Case → Option Elements
 elements_of index c = elements_at c.spend c.ops c.items index
 
--- what an input that spends so much has to run, of a script and its items
+-- what an input that spends this value has to run, of a script and its items
 abbrev pub case_of_given : Transaction → TxIn → ℕ → Given → Option Case
 case_of_given t input value given = option_map (λ ops. record { spend = spend_of t input given.script value; ops = ops; items = given.items }) (script_ops given.script)
 

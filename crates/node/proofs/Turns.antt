@@ -19,7 +19,7 @@ use Rattle.node.specs.Entering.{Adds}
 use Rattle.node.specs.Work.{with_tickets, IsFinished, IsStopped, IsSpent, ran_dry, was_stopped, was_spent, IsWork}
 use Rattle.node.proofs.Adding.{adds_nothing, adds_then, adds_from}
 
--- after so many jobs, each of them finished
+-- after a number of jobs, each of them finished
 pub record HasWorked (payments : List Key) (before now : Hands) (jobs : ℕ) : Type 0 where
   pub finished : List Job
   pub tickets : List ℕ

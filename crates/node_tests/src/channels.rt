@@ -25,7 +25,7 @@ fn revoke_first(rt: &impl Abort, peers: &mut Peers, channel: usize) {
     }
 }
 
-// Opens so many channels, in each of which B revokes its commitment 0.
+// Opens this number of channels. In each of them B revokes its commitment 0.
 fn begin(rt: &impl Abort, alloc: Global, peers: &mut Peers, channels: u32) {
     peers.open(alloc, channels).expect(rt, "channels");
     for channel in 0..channels {
@@ -33,7 +33,7 @@ fn begin(rt: &impl Abort, alloc: Global, peers: &mut Peers, channels: u32) {
     }
 }
 
-// A's book, all of whose calls are of seat 0. In each of so many channels B has revoked its commitment 0, and A has an offer to sign.
+// A's book, all of whose calls are of seat 0. In each of its channels B has revoked its commitment 0, and A has an offer to sign.
 fn book_of_a(rt: &impl Abort, alloc: Global, channels: u32) -> Book {
     let mut peers = Peers::new(alloc);
     begin(rt, alloc, &mut peers, channels);
@@ -42,7 +42,7 @@ fn book_of_a(rt: &impl Abort, alloc: Global, channels: u32) -> Book {
     book
 }
 
-/// A desk over it, and so many seats.
+/// A desk over it, and this number of seats.
 pub(crate) fn desk_over<R: Wait + Abort>(
     rt: &R,
     alloc: Global,

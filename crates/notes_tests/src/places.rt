@@ -20,19 +20,16 @@ const NO_JSON: [(&str, &str); 5] = [
         "",
         "note: the text ends too early, after byte 0: line 1, column 0\n",
     ),
-    ("x", "note: no JSON text from byte 0 on: line 1, column 1\n"),
+    ("x", "note: invalid JSON at byte 0: line 1, column 1\n"),
     (
         "{\n\"a\":1,\n}",
-        "note: no JSON text from byte 9 on: line 3, column 1\n",
+        "note: invalid JSON at byte 9: line 3, column 1\n",
     ),
     (
         "{\"a\":\n[1,",
         "note: the text ends too early, after byte 9: line 2, column 3\n",
     ),
-    (
-        "[] 1",
-        "note: no JSON text from byte 3 on: line 1, column 4\n",
-    ),
+    ("[] 1", "note: invalid JSON at byte 3: line 1, column 4\n"),
 ];
 
 // Texts that are no scenario, and the notes on them.
@@ -104,7 +101,7 @@ fn places_what_is_no_json(rt: HostRuntime) {
         noted_on(&rt, rt.alloc(), text.as_bytes(), notes);
     }
     // bytes that are not in UTF-8
-    let notes = "note: no JSON text from byte 1 on: line 1, column 2\n";
+    let notes = "note: invalid JSON at byte 1: line 1, column 2\n";
     noted_on(&rt, rt.alloc(), b"\"\xff\"", notes);
 }
 

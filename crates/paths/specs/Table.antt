@@ -216,7 +216,7 @@ module _ {C L A : Type 0} (w : Words C L A) where
     s' ← ask_extra x (ask_keys sources (ask_forms slots s))
     Ok (push (answer_of slots sources) s'))
 
-  -- CHECKMULTISIG, in a script with so many counted opcodes
+  -- CHECKMULTISIG, in a script with `many` counted opcodes
   abbrev pub check_multi_sig : ℕ → StateOver C L A → AfterOver C L A
   check_multi_sig many s = do
     let top = pop s

@@ -104,7 +104,7 @@ const ROWS: [Row; 16] = [
     Row::Look(1, 1, 2),
 ];
 
-// Whether a block gives so many claims, and shows no preimage.
+// Whether a block gives this number of claims, and shows no preimage.
 fn gives(
     rt: &impl Abort,
     alloc: Global,

@@ -34,7 +34,7 @@ fn finds(known: &KnownPreimages, end: u16) -> bool {
     are_found && known.values().len() == usize::from(end)
 }
 
-// Whether so many preimages and so many more are found: before they are indexed and after, behind others, and in copies.
+// Whether the preimages from 0 up to `count` and those up to `end` are found: before they are indexed and after, after others, and in copies.
 fn finds_all(rt: &impl Abort, alloc: Global, count: u16, end: u16) -> bool {
     let more = preimages(rt, alloc, count, end);
     let mut known = KnownPreimages::from_vec(preimages(rt, alloc, 0, count));

@@ -1,4 +1,4 @@
--- What a side broadcasts, and what becomes of an event that broadcasts: each relation where it holds, and right beside it where it does not.
+-- What a side broadcasts, and how an event that broadcasts is answered: each relation where it holds, and right beside it where it does not.
 use Rattle.std.proofs.Common.{◌≡◌, ℕ, List, [], ◌∷◌, ◌++◌, Option, Some, None, Result, Ok, Err, refl, sym, ap, ◌∙◌, subst}
 use Rattle.std.proofs.lemmas.List.{append-nil}
 use Rattle.std.proofs.lemmas.Option.{none-some}

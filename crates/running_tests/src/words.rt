@@ -64,7 +64,7 @@ fn takes_no_node_without_workers(rt: HostRuntime) {
     assert!(rt; tells_the_usage(&rt, rt.alloc(), &words));
 }
 
-// Whether this is printed for an input with so many workers a side, with this status.
+// Whether this is printed for an input with this number of workers a side, with this status.
 fn prints<R: Threads + Wait + Abort + Sync>(
     rt: &R,
     alloc: Global,

@@ -22,7 +22,7 @@ fn is_copied(rt: &impl Abort, alloc: Global, bytes: &[u8]) -> bool {
     string.copy().expect(rt, "memory").bytes() == bytes
 }
 
-// The newest of so many numbers from 0 on in a list, and in a stack.
+// The newest of the numbers from 0 up to a count, in a list and in a stack.
 fn newest(rt: &impl Abort, alloc: Global, count: usize) -> (Option<usize>, Option<usize>) {
     let (mut list, mut stack) = (List::new(alloc), Stack::new(alloc));
     for number in 0..count {

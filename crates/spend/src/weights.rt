@@ -11,7 +11,7 @@ use tx::{EncodeError, Tx, encode, encode_stripped};
 /// The greatest number of bytes of a signature: 72 of DER, and the hash type.
 const SIGNATURE_SIZE: u128 = 73;
 
-// The number of bytes of a transaction, of which so many are left without witnesses.
+// The number of bytes of a transaction, which has `stripped` bytes without its witnesses.
 fn total_size(alloc: Global, tx: &Tx, stripped: usize) -> Result<usize, AllocError>
     requires { stripped ≡ length (stripped_spelling tx.now) }
     ensures { IfOk result (λ n. n ≡ total_size tx.now) }

@@ -16,7 +16,7 @@ locks : map sequence_lock (
 unfolding sequence_lock
 locks = refl
 
--- what says all that it asks for: 1 to 65,535 blocks, or so many units
+-- what says all that it asks for: 1 to 65,535 blocks, or 1 to 65,535 units
 plain : map is_plain (0 ∷ 1 ∷ 0xffff ∷ 0x10000 ∷ 0x3fffff ∷ 0x400000 ∷ 0x400001 ∷ 0x40ffff ∷ 0x410000 ∷ 0x80000000 ∷ [])
     ≡ false ∷ true ∷ true ∷ false ∷ false ∷ false ∷ true ∷ true ∷ false ∷ false ∷ []
 unfolding is_plain

@@ -28,7 +28,7 @@ placed skip at b = if skip == 0 && not (is_known b) then at ∷ [] else []
 unfoldable pub next_skip : ℕ → ℕ → List ℕ → ℕ
 next_skip skip b rest = if nat_lt 0 skip then skip - 1 else data_len b rest
 
--- the positions of the opcodes that are not in the table, of which the first byte is at a position, and so many bytes at the front belong to the opcode before
+-- the positions of the opcodes that are not in the table, in bytes from `at` on, where the first `skip` bytes belong to the opcode before them
 abbrev pub unknown_in : ℕ → ℕ → List ℕ → List ℕ
 unknown_in skip at [] = []
 unknown_in skip at (b ∷ rest) = placed skip at b ++ unknown_in (next_skip skip b rest) (at + 1) rest

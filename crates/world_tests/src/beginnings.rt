@@ -8,7 +8,7 @@ use terms::Side;
 use world::World;
 use world::errors::WorldError;
 
-// Whether each side has so many channels, each with a grant of the chain that nobody spent.
+// Whether each side has this number of channels, each with a grant of the chain that nobody spent.
 fn has_channels(rt: &impl Abort, world: &World, channels: u64) -> bool {
     let unspent = world.chain().unspent().expect(rt, "memory");
     world.book(Side::A).channel_count() == channels
