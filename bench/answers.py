@@ -131,7 +131,7 @@ LINES = """{"opening":{"events":2,"channels":[]}}
 
 
 
-def opening():
+def opening_texts():
     """A scenario of two channels that are unlike in all their terms and opened by different sides, without its events; and its two lines."""
     with open(f"{TOP}/bench/unlike_channels.json", encoding="utf-8") as file:
         scenario = dict(json.load(file), events=[])
@@ -159,13 +159,13 @@ ROWS = [
     ("script", '5"\n', '{"bytes":null,"looks":null,"program":null,"opcodes":[],"refused":"BadHex","byte":null,"notes":["byte 1 of the text is \\", which is no hexadecimal digit"]}\n', 1),
     ("script", "5\\\n", '{"bytes":null,"looks":null,"program":null,"opcodes":[],"refused":"BadHex","byte":null,"notes":["byte 1 of the text is \\\\, which is no hexadecimal digit"]}\n', 1),
     ("scenario", SCENARIO, LINES, 0),
-    ("scenario", *opening(), 0),
+    ("scenario", *opening_texts(), 0),
     ("scenario", "{}", '{"refused":"BadShape","notes":["the scenario has no member seeds"]}\n', 1),
     ("scenario", "", '{"refused":"NotJson","notes":["the text ends too early, after byte 0: line 1, column 0"]}\n', 1),
-    ("scenario", opening()[0].replace('"opener": "A"', '"opener": "C"'), '{"refused":"BadShape","notes":["channel 0: its opener is not \\"A\\" or \\"B\\""]}\n', 1),
+    ("scenario", opening_texts()[0].replace('"opener": "A"', '"opener": "C"'), '{"refused":"BadShape","notes":["channel 0: its opener is not \\"A\\" or \\"B\\""]}\n', 1),
     # a refused event, and none
     ("scenario --strict", SCENARIO, LINES, 1),
-    ("scenario --strict", *opening(), 0),
+    ("scenario --strict", *opening_texts(), 0),
     ("scenario --dump A", SCENARIO, '{"history":[],"version":2}\n', 0),
     ("scenario --dump B", SCENARIO, '{"history":[],"version":2}\n', 0),
     ("scenario --dump A", "{}", '{"refused":"BadShape","notes":["the scenario has no member seeds"]}\n', 1),

@@ -11,7 +11,7 @@ import os
 import subprocess
 import tempfile
 
-from bounds import bounded
+from bounds import check_bound
 
 TOP = os.path.dirname(os.path.dirname(os.path.abspath(__file__)))
 SIZE = 4 << 20
@@ -58,7 +58,7 @@ HOSTILE = {
 }
 
 
-def hostile(before, middle, after):
+def hostile_text(before, middle, after):
     """A text of at most 4 MiB."""
     times = (SIZE - len(before) - len(after)) // len(middle)
     return before + times * middle + after
@@ -78,7 +78,7 @@ def run(program, line, *words):
     return text, usage.ru_utime + usage.ru_stime, usage.ru_maxrss / 1024
 
 
-def fastest(program, line):
+def least_numbers(program, line):
     """The least of each number that the line prints, over several runs."""
     best = None
     for _ in range(TURNS):
@@ -88,28 +88,28 @@ def fastest(program, line):
 
 
 def time_calls(program):
-    few, many = fastest(program, "calls 100\n"), fastest(program, "calls 10000\n")
+    few, many = least_numbers(program, "calls 100\n"), least_numbers(program, "calls 10000\n")
     for name, of_few, of_many in zip(("sign", "keep"), few, many):
         print(f"{name}: {of_few / 1e3:.1f} us after 100 entries, {of_many / 1e3:.1f} us after 10,000")
-        bounded(f"{name} after 10,000 entries to {name} after 100", of_many / of_few, 1.2)
+        check_bound(f"{name} after 10,000 entries to {name} after 100", of_many / of_few, 1.2)
 
 
-def time_revoked(program):
-    (few,), (many,) = fastest(program, "revoked 20\n"), fastest(program, "revoked 2000\n")
+def time_revoked_states(program):
+    (few,), (many,) = least_numbers(program, "revoked 20\n"), least_numbers(program, "revoked 2000\n")
     print(f"revoked: {few / 1e3:.1f} us after 20 revoked commitments, {many / 1e3:.1f} us after 2,000")
-    bounded("a revoked state after 2,000 others to one after 20", many / few, 1.2)
+    check_bound("a revoked state after 2,000 others to one after 20", many / few, 1.2)
 
 
-def time_known(program):
-    alone, beside = fastest(program, "known 100 0\n")[0], fastest(program, "known 100 10000\n")[0]
+def time_known_channels(program):
+    alone, beside = least_numbers(program, "known 100 0\n")[0], least_numbers(program, "known 100 10000\n")[0]
     print(f"known: {alone / 1e3:.0f} us alone, {beside / 1e3:.0f} us beside 10,000 entries of another channel")
-    bounded("known beside 10,000 entries of another channel to known alone", beside / alone, 1.2)
+    check_bound("known beside 10,000 entries of another channel to known alone", beside / alone, 1.2)
     costs = []
     for commitments in (20, 200, 2000):
-        known, tokens = fastest(program, f"known {commitments} 0\n")
+        known, tokens = least_numbers(program, f"known {commitments} 0\n")
         costs.append(known / commitments)
         print(f"known of {commitments} commitments of each side: {known / 1e6:.2f} ms, {costs[-1] / 1e3:.1f} us for one of each; the peer's tokens take {tokens / commitments / 1e3:.1f} us")
-    bounded("known of one of 2,000 commitments to one of 20", costs[-1] / costs[0], 1.2)
+    check_bound("known of one of 2,000 commitments to one of 20", costs[-1] / costs[0], 1.2)
 
 
 def load_cost(program, entries):
@@ -126,23 +126,23 @@ def time_loads(program):
         length, took = load_cost(program, entries)
         costs.append(took / length)
         print(f"load of {entries} entries: {length} bytes, {took * 1e3:.1f} ms, {costs[-1] * 1e9:.0f} ns a byte")
-    bounded("a byte of a dump of 16,000 entries to one of 1,000", costs[-1] / costs[0], 1.5)
+    check_bound("a byte of a dump of 16,000 entries to one of 1,000", costs[-1] / costs[0], 1.5)
 
 
-def load_whole(program):
+def load_whole_dump(program):
     """A dump of just below 4 MiB, which is loaded. The memory is that of the program, in which two nodes made it."""
     length, took = load_cost(program, WHOLE)
     print(f"load of {WHOLE:,} entries: {length} bytes, {took * 1e3:.1f} ms")
-    bounded("load of 4 MiB, a whole dump", took, 2, unit=" s")
-    bounded("load of 4 MiB, a whole dump, memory", run(program, f"loads {WHOLE}\n")[2], 256, unit=" MiB")
+    check_bound("load of 4 MiB, a whole dump", took, 2, unit=" s")
+    check_bound("load of 4 MiB, a whole dump, memory", run(program, f"loads {WHOLE}\n")[2], 256, unit=" MiB")
 
 
-def load_hostile(program):
+def load_hostile_texts(program):
     for name, (before, middle, after, wanted) in HOSTILE.items():
-        answer, took, memory = run(program, "load " + hostile(before, middle, after) + "\n")
+        answer, took, memory = run(program, "load " + hostile_text(before, middle, after) + "\n")
         print(f"{name}: {answer}{'' if answer == wanted else f', and not {wanted}'}")
-        bounded(f"load of 4 MiB, {name}", took, 2, unit=" s")
-        bounded(f"load of 4 MiB, {name}, memory", memory, 256, unit=" MiB")
+        check_bound(f"load of 4 MiB, {name}", took, 2, unit=" s")
+        check_bound(f"load of 4 MiB, {name}, memory", memory, 256, unit=" MiB")
         if answer != wanted:
             raise SystemExit(f"books: {name} is refused as {answer}, and not as {wanted}")
 
@@ -151,11 +151,11 @@ def main():
     built = subprocess.run([os.path.join(TOP, ".ci", "program"), "book_costs"], stdout=subprocess.PIPE, text=True, check=True)
     program = built.stdout.strip()
     time_calls(program)
-    time_revoked(program)
-    time_known(program)
+    time_revoked_states(program)
+    time_known_channels(program)
     time_loads(program)
-    load_whole(program)
-    load_hostile(program)
+    load_whole_dump(program)
+    load_hostile_texts(program)
 
 
 if __name__ == "__main__":

@@ -9,7 +9,7 @@ import re
 import sys
 
 
-def bounded(what, value, bound, unit="", least=False):
+def check_bound(what, value, bound, unit="", least=False):
     """Prints a measured number with its bound, and records both in the file that BOUNDS names, where it names one."""
     held = value >= bound if least else value <= bound
     sort = "at least" if least else "at most"
@@ -30,7 +30,7 @@ def main(words):
         numbers = re.findall(rf"\b{re.escape(field)}\s+([\d.]+)", found[0]) if found else []
         if not numbers:
             raise SystemExit(f"bounds: no line has '{part}' and a number after '{field}'")
-        bounded(what, float(numbers[0]), float(bound), least=sort == "least")
+        check_bound(what, float(numbers[0]), float(bound), least=sort == "least")
 
 
 if __name__ == "__main__":

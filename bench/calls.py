@@ -13,8 +13,8 @@ import sys
 import tempfile
 import time
 
-from bounds import bounded
-from worlds import TOP, built, fastest, scenario
+from bounds import check_bound
+from worlds import TOP, built_program, least_seconds, scenario
 
 CALLS = 100
 EVENTS = 10_000
@@ -42,22 +42,24 @@ def most_memory(words, text):
 
 
 def main(words):
-    enforce, trace = words if words else (built("enforce"), built("trace"))
+    enforce, trace = words if words else (built_program("enforce"), built_program("trace"))
     with tempfile.TemporaryDirectory() as folder:
         # as `./enforce --install` lays them
         shutil.copy(os.path.join(TOP, "enforce"), folder)
         shutil.copy(enforce, os.path.join(folder, "enforce.proved"))
-        bounded("a call of an installed program", milliseconds([os.path.join(folder, "enforce"), "ripemd", "616263"]), 50, unit=" ms")
+        check_bound(
+            "a call of an installed program", milliseconds([os.path.join(folder, "enforce"), "ripemd", "616263"]), 50, unit=" ms"
+        )
     wrapper = os.path.join(TOP, "enforce")
     if "proved yes" in subprocess.run([wrapper, "--version"], capture_output=True, text=True, check=True).stdout:
-        bounded("a call of a built program", milliseconds([wrapper, "ripemd", "616263"]), 50, unit=" ms")
+        check_bound("a call of a built program", milliseconds([wrapper, "ripemd", "616263"]), 50, unit=" ms")
     else:
         print("a call of a built program: no proved build stands here (./enforce --build makes it)")
     text = json.dumps(scenario(EVENTS))
-    played, traced = fastest([enforce, "run"], text), fastest([trace, "scenario"], text)
+    played, traced = least_seconds([enforce, "run"], text), least_seconds([trace, "scenario"], text)
     print(f"{EVENTS:,} events: {played * 1e3:.0f} ms played, {traced * 1e3:.0f} ms traced")
-    bounded("trace scenario to enforce run, 10,000 events", traced / played, 2)
-    bounded("memory of trace scenario, 10,000 events", most_memory([trace, "scenario"], text), 64, unit=" MiB")
+    check_bound("trace scenario to enforce run, 10,000 events", traced / played, 2)
+    check_bound("memory of trace scenario, 10,000 events", most_memory([trace, "scenario"], text), 64, unit=" MiB")
 
 
 if __name__ == "__main__":

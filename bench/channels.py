@@ -5,7 +5,7 @@ import os
 import resource
 import subprocess
 
-from bounds import bounded
+from bounds import check_bound
 
 TOP = os.path.dirname(os.path.dirname(os.path.abspath(__file__)))
 TURNS = 9
@@ -21,16 +21,16 @@ WORK = {
 }
 
 
-def used():
+def used_seconds():
     """The processor seconds of all child processes that ended."""
     usage = resource.getrusage(resource.RUSAGE_CHILDREN)
     return usage.ru_utime + usage.ru_stime
 
 
 def seconds(program, line):
-    start = used()
+    start = used_seconds()
     subprocess.run([program], input=line, capture_output=True, text=True, check=True)
-    return used() - start
+    return used_seconds() - start
 
 
 def main():
@@ -45,10 +45,10 @@ def main():
     cost = {name: sorted(times)[TURNS // 2] for name, times in cost.items()}
     for name, took in cost.items():
         print(f"{name}: {took * 1e3:.3f} ms")
-    bounded("a round of 483 HTLCs to SHA-256 of 1 MiB", cost["round of 483 HTLCs"] / cost["hash 1 MiB"], 6)
-    bounded("a signature with 966 HTLCs again to SHA-256 of 1 MiB", cost["a signature with 966 HTLCs again"] / cost["hash 1 MiB"], 6)
-    bounded("10,000 updates made and forgotten to SHA-256 of 1 MiB", cost["10,000 updates made and forgotten"] / cost["hash 1 MiB"], 1)
-    bounded("rounds 1,000 to 1,200 of a channel to rounds 10 to 210", cost["round of few, 1,000 to 1,200"] / cost["round of few, 10 to 210"], 1.2)
+    check_bound("a round of 483 HTLCs to SHA-256 of 1 MiB", cost["round of 483 HTLCs"] / cost["hash 1 MiB"], 6)
+    check_bound("a signature with 966 HTLCs again to SHA-256 of 1 MiB", cost["a signature with 966 HTLCs again"] / cost["hash 1 MiB"], 6)
+    check_bound("10,000 updates made and forgotten to SHA-256 of 1 MiB", cost["10,000 updates made and forgotten"] / cost["hash 1 MiB"], 1)
+    check_bound("rounds 1,000 to 1,200 of a channel to rounds 10 to 210", cost["round of few, 1,000 to 1,200"] / cost["round of few, 10 to 210"], 1.2)
 
 
 if __name__ == "__main__":

@@ -5,7 +5,7 @@ import os
 import resource
 import subprocess
 
-from bounds import bounded
+from bounds import check_bound
 
 TOP = os.path.dirname(os.path.dirname(os.path.abspath(__file__)))
 ROUNDS = 15
@@ -14,16 +14,16 @@ ROUNDS = 15
 WORK = {"hash 1 MiB": ("hash", 100), "96 HTLCs": ("build 48", 1000), "966 HTLCs": ("build 483", 100)}
 
 
-def used():
+def used_seconds():
     """The processor seconds of all child processes that ended."""
     usage = resource.getrusage(resource.RUSAGE_CHILDREN)
     return usage.ru_utime + usage.ru_stime
 
 
 def seconds(program, line):
-    start = used()
+    start = used_seconds()
     subprocess.run([program], input=line, capture_output=True, text=True, check=True)
-    return used() - start
+    return used_seconds() - start
 
 
 def main():
@@ -37,8 +37,8 @@ def main():
             cost[name] = min(cost.get(name, took / times), took / times)
     for name, took in cost.items():
         print(f"{name}: {took * 1e3:.3f} ms")
-    bounded("a commitment of 966 HTLCs to SHA-256 of 1 MiB", cost["966 HTLCs"] / cost["hash 1 MiB"], 0.6)
-    bounded("a commitment of 966 HTLCs to one of 96", cost["966 HTLCs"] / cost["96 HTLCs"], 14)
+    check_bound("a commitment of 966 HTLCs to SHA-256 of 1 MiB", cost["966 HTLCs"] / cost["hash 1 MiB"], 0.6)
+    check_bound("a commitment of 966 HTLCs to one of 96", cost["966 HTLCs"] / cost["96 HTLCs"], 14)
 
 
 if __name__ == "__main__":

@@ -81,7 +81,7 @@ def many_answers(signatures, keys):
     return set().union(*(many_answers(signatures[is_signed:], keys[1:]) for is_signed in found))
 
 
-def counted(stack, limit):
+def counted_items(stack, limit):
     """The items whose number is on top, which is at most this."""
     count = number(stack.pop(), 4)
     if not 0 <= count <= limit:
@@ -90,8 +90,8 @@ def counted(stack, limit):
 
 
 def check_multi_sig(stack):
-    keys = counted(stack, 20)
-    signatures = counted(stack, len(keys))
+    keys = counted_items(stack, 20)
+    signatures = counted_items(stack, len(keys))
     if stack.pop():
         raise Fails
     return many_answers(signatures, keys)
@@ -109,7 +109,7 @@ def check_lock(op, item):
         raise Fails
 
 
-def lefts(op, stack):
+def next_stacks(op, stack):
     """The stacks that an opcode may leave."""
     if isinstance(op, bytes):
         return [[*stack, op]]
@@ -158,7 +158,7 @@ def stops(ops, items):
             elif op == ENDIF:
                 waiting.append((at + 1, stack, ifs[:-1]))
             elif is_run:
-                waiting += [(at + 1, it, ifs) for it in lefts(op, stack)]
+                waiting += [(at + 1, it, ifs) for it in next_stacks(op, stack)]
             else:
                 waiting.append((at + 1, stack, ifs))
         except (Fails, IndexError):

@@ -49,7 +49,7 @@ class Channel:
         """The peer's next commitment has all updates of this side, and those of the peer that this side's newest has."""
         self.next = (len(self.updates[0]), self.ours[-1][1])
 
-    def signed(self):
+    def take_signature(self):
         """This side's next has all of the peer's, and those of this side that the peer's newest has."""
         self.ours.append((self.theirs[-1][0], len(self.updates[1])))
 
@@ -118,7 +118,7 @@ class Channel:
             claim("offered", number, amount // 1000, "penalty" if is_revoked else "timeout", None if is_revoked else expiry, "no_preimage", None)
         return found
 
-    def left(self, commitment, owner, is_revoked):
+    def claimable_value(self, commitment, owner, is_revoked):
         """What this side can claim of a commitment once each HTLC's transaction stands. Those of its own commitment, and of a revoked one, take their fees off."""
         hashes = [hashlib.sha256(it).hexdigest() for it in self.preimages]
         local, remote, of_owner, of_other = self.amounts(commitment, owner)
@@ -129,9 +129,9 @@ class Channel:
             values += [it[2] // 1000 - fee for it in htlcs if is_revoked or whose == 0 or it[3] in hashes]
         return sum(it for it in values if it is not None)
 
-    def at_least(self):
-        peers = [self.left(it, 1, False) for it in (self.theirs[-1], self.next) if it]
-        return min([self.left(self.ours[-1], 0, False), *peers, *(self.left(it, 1, True) for it in self.theirs[:-1])])
+    def least_value(self):
+        peers = [self.claimable_value(it, 1, False) for it in (self.theirs[-1], self.next) if it]
+        return min([self.claimable_value(self.ours[-1], 0, False), *peers, *(self.claimable_value(it, 1, True) for it in self.theirs[:-1])])
 
     def commitment(self, number, counts):
         balances, _, feerate = self.view(counts)
@@ -160,7 +160,7 @@ class Channel:
         found += [("revoked", n, n in self.kept, counts) for n, counts in enumerate(self.theirs[:-1])]
         return [{"commitment": name, "number": n, "kept": kept, "claims": self.claims(counts, name == "revoked")} for name, n, kept, counts in found]
 
-    def told(self, index):
+    def summary(self, index):
         return {
             "channel": index, "funding": self.funding, "explorer": bytes.fromhex(self.funding.split(":")[0])[::-1].hex(), "side": self.side, "opener": self.terms["opener"], "capacity": self.terms["capacity"],
             "peer_delay": self.terms["delay"][self.index(1)],
@@ -168,13 +168,13 @@ class Channel:
             "ours": self.commitment(len(self.ours) - 1, self.ours[-1]),
             "theirs": self.commitment(len(self.theirs) - 1, self.theirs[-1]),
             "next": self.next and self.commitment(len(self.theirs), self.next),
-            "at_least": self.at_least(), "htlcs": self.htlcs(), "closes": self.closes(),
+            "at_least": self.least_value(), "htlcs": self.htlcs(), "closes": self.closes(),
         }
 
 
-def received(channel, message):
+def take_message(channel, message):
     if message[0] == "signed":
-        channel.signed()
+        channel.take_signature()
     else:
         channel.add(1, message)
 
@@ -182,7 +182,7 @@ def received(channel, message):
 def step(channel, call):
     """A step of a channel: an update of its own (an offer has no id yet), or a message."""
     if call[2] == "receive":
-        received(channel, call[3])
+        take_message(channel, call[3])
     elif call[2] == "offer":
         count = sum(it[0] == "add" for it in channel.updates[0])
         channel.add(0, ["add", count, *call[3:]])
@@ -190,7 +190,7 @@ def step(channel, call):
         channel.add(0, call[2:])
 
 
-def told(dump):
+def objects_of(dump):
     """The objects that tell of a dump: its channels, and the book."""
     channels = []
     for entry in dump["history"]:
@@ -207,11 +207,11 @@ def told(dump):
             channels[call[1]].kept.add(call[2])
         elif call[0] == "close":
             channels[call[1]].close()
-    found = [channel.told(index) for index, channel in enumerate(channels)]
+    found = [channel.summary(index) for index, channel in enumerate(channels)]
     return [*found, {"entries": len(dump["history"]), "channels": len(channels)}]
 
 
-def made():
+def new_dumps():
     """Dumps that bench/histories.py makes anew: of two channels that are unlike in all their terms, by A, who closed the second one, by B, and by A before the close; and of a channel whose funding output has another index than 0."""
     with open(f"{TOP}/bench/unlike_channels.json", encoding="utf-8") as file:
         unlike = json.load(file)
@@ -219,7 +219,7 @@ def made():
     return [Books(unlike).dump("A"), Books(unlike).dump("B"), Books(before).dump("A"), Books(dict(unlike, events=[]), 70_000).dump("B")]
 
 
-def compact(value):
+def json_line(value):
     return json.dumps(value, separators=(",", ":")) + "\n"
 
 
@@ -248,7 +248,7 @@ def refusal_of(line):
     return None
 
 
-def kept_otherwise(dump, objects):
+def other_penalties(dump, objects):
     """The kept penalty sets whose claims on the commitment's own outputs have other values than what is told: the commitment's are those of the first claim's transaction."""
     found = []
     for call in (entry["call"] for entry in dump["history"] if entry["call"][0] == "keep"):
@@ -259,22 +259,22 @@ def kept_otherwise(dump, objects):
     return found
 
 
-def printed(line):
+def printed_text(line):
     """What the program prints of a line."""
     refusal = refusal_of(line)
     if refusal:
-        return compact(dict(zip(("refused", "number"), refusal)))
+        return json_line(dict(zip(("refused", "number"), refusal)))
     dump = json.loads(line)
-    objects = told(dump)
-    if kept_otherwise(dump, objects):
+    objects = objects_of(dump)
+    if other_penalties(dump, objects):
         raise SystemExit(f"dumps: other penalties are kept than told: {line[:80]}")
-    return "".join(map(compact, objects))
+    return "".join(map(json_line, objects))
 
 
 def is_told(line):
     """Whether ./trace tells a dump so."""
     done = subprocess.run([f"{TOP}/trace", "dump"], input=line, stdout=subprocess.PIPE, stderr=subprocess.DEVNULL, text=True)
-    wanted = printed(line)
+    wanted = printed_text(line)
     if done.stdout == wanted and done.returncode == bool(refusal_of(line)):
         return True
     print(f"otherwise: {line[:60]}\n{done.stdout}wanted:\n{wanted}")
@@ -283,10 +283,10 @@ def is_told(line):
 
 def main(words):
     if words == ["--tell"]:
-        print(printed(sys.stdin.read().strip()), end="")
+        print(printed_text(sys.stdin.read().strip()), end="")
         return 0
     with open(words[0] if words else f"{TOP}/bench/dumps.txt", encoding="utf-8") as file:
-        lines = [*file.read().splitlines(), *REFUSED, *made()]
+        lines = [*file.read().splitlines(), *REFUSED, *new_dumps()]
     wrong = sum(not is_told(line) for line in lines)
     print(f"dumps: {len(lines)} texts, {sum(refusal_of(line) is not None for line in lines)} of them refused: {wrong} differ")
     return 1 if wrong else 0

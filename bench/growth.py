@@ -12,8 +12,8 @@ import sys
 import tempfile
 from typing import NamedTuple
 
-from bounds import bounded
-from worlds import TOP, built
+from bounds import check_bound
+from worlds import TOP, built_program
 
 # by the HTLCs that stand, after how many rounds a book is looked at, and for how many it is estimated: those would take minutes and gigabytes
 LOOKS = {0: ((10, 1000, 10_000), ()), 10: ((10, 1000, 10_000), ()), 966: ((10, 1000), (10_000,))}
@@ -51,7 +51,7 @@ def looks(program, preload, line):
     return [Look(*map(int, numbers)) for numbers in zip(live, printed[::2], printed[1::2])]
 
 
-def on_wire(htlcs):
+def wire_bytes(htlcs):
     """The bytes of a round by BOLT 2: update_fee, and of each side commitment_signed and revoke_and_ack, with their types."""
     return 38 + 2 * (100 + 64 * htlcs + 99)
 
@@ -64,20 +64,20 @@ def count_rounds(look):
             print(f"{htlcs} HTLCs, {rounds:,} commitments of each side: {count / 1e6:.2f} MB")
         first, last = played[0], played[-1]
         each = (live[last] - live[first]) / (last - first)
-        print(f"{htlcs} HTLCs: {each:,.0f} bytes for one of each, of {on_wire(htlcs):,} on the wire: {each / on_wire(htlcs):.1f} times as many")
+        print(f"{htlcs} HTLCs: {each:,.0f} bytes for one of each, of {wire_bytes(htlcs):,} on the wire: {each / wire_bytes(htlcs):.1f} times as many")
         if htlcs == 0:
             bare = each
         else:
-            bounded(f"what an HTLC that stands adds to a round, of {htlcs}", (each - bare) / htlcs, FOR_AN_HTLC, unit=" bytes")
+            check_bound(f"what an HTLC that stands adds to a round, of {htlcs}", (each - bare) / htlcs, FOR_AN_HTLC, unit=" bytes")
         for rounds in estimated:
             print(f"{htlcs} HTLCs, {rounds:,} commitments of each side: not played; by these {(live[last] + (rounds - last) * each) / 1e6:,.0f} MB")
 
 
-def count_kept(look):
+def count_kept_claims(look):
     for htlcs, most in KEPT.items():
         before, after = look(f"keep {htlcs}")
         claims = after.claims - before.claims
-        bounded(f"a kept claim, of {claims:,} on {htlcs} HTLCs", (after.live - before.live) / claims, most, unit=" bytes")
+        check_bound(f"a kept claim, of {claims:,} on {htlcs} HTLCs", (after.live - before.live) / claims, most, unit=" bytes")
 
 
 def count_floods(look):
@@ -88,16 +88,16 @@ def count_floods(look):
             found = look(f"{flood} {count}")[0]
             each[count] = (found.live - start.live) / (messages * count)
             print(f"{flood}: {each[count]:,.0f} bytes for each of {messages * count:,} messages, {found.claims:,} claims kept")
-        bounded(f"a received message of a flood, {flood}", max(each.values()), most, unit=" bytes")
+        check_bound(f"a received message of a flood, {flood}", max(each.values()), most, unit=" bytes")
 
 
 def main(words):
-    program = words[0] if words else built("book_growth")
+    program = words[0] if words else built_program("book_growth")
     with tempfile.TemporaryDirectory() as work:
         preload = os.path.join(work, "live.so")
         source = os.path.join(TOP, "bench", "live.c")
         subprocess.run([os.environ.get("CC", "cc"), "-O2", "-shared", "-fPIC", "-o", preload, source], check=True)
-        for count in (count_rounds, count_kept, count_floods):
+        for count in (count_rounds, count_kept_claims, count_floods):
             count(lambda line: looks(os.path.abspath(program), preload, line))
 
 

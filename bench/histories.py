@@ -39,7 +39,7 @@ MIXED = (
 )
 
 
-def turned(x, n):
+def rotated_word(x, n):
     x &= FINAL
     return (x << n | x >> (32 - n)) & FINAL
 
@@ -49,7 +49,7 @@ def line(words, state, rows):
     for row in rows:
         mix = MIXED[row if row < 5 else 9 - row]
         for place, turn in zip(ORDERS[row], TURNS[row]):
-            a, e, d, c, b = e, d, turned(c, 10), b, (turned(a + mix(b, c, d) + words[place] + ADDED[row], turn) + e) & FINAL
+            a, e, d, c, b = e, d, rotated_word(c, 10), b, (rotated_word(a + mix(b, c, d) + words[place] + ADDED[row], turn) + e) & FINAL
     return a, b, c, d, e
 
 
@@ -76,7 +76,7 @@ def key_of(secret):
     return b"\x02" + sha256(b"point", secret)
 
 
-def derived(base, point):
+def derived_key(base, point):
     return b"\x02" + sha256(b"derive", base, point)
 
 
@@ -84,19 +84,19 @@ def push(item):
     return bytes([len(item)]) + item
 
 
-def pushed(n):
+def pushed_number(n):
     return b"\x00" if n == 0 else bytes([0x50 + n]) if n <= 16 else push(n.to_bytes(n.bit_length() // 8 + 1, "little"))
 
 
-def compact(n):
+def compact_size(n):
     return bytes([n]) if n < 0xFD else b"\xfd" + struct.pack("<H", n)
 
 
-def by_script(script):
+def script_program(script):
     return b"\x00\x20" + sha256(script)
 
 
-def written(outputs):
+def output_bytes(outputs):
     return b"".join(struct.pack("<Q", value) + push(program) for value, program in outputs)
 
 
@@ -107,19 +107,19 @@ class Transaction:
         self.outpoint, self.sequence, self.outputs, self.lock_time = outpoint, struct.pack("<I", sequence), outputs, struct.pack("<I", lock_time)
 
     def txid(self):
-        body = b"\x01" + self.outpoint + b"\x00" + self.sequence + compact(len(self.outputs)) + written(self.outputs)
+        body = b"\x01" + self.outpoint + b"\x00" + self.sequence + compact_size(len(self.outputs)) + output_bytes(self.outputs)
         return sha256d(struct.pack("<I", VERSION), body, self.lock_time)
 
     def digest(self, code, value):
         """What a signature of the input is over (BIP 143, hash type ALL)."""
-        spent = self.outpoint + compact(len(code)) + code + struct.pack("<Q", value) + self.sequence
-        return sha256d(struct.pack("<I", VERSION), sha256d(self.outpoint), sha256d(self.sequence), spent, sha256d(written(self.outputs)), self.lock_time, struct.pack("<I", 1))
+        spent = self.outpoint + compact_size(len(code)) + code + struct.pack("<Q", value) + self.sequence
+        return sha256d(struct.pack("<I", VERSION), sha256d(self.outpoint), sha256d(self.sequence), spent, sha256d(output_bytes(self.outputs)), self.lock_time, struct.pack("<I", 1))
 
 
 # ---- a channel
 
 
-def other(side):
+def peer_of(side):
     return "AB"[side == "A"]
 
 
@@ -136,7 +136,7 @@ class Channel:
         self.held = {side: [{"A": 0, "B": 0}] for side in "AB"}
         self.queue = {side: [] for side in "AB"}
 
-    def of(self, name, side):
+    def term(self, name, side):
         return self.terms[name][side == "B"]
 
     def secret(self, side, number):
@@ -166,7 +166,7 @@ class Channel:
                 feerate = it[1]
         for side, it in updates:
             if it[0] in ("fulfil", "fail"):
-                balance[side if it[0] == "fulfil" else other(side)] += htlcs.pop((other(side), it[1]))[2]
+                balance[side if it[0] == "fulfil" else peer_of(side)] += htlcs.pop((peer_of(side), it[1]))[2]
         return balance, htlcs, feerate
 
 
@@ -175,28 +175,28 @@ class Commitment:
 
     def __init__(self, channel, owner, number, counts):
         self.channel, self.owner = channel, owner
-        peer, point = other(owner), channel.point(owner, number)
+        peer, point = peer_of(owner), channel.point(owner, number)
         own, theirs = channel.bases[owner], channel.bases[peer]
         self.revocation = b"\x02" + sha256(b"revoke", theirs[REVOCATION], point)
-        self.local, self.remote = derived(own[HTLC], point), derived(theirs[HTLC], point)
-        self.to_local = b"\x63" + push(self.revocation) + b"\x67" + pushed(channel.of("delay", owner)) + b"\xb2\x75" + push(derived(own[DELAYED], point)) + b"\x68\xac"
+        self.local, self.remote = derived_key(own[HTLC], point), derived_key(theirs[HTLC], point)
+        self.to_local = b"\x63" + push(self.revocation) + b"\x67" + pushed_number(channel.term("delay", owner)) + b"\xb2\x75" + push(derived_key(own[DELAYED], point)) + b"\x68\xac"
         balance, htlcs, self.feerate = channel.content(counts)
-        dust, found = channel.of("dust", owner), []
+        dust, found = channel.term("dust", owner), []
         for (offerer, _), htlc in htlcs.items():
             if htlc[2] // 1000 >= dust + self.stage_fee(offerer):
                 script = self.htlc_script(offerer, htlc)
-                found.append((htlc[2] // 1000, by_script(script), htlc[4], "htlc", script, (offerer, htlc)))
+                found.append((htlc[2] // 1000, script_program(script), htlc[4], "htlc", script, (offerer, htlc)))
         fee = (724 + 172 * len(found)) * self.feerate // 1000
         paid = {side: balance[side] // 1000 for side in "AB"}
         paid[channel.terms["opener"]] = max(0, paid[channel.terms["opener"]] - fee)
         self.payment = theirs[PAYMENT]
         if paid[owner] >= dust:
-            found.append((paid[owner], by_script(self.to_local), 0, "to_local", self.to_local, None))
+            found.append((paid[owner], script_program(self.to_local), 0, "to_local", self.to_local, None))
         if paid[peer] >= dust:
             found.append((paid[peer], b"\x00\x14" + hash160(self.payment), 0, "to_remote", b"\x76\xa9\x14" + hash160(self.payment) + b"\x88\xac", None))
         self.outputs = sorted(found, key=lambda it: it[:3])
         opener = channel.terms["opener"]
-        mask = int.from_bytes(sha256(channel.bases[opener][PAYMENT], channel.bases[other(opener)][PAYMENT])[26:], "big") ^ number
+        mask = int.from_bytes(sha256(channel.bases[opener][PAYMENT], channel.bases[peer_of(opener)][PAYMENT])[26:], "big") ^ number
         self.tx = Transaction(channel.funding, 0x80 << 24 | mask >> 24, [it[:2] for it in self.outputs], 0x20 << 24 | mask & 0xFFFFFF)
 
     def stage_fee(self, offerer):
@@ -207,19 +207,19 @@ class Commitment:
         both, hashed = b"\x52\x7c" + push(self.local) + b"\x52\xae", b"\xa9\x14" + ripemd160(bytes.fromhex(htlc[3])) + b"\x88"
         if offerer == self.owner:
             return begin + b"\x64\x75" + both + b"\x67" + hashed + b"\xac\x68\x68"
-        return begin + b"\x63" + hashed + both + b"\x67\x75" + pushed(htlc[4]) + b"\xb1\x75\xac\x68\x68"
+        return begin + b"\x63" + hashed + both + b"\x67\x75" + pushed_number(htlc[4]) + b"\xb1\x75\xac\x68\x68"
 
     def stages(self):
         """The HTLC transactions, in the order of the outputs that they spend, each with that output."""
         for index, output in enumerate(self.outputs):
             if output[3] == "htlc":
                 offerer, htlc = output[5]
-                paid = [(output[0] - self.stage_fee(offerer), by_script(self.to_local))]
+                paid = [(output[0] - self.stage_fee(offerer), script_program(self.to_local))]
                 yield output, Transaction(self.tx.txid() + struct.pack("<I", index), 0, paid, htlc[4] if offerer == self.owner else 0)
 
     def signature(self):
         """The message by which the peer signs it."""
-        key = self.channel.bases[other(self.owner)][FUNDING]
+        key = self.channel.bases[peer_of(self.owner)][FUNDING]
         token = key + self.tx.digest(self.channel.code(), self.channel.terms["capacity"]) + b"\x01"
         return ["signed", token.hex(), [(self.remote + tx.digest(output[4], output[0]) + b"\x01").hex() for output, tx in self.stages()]]
 
@@ -252,14 +252,14 @@ class Books:
     def __init__(self, scenario, index=0):
         seeds = dict(zip("AB", map(bytes.fromhex, scenario["seeds"])))
         self.channels = [Channel(number, terms, seeds, index) for number, terms in enumerate(scenario["channels"])]
-        self.calls = {side: [self.opening(it, side) for it in self.channels] for side in "AB"}
+        self.calls = {side: [self.opening_call(it, side) for it in self.channels] for side in "AB"}
         for event in scenario["events"]:
             if event[0] not in ("broadcast", "blocks", "look", "take", "release", "reorg"):
                 self.play(event[0], event[1], event[2], self.channels[event[2]], event[3:])
 
     @staticmethod
-    def opening(it, side):
-        peer = other(side)
+    def opening_call(it, side):
+        peer = peer_of(side)
         token = Commitment(it, side, 0, it.held[side][0]).signature()[1]
         terms = {name: it.terms[name] for name in sorted(it.terms)}
         funding = f"{it.funding[:32].hex()}:{struct.unpack('<I', it.funding[32:])[0]}"
@@ -270,18 +270,18 @@ class Books:
         if name == "deliver":
             return self.deliver(side, number, it)
         if name == "sign":
-            counts = {side: len(it.made[side]), other(side): it.held[side][-1][other(side)]}
-            it.queue[other(side)].append((Commitment(it, other(side), len(it.held[other(side)]), counts).signature(), counts))
+            counts = {side: len(it.made[side]), peer_of(side): it.held[side][-1][peer_of(side)]}
+            it.queue[peer_of(side)].append((Commitment(it, peer_of(side), len(it.held[peer_of(side)]), counts).signature(), counts))
             return calls.append(["sign", number])
         if name == "keep":
-            owner = other(side)
+            owner = peer_of(side)
             return calls.append(["keep", number, rest[0], Commitment(it, owner, rest[0], it.held[owner][rest[0]]).penalties()])
         if name == "close":
             return calls.append(["close", number])
         calls.append(["step", number, name, *rest])
         update = ["add", sum(made[0] == "add" for made in it.made[side]), *rest] if name == "offer" else [name, *rest]
         it.made[side].append(update)
-        it.queue[other(side)].append((update, None))
+        it.queue[peer_of(side)].append((update, None))
         return None
 
     def deliver(self, side, number, it):
@@ -292,7 +292,7 @@ class Books:
         if counts:
             it.held[side].append(counts)
             revoked = len(it.held[side]) - 2
-            it.queue[other(side)].append((["revoke", it.secret(side, revoked).hex(), it.point(side, revoked + 2).hex()], None))
+            it.queue[peer_of(side)].append((["revoke", it.secret(side, revoked).hex(), it.point(side, revoked + 2).hex()], None))
         return None
 
     def dump(self, side):

@@ -10,7 +10,7 @@ import subprocess
 import tempfile
 import time
 
-from bounds import bounded
+from bounds import check_bound
 
 TOP = os.path.dirname(os.path.dirname(os.path.abspath(__file__)))
 TIMES, ROUNDS = 100_000, 7
@@ -58,7 +58,7 @@ def nanoseconds(program, form, work):
     return (best - start) / TIMES * 1e9
 
 
-def asked(program, form, work, preload):
+def allocated_bytes(program, form, work, preload):
     """The bytes that one piece of work allocates with malloc."""
     env = dict(os.environ, LD_PRELOAD=preload)
     counts = [int(run(program, lines(form, work, times), env)[2].split()[-1]) for times in (1000, 2000)]
@@ -76,8 +76,8 @@ def main():
             print(f"{form}, {len(script) // 2} bytes")
             took = {kind: nanoseconds(program, form, kind) for kind in ("instance", "check")}
             for kind, value in took.items():
-                print(f"  {kind:9}{value:8.0f} ns {asked(program, form, kind, preload):8.0f} bytes of malloc")
-            bounded(f"the check of the {form} script to an instance of its pattern", took["check"] / took["instance"], 1, least=True)
+                print(f"  {kind:9}{value:8.0f} ns {allocated_bytes(program, form, kind, preload):8.0f} bytes of malloc")
+            check_bound(f"the check of the {form} script to an instance of its pattern", took["check"] / took["instance"], 1, least=True)
 
 
 if __name__ == "__main__":

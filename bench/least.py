@@ -6,7 +6,7 @@ import os
 import resource
 import subprocess
 
-from bounds import bounded
+from bounds import check_bound
 
 TOP = os.path.dirname(os.path.dirname(os.path.abspath(__file__)))
 TURNS = 9
@@ -15,16 +15,16 @@ TURNS = 9
 WORK = {"hash 1 MiB": ("hash", 100), "2 revoked commitments": ("ask 483 2", 10000), "20 revoked commitments": ("ask 483 20", 2000), "200 revoked commitments": ("ask 483 200", 500)}
 
 
-def used():
+def used_seconds():
     """The processor seconds of all child processes that ended."""
     usage = resource.getrusage(resource.RUSAGE_CHILDREN)
     return usage.ru_utime + usage.ru_stime
 
 
 def seconds(program, line):
-    start = used()
+    start = used_seconds()
     subprocess.run([program], input=line, capture_output=True, text=True, check=True)
-    return used() - start
+    return used_seconds() - start
 
 
 def main():
@@ -40,8 +40,8 @@ def main():
     cost = {name: (spent[name, times + 1] - spent[name, 1]) / times for name, (_, times) in WORK.items()}
     for name, took in cost.items():
         print(f"{name}: {took * 1e3:.3f} ms")
-    bounded("the least of a channel of 966 HTLCs to SHA-256 of 1 MiB", cost["2 revoked commitments"] / cost["hash 1 MiB"], 0.2)
-    bounded("the least after 200 revoked commitments to that after 20", cost["200 revoked commitments"] / cost["20 revoked commitments"], 25)
+    check_bound("the least of a channel of 966 HTLCs to SHA-256 of 1 MiB", cost["2 revoked commitments"] / cost["hash 1 MiB"], 0.2)
+    check_bound("the least after 200 revoked commitments to that after 20", cost["200 revoked commitments"] / cost["20 revoked commitments"], 25)
 
 
 if __name__ == "__main__":

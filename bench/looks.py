@@ -11,32 +11,32 @@ import json
 import subprocess
 import sys
 
-from bounds import bounded
-from worlds import TERMS, built, fastest, signed
+from bounds import check_bound
+from worlds import TERMS, built_program, least_seconds, round_events
 
 HTLCS = 480
 
 
-def closed(htlcs):
+def closing_events(htlcs):
     """A commits to this number of HTLCs, half of them its own, revokes that commitment, and broadcasts it."""
     hashes = [hashlib.sha256(b"%d" % number).hexdigest() for number in range(htlcs)]
     events = []
     for number, digest in enumerate(hashes):
         payer, payee = ("A", "B") if number % 2 else ("B", "A")
         events += [["offer", payer, 0, 10_000_000 + number, digest, 400_000], ["deliver", payee, 0]]
-    rounds = [*signed_once(), ["keep", "A", 0, 0], ["keep", "B", 0, 0]]
+    rounds = [*signing_events(), ["keep", "A", 0, 0], ["keep", "B", 0, 0]]
     fee = [["fee", "A", 0, 1001], ["deliver", "B", 0]]
-    return [*events, *rounds, *fee, *signed_once(), ["keep", "A", 0, 1], ["keep", "B", 0, 1], ["broadcast", "A", 0, 1]]
+    return [*events, *rounds, *fee, *signing_events(), ["keep", "A", 0, 1], ["keep", "B", 0, 1], ["broadcast", "A", 0, 1]]
 
 
-def signed_once():
+def signing_events():
     """Both sides sign what was delivered, and revoke."""
-    return signed("A", "B", 0)[1:]
+    return round_events("A", "B", 0)[1:]
 
 
 def scenario(htlcs, looks):
     """The close, and then looks of B, each after this number of blocks."""
-    events = closed(htlcs)
+    events = closing_events(htlcs)
     for blocks, is_looked_at in looks:
         events.append(["blocks", blocks])
         if is_looked_at:
@@ -46,8 +46,8 @@ def scenario(htlcs, looks):
 
 def cost(program, htlcs, *blocks):
     """The processor seconds of looks after this number of blocks each, without mining the blocks."""
-    looked = fastest([program, "run"], scenario(htlcs, [(count, True) for count in blocks]))
-    passed = fastest([program, "run"], scenario(htlcs, [(count, False) for count in blocks]))
+    looked = least_seconds([program, "run"], scenario(htlcs, [(count, True) for count in blocks]))
+    passed = least_seconds([program, "run"], scenario(htlcs, [(count, False) for count in blocks]))
     return looked - passed
 
 
@@ -64,18 +64,18 @@ def time_looks(program):
     for blocks, most in ((10, 1.5), (100, 1.5), (1000, 1.5), (10_000, 3)):
         took = cost(program, HTLCS, blocks)
         print(f"one look, {blocks:,} blocks: {took * 1e3:.2f} ms")
-        bounded(f"a look over {blocks:,} blocks to one over 1", took / one, most)
+        check_bound(f"a look over {blocks:,} blocks to one over 1", took / one, most)
     whole = cost(program, HTLCS, 1000)
     parts = cost(program, HTLCS, *10 * [100])
     print(f"ten looks of 100 blocks: {parts * 1e3:.2f} ms")
-    bounded("ten looks of 100 blocks to one of 1,000", parts / whole, 2)
+    check_bound("ten looks of 100 blocks to one of 1,000", parts / whole, 2)
 
 
 def time_channels(reader):
     """A block of 3,000 transactions for a reader of this number of open channels."""
     alone, many = (numbers(reader, f"channels {channels}")[-1] for channels in (1, 1000))
     print(f"a block of 3,000 transactions, 1 open channel: {alone / 1e3:.1f} us, 1,000: {many / 1e3:.1f} us")
-    bounded("a block of 3,000 transactions for 1,000 open channels to one", many / alone, 3)
+    check_bound("a block of 3,000 transactions for 1,000 open channels to one", many / alone, 3)
 
 
 def time_preimages(reader):
@@ -85,12 +85,12 @@ def time_preimages(reader):
     many, many_after = numbers(reader, "preimages 10000 1")
     print(f"10,000 hashes of 32 bytes: {hashed / 1e6:.2f} ms")
     print(f"a close, 10 known preimages: {few / 1e6:.2f} ms, 10,000: {many / 1e6:.2f} ms; 100 empty blocks after it: {few_after / 1e3:.1f} and {many_after / 1e3:.1f} us")
-    bounded("what 10,000 known preimages add to a close to 10,000 hashes", (many - few) / hashed, 3)
-    bounded("100 empty blocks after a close, with 10,000 known preimages to 10", many_after / few_after, 1.5)
+    check_bound("what 10,000 known preimages add to a close to 10,000 hashes", (many - few) / hashed, 3)
+    check_bound("100 empty blocks after a close, with 10,000 known preimages to 10", many_after / few_after, 1.5)
 
 
 def main(words):
-    program, reader = words or (built("enforce"), built("reader_costs"))
+    program, reader = words or (built_program("enforce"), built_program("reader_costs"))
     time_looks(program)
     time_channels(reader)
     time_preimages(reader)

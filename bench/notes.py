@@ -74,7 +74,7 @@ def end(opcode, item, rule):
     return f"a branch ends at opcode {opcode}: {item} ({count} byte{'s' * (count > 1)}) is {rule}; consensus is laxer, and may let others spend"
 
 
-def strict(*ends):
+def strict_notes(*ends):
     """No path, and these ends."""
     return [f"{NONE}, which are stricter than consensus", *(end(*it) for it in ends)]
 
@@ -95,9 +95,9 @@ CHECK = push(LONG) + "ac"
 DEAD = "515288"
 
 
-def branching(count):
+def branch_opcodes(count):
     """Opcodes with this number of branches."""
-    return "" if count == 1 else f"63{branching(count // 2)}67{branching(count - count // 2)}68"
+    return "" if count == 1 else f"63{branch_opcodes(count // 2)}67{branch_opcodes(count - count // 2)}68"
 
 
 def many_keys(count, number):
@@ -107,71 +107,71 @@ def many_keys(count, number):
 
 ENDS = [
     # in a branch of a script without a path: the first, the second, one in another, one after they join, and both
-    (f"63{CHECK}670068", strict((2, LONG, NO_KEY))),
-    (f"630067{CHECK}68", strict((4, LONG, NO_KEY))),
-    (f"640067{CHECK}68", strict((4, LONG, NO_KEY))),
-    (f"64{CHECK}670068", strict((2, LONG, NO_KEY))),
-    (f"63630067006867{CHECK}68", strict((8, LONG, NO_KEY))),
-    (f"63630067{CHECK}68670068", strict((5, LONG, NO_KEY))),
-    (f"63516752687575{CHECK}", strict((8, LONG, NO_KEY))),
-    (f"63{CHECK}67020100b168", strict((2, LONG, NO_KEY), (5, "0100", NO_NUMBER))),
+    (f"63{CHECK}670068", strict_notes((2, LONG, NO_KEY))),
+    (f"630067{CHECK}68", strict_notes((4, LONG, NO_KEY))),
+    (f"640067{CHECK}68", strict_notes((4, LONG, NO_KEY))),
+    (f"64{CHECK}670068", strict_notes((2, LONG, NO_KEY))),
+    (f"63630067006867{CHECK}68", strict_notes((8, LONG, NO_KEY))),
+    (f"63630067{CHECK}68670068", strict_notes((5, LONG, NO_KEY))),
+    (f"63516752687575{CHECK}", strict_notes((8, LONG, NO_KEY))),
+    (f"63{CHECK}67020100b168", strict_notes((2, LONG, NO_KEY), (5, "0100", NO_NUMBER))),
     # a branch that is taken or left out by a constant; an IF within what is left out
     (f"51630067{CHECK}68", EXACT),
     (f"0063{CHECK}670068", EXACT),
     (f"00640067{CHECK}68", EXACT),
     (f"5164{CHECK}670068", EXACT),
-    (f"00630067{CHECK}68", strict((5, LONG, NO_KEY))),
-    (f"51640067{CHECK}68", strict((5, LONG, NO_KEY))),
-    (f"5163{CHECK}670068", strict((3, LONG, NO_KEY))),
-    (f"0064{CHECK}670068", strict((3, LONG, NO_KEY))),
-    (f"00635163006700680067{CHECK}68", strict((11, LONG, NO_KEY))),
-    (f"63{CHECK}6800", strict((2, LONG, NO_KEY))),
+    (f"00630067{CHECK}68", strict_notes((5, LONG, NO_KEY))),
+    (f"51640067{CHECK}68", strict_notes((5, LONG, NO_KEY))),
+    (f"5163{CHECK}670068", strict_notes((3, LONG, NO_KEY))),
+    (f"0064{CHECK}670068", strict_notes((3, LONG, NO_KEY))),
+    (f"00635163006700680067{CHECK}68", strict_notes((11, LONG, NO_KEY))),
+    (f"63{CHECK}6800", strict_notes((2, LONG, NO_KEY))),
     # 16, 17 and 20 keys; 21 are too many in consensus too
-    (many_keys(16, "60"), strict((19, LONG, NO_KEY))),
-    (many_keys(17, "0111"), strict((20, LONG, NO_KEY))),
-    (many_keys(20, "0114"), strict((23, LONG, NO_KEY))),
+    (many_keys(16, "60"), strict_notes((19, LONG, NO_KEY))),
+    (many_keys(17, "0111"), strict_notes((20, LONG, NO_KEY))),
+    (many_keys(20, "0114"), strict_notes((23, LONG, NO_KEY))),
     (many_keys(21, "0115"), EXACT),
     # two keys: the first that is none is named; a key of 33 bytes that begins with 04, and one of 32
-    (f"0000{push('02aa')}{push('03bb')}52ae", strict((5, "03bb", NO_KEY))),
-    (f"00{push('04' + KEY[2:])}ac", strict((2, "04" + KEY[2:], NO_KEY))),
-    (f"00{push(KEY[:64])}ac", strict((2, KEY[:64], NO_KEY))),
+    (f"0000{push('02aa')}{push('03bb')}52ae", strict_notes((5, "03bb", NO_KEY))),
+    (f"00{push('04' + KEY[2:])}ac", strict_notes((2, "04" + KEY[2:], NO_KEY))),
+    (f"00{push(KEY[:64])}ac", strict_notes((2, KEY[:64], NO_KEY))),
     # signatures of 72 and 73 bytes; one of 74 is none in consensus either
-    (f"{push(signature(33, 32))}{push(KEY)}ac", strict((2, signature(33, 32), NO_SIGNATURE))),
-    (f"{push(signature(33, 33))}{push(KEY)}ac", strict((2, signature(33, 33), NO_SIGNATURE))),
+    (f"{push(signature(33, 32))}{push(KEY)}ac", strict_notes((2, signature(33, 32), NO_SIGNATURE))),
+    (f"{push(signature(33, 33))}{push(KEY)}ac", strict_notes((2, signature(33, 33), NO_SIGNATURE))),
     (f"{push(signature(34, 33))}{push(KEY)}ac", EXACT),
     # the same before a key that is none: the key is named where consensus takes the signature
-    (f"{push(signature(33, 33))}{CHECK}", strict((2, LONG, NO_KEY))),
+    (f"{push(signature(33, 33))}{CHECK}", strict_notes((2, LONG, NO_KEY))),
     (f"{push(signature(34, 33))}{CHECK}", EXACT),
     (f"51{CHECK}", EXACT),
     # counts of keys that are not minimally encoded: 1, 20 and 21 of two bytes, 1 of four and of five, 0 with a sign, -1 and -1 of two bytes
-    (f"0000{push(KEY)}020100ae", strict((4, "0100", NO_NUMBER))),
-    (many_keys(20, "021400"), strict((23, "1400", NO_NUMBER))),
+    (f"0000{push(KEY)}020100ae", strict_notes((4, "0100", NO_NUMBER))),
+    (many_keys(20, "021400"), strict_notes((23, "1400", NO_NUMBER))),
     (many_keys(21, "021500"), EXACT),
-    (f"0000{push(KEY)}0401000000ae", strict((4, "01000000", NO_NUMBER))),
+    (f"0000{push(KEY)}0401000000ae", strict_notes((4, "01000000", NO_NUMBER))),
     (f"0000{push(KEY)}050100000000ae", EXACT),
-    (f"0000020080ae", strict((3, "0080", NO_NUMBER))),
+    (f"0000020080ae", strict_notes((3, "0080", NO_NUMBER))),
     (f"0000{push(KEY)}0181ae", EXACT),
     (f"0000{push(KEY)}020180ae", EXACT),
     # counts of signatures: 1 of one key, 2 of one key, and 2 of two keys
-    (f"00020100{push(KEY)}51ae", strict((4, "0100", NO_NUMBER))),
+    (f"00020100{push(KEY)}51ae", strict_notes((4, "0100", NO_NUMBER))),
     (f"00020200{push(KEY)}51ae", EXACT),
-    (f"00020200{push(KEY)}{push(OTHER)}52ae", strict((5, "0200", NO_NUMBER))),
+    (f"00020200{push(KEY)}{push(OTHER)}52ae", strict_notes((5, "0200", NO_NUMBER))),
     (f"0052{push(KEY)}51ae", EXACT),
     # an extra item that is not empty, before a key that is none (BIP 147)
     (f"5100{push(LONG)}51ae", EXACT),
-    (f"0000{push(LONG)}51ae", strict((4, LONG, NO_KEY))),
+    (f"0000{push(LONG)}51ae", strict_notes((4, LONG, NO_KEY))),
     # locks of five and of six bytes, 0 with a sign, -1 of one byte and of two, by both opcodes
-    *((f"050100000000{lock}7551", strict((1, "0100000000", NO_NUMBER))) for lock in ("b1", "b2")),
+    *((f"050100000000{lock}7551", strict_notes((1, "0100000000", NO_NUMBER))) for lock in ("b1", "b2")),
     *((f"06010000000000{lock}7551", EXACT) for lock in ("b1", "b2")),
-    *((f"0180{lock}7551", strict((1, "80", NO_NUMBER))) for lock in ("b1", "b2")),
+    *((f"0180{lock}7551", strict_notes((1, "80", NO_NUMBER))) for lock in ("b1", "b2")),
     *((f"0181{lock}7551", EXACT) for lock in ("b1", "b2")),
     *((f"020180{lock}7551", EXACT) for lock in ("b1", "b2")),
     # what a hash can be, of 20 bytes and not of 19 or 21; and a length, 0 and 520 and not 521, -1 or 20 in two bytes
-    (f"76a9{push('77' * 20)}88{CHECK}", strict((5, LONG, NO_KEY))),
+    (f"76a9{push('77' * 20)}88{CHECK}", strict_notes((5, LONG, NO_KEY))),
     (f"76a9{push('77' * 19)}88{CHECK}", EXACT),
     (f"76a9{push('77' * 21)}88{CHECK}", EXACT),
-    (f"820088{CHECK}", strict((4, LONG, NO_KEY))),
-    (f"820208028875{CHECK}", strict((5, LONG, NO_KEY))),
+    (f"820088{CHECK}", strict_notes((4, LONG, NO_KEY))),
+    (f"820208028875{CHECK}", strict_notes((5, LONG, NO_KEY))),
     (f"820209028875{CHECK}", EXACT),
     (f"82018188{CHECK}", EXACT),
     (f"8202140088{CHECK}", EXACT),
@@ -181,33 +181,33 @@ ENDS = [
 ]
 ENDS += [
     # a key of 75 bytes, the longest push
-    (f"{push('07' * 75)}ac", strict((1, "07" * 75, NO_KEY))),
+    (f"{push('07' * 75)}ac", strict_notes((1, "07" * 75, NO_KEY))),
     # constants in CHECKMULTISIG: a signature that is none, alone and below one of the witness, which is checked first; one in DER
     (f"00{push('aabb')}51{push(LONG)}51ae", EXACT),
-    (f"{push('aabb')}7c52{push(KEY)}{push(LONG)}52ae", strict((6, LONG, NO_KEY))),
-    (f"00{push(DER)}51{push(LONG)}51ae", strict((5, LONG, NO_KEY))),
+    (f"{push('aabb')}7c52{push(KEY)}{push(LONG)}52ae", strict_notes((6, LONG, NO_KEY))),
+    (f"00{push(DER)}51{push(LONG)}51ae", strict_notes((5, LONG, NO_KEY))),
     # no signature of one key is true, and the empty signature is false
     (f"0000{push(KEY)}51ae64{CHECK}6800", EXACT),
-    (f"0000{push(KEY)}51ae63{CHECK}6800", strict((7, LONG, NO_KEY))),
+    (f"0000{push(KEY)}51ae63{CHECK}6800", strict_notes((7, LONG, NO_KEY))),
     (f"00{push(KEY)}ac63{CHECK}6800", EXACT),
-    (f"00{push(KEY)}ac64{CHECK}6800", strict((5, LONG, NO_KEY))),
+    (f"00{push(KEY)}ac64{CHECK}6800", strict_notes((5, LONG, NO_KEY))),
     # the length of a hash, of a constant and of the empty item; what a constant hashes to
-    (f"76a98201148875{CHECK}", strict((7, LONG, NO_KEY))),
+    (f"76a98201148875{CHECK}", strict_notes((7, LONG, NO_KEY))),
     (f"76a98201158875{CHECK}", EXACT),
-    (f"5582518875{CHECK}", strict((6, LONG, NO_KEY))),
+    (f"5582518875{CHECK}", strict_notes((6, LONG, NO_KEY))),
     (f"5582528875{CHECK}", EXACT),
-    (f"0082008875{CHECK}", strict((6, LONG, NO_KEY))),
+    (f"0082008875{CHECK}", strict_notes((6, LONG, NO_KEY))),
     (f"0082518875{CHECK}", EXACT),
-    (f"00a9{push(hash160(b'').hex())}88{CHECK}", strict((5, LONG, NO_KEY))),
+    (f"00a9{push(hash160(b'').hex())}88{CHECK}", strict_notes((5, LONG, NO_KEY))),
     (f"51a9{push(hash160(b'').hex())}88{CHECK}", EXACT),
     # zero with a sign is false, and so is zero of two bytes; one of two bytes is true
     *((f"{push(it)}63{CHECK}6800", EXACT) for it in ("80", "0080", "0000")),
-    *((f"{push(it)}63{CHECK}6800", strict((3, LONG, NO_KEY))) for it in ("81", "0100", "8000")),
+    *((f"{push(it)}63{CHECK}6800", strict_notes((3, LONG, NO_KEY))) for it in ("81", "0100", "8000")),
     # two branches that come to one opcode: each rule is named once, with the bytes of the branch that is followed first
-    (f"63{push(LONG)}67{push('02aa')}68ac", strict((5, LONG, NO_KEY))),
-    (f"63{push(DER)}{push(KEY)}67{push(LONG)}68ac", strict((6, DER, NO_SIGNATURE), (6, LONG, NO_KEY))),
+    (f"63{push(LONG)}67{push('02aa')}68ac", strict_notes((5, LONG, NO_KEY))),
+    (f"63{push(DER)}{push(KEY)}67{push(LONG)}68ac", strict_notes((6, DER, NO_SIGNATURE), (6, LONG, NO_KEY))),
     # the 64th branch is followed
-    (f"63{branching(63)}67{CHECK}68", [end(branching(63).count("6") + 3, LONG, NO_KEY), f"anyone can spend by path {', '.join(map(str, range(63)))}: no signature of a key that the script fixes is asked for"]),
+    (f"63{branch_opcodes(63)}67{CHECK}68", [end(branch_opcodes(63).count("6") + 3, LONG, NO_KEY), f"anyone can spend by path {', '.join(map(str, range(63)))}: no signature of a key that the script fixes is asked for"]),
 ]
 # no signature in consensus (BIP 66): a tag, a length, a negative or padded integer, none, a second tag, more bytes after it
 ENDS += [
@@ -241,7 +241,7 @@ TRIED = [*map(bytes.fromhex, ("", "01", KEY, LONG, DER, "00" * 520)), *HASHES]
 PIECES = ["00", "51", "52", push("80"), push("0100"), push(KEY), push(LONG), push(DER), push("aabb"), *("63 64 67 68 75 76 7c 82 87 88 a9 ac ae b1 b2 63 68 ac ae".split())]
 
 
-def mixed(count):
+def mixed_scripts(count):
     """Scripts of opcodes that are drawn from the pieces, each with an end that is false or has two elements; the same ones in each call."""
     drawn = random.Random(count)
     return ["".join(drawn.choices(PIECES, k=drawn.randint(3, 9))) + drawn.choice(("00", "5151", "7500", "5288")) for _ in range(count)]
@@ -331,7 +331,7 @@ def number(n):
     return "00" if n == 0 else f"{0x50 + n:02x}" if n <= 16 else push(n.to_bytes(size, "little").hex())
 
 
-def asking(fact):
+def fact_opcodes(fact):
     """Opcodes that ask for a fact of the item on top, and leave the item there; and the facts that they ask for, in order."""
     kind, what, holds = fact
     first = []
@@ -355,7 +355,7 @@ FACTS = [(*it, holds) for it in BOTH for holds in (True, False)]
 FACTS += [("key", None, True), ("form", None, True), ("lock", 500, True), ("lock", 499_999_999, True), ("lock", 500_000_000, True), ("age", 144, True), ("age", 65535, True), ("age", (1 << 22) + 144, True)]
 
 
-def left_to_others(facts, slots):
+def spender_notes(facts, slots):
     """What a path with these facts leaves to others than those whose keys the script has."""
     held = [(kind, slot) for (kind, _, holds), slot in zip(facts, slots) if holds]
     kinds = {kind for kind, _ in held}
@@ -382,7 +382,7 @@ def pair_rows():
     for one in FACTS:
         for other in FACTS:
             for swap in ("", "7c"):
-                (code, asked), (more, then) = asking(one), asking(other)
+                (code, asked), (more, then) = fact_opcodes(one), fact_opcodes(other)
                 slots = [0] * len(asked) + [len(swap) // 2] * len(then)
                 facts = asked + then
                 notes = []
@@ -391,7 +391,7 @@ def pair_rows():
                     if before:
                         notes = [note_of(facts[before[0]], fact, (text(facts[before[0]], slots[before[0]]), text(fact, slots[at])))]
                         break
-                notes = notes or list(left_to_others(facts, slots))
+                notes = notes or list(spender_notes(facts, slots))
                 yield "76" + "75" + code + swap + more + "75" * (1 + len(swap) // 2) + "51", [text(fact, slot) for fact, slot in zip(facts, slots)], notes
 
 
@@ -440,7 +440,7 @@ def scenario(**members):
     return {"seeds": [SEED, SEED], "channels": [TERMS, TERMS], "events": [["look", "A"]], **members}
 
 
-def missed(at, value, parts):
+def faulty_objects(at, value, parts):
     """Objects that lack a member, that have one of another shape, and one with a member more; and what is noted."""
     for name, kind in parts.items():
         yield {key: it for key, it in value.items() if key != name}, f"{at} has no member {name}"
@@ -456,8 +456,8 @@ def missed(at, value, parts):
 
 def scenario_rows():
     """Texts that are no scenario, and the note on each."""
-    yield from missed("the scenario", scenario(), MEMBERS)
-    for terms, note in missed("channel 1", TERMS, PARTS):
+    yield from faulty_objects("the scenario", scenario(), MEMBERS)
+    for terms, note in faulty_objects("channel 1", TERMS, PARTS):
         yield scenario(channels=[TERMS, terms]), note
     for name, parts in EVENTS:
         whole = [name, *(WORDS[kind][0] for _, kind in parts)]
@@ -495,7 +495,7 @@ def scenario_rows():
 # ---- the calls
 
 
-def noted(ran):
+def printed_notes(ran):
     """The notes that a call printed."""
     return [line.removeprefix("note: ") for line in ran.stderr.decode().splitlines()]
 
@@ -508,9 +508,9 @@ def is_noted(command, words, given, notes, facts=None):
     """Whether a call notes this, and lists one path with these facts where they are given."""
     ran = subprocess.run([command, *words], input=given.encode(), capture_output=True)
     listed = [line[2:] for line in ran.stdout.decode().splitlines() if line.startswith("  ")]
-    well = noted(ran) == notes and (facts is None or (ran.stdout.startswith(b"paths 1\n") and listed == facts))
+    well = printed_notes(ran) == notes and (facts is None or (ran.stdout.startswith(b"paths 1\n") and listed == facts))
     if not well:
-        print(f"{' '.join(words)[:400]} {given[:200]}\n  notes {noted(ran)}\n  wanted {notes}" + (f"\n  lists {listed}\n  wanted {facts}" if facts is not None and listed != facts else ""))
+        print(f"{' '.join(words)[:400]} {given[:200]}\n  notes {printed_notes(ran)}\n  wanted {notes}" + (f"\n  lists {listed}\n  wanted {facts}" if facts is not None and listed != facts else ""))
     return well
 
 
@@ -526,7 +526,7 @@ def main():
     wrong += sum(not is_noted(command, ["paths", code], "", notes, facts) for code, facts, notes in pairs)
     wrong += sum(not is_noted(command, ["run"], given, notes) for given, notes in texts)
     wrong += sum(not is_noted(command, ["node", "1"], given, notes) for given, notes in texts[:1])
-    drawn = [(code, noted(subprocess.run([command, "paths", code], capture_output=True))) for code in mixed(600)]
+    drawn = [(code, printed_notes(subprocess.run([command, "paths", code], capture_output=True))) for code in mixed_scripts(600)]
     wrong += sum(not is_right(code, notes) for code, notes in ENDS)
     wrong += sum(ends_so(notes) and not is_right(code, notes) for code, notes in drawn)
     print(f"notes: {len(scripts)} scripts, {sum(ends_so(it[1]) for it in drawn)} more that end as in consensus, {len(pairs)} pairs of facts, {sum(is_contradictory(it[2]) for it in pairs)} of them contradictory, {len(texts)} texts that are no scenario: {wrong} noted otherwise")

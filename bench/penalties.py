@@ -9,7 +9,7 @@ import os
 import resource
 import subprocess
 
-from bounds import bounded
+from bounds import check_bound
 
 TOP = os.path.dirname(os.path.dirname(os.path.abspath(__file__)))
 SETS, HASHES, ROUNDS = 10, 40, 7
@@ -22,7 +22,7 @@ def seconds(program, text):
     return resource.getrusage(resource.RUSAGE_CHILDREN).ru_utime - start, done.stdout
 
 
-def each(program, line, times):
+def milliseconds(program, line, times):
     """The milliseconds of one piece of work: the fastest round, without the program's start and the reading of the line."""
     best, start = 1e9, 1e9
     for _ in range(ROUNDS):
@@ -36,9 +36,9 @@ def towers(program, penalties):
     for word, what in (("tower", "the commitment"), ("stages", "the commitment and its HTLC transactions")):
         line = word + " {} " + state(483) + "\n"
         print(seconds(program, line.format(1))[1].strip())
-        took = each(program, line, SETS)
+        took = milliseconds(program, line, SETS)
         print(f"a tower, 483 HTLCs    {took:8.2f} ms")
-        bounded(f"what a tower does with {what} of 483 HTLCs to the penalties", took / penalties, 1.5)
+        check_bound(f"what a tower does with {what} of 483 HTLCs to the penalties", took / penalties, 1.5)
 
 
 def state(htlcs):
@@ -51,16 +51,16 @@ def state(htlcs):
 def main():
     built = subprocess.run([os.path.join(TOP, ".ci", "program"), "penalty_costs"], stdout=subprocess.PIPE, text=True, check=True)
     program = built.stdout.strip()
-    hashing = each(program, "hash {}\n", HASHES)
+    hashing = milliseconds(program, "hash {}\n", HASHES)
     print(f"SHA-256 of 1 MiB      {hashing:8.2f} ms")
     took = {}
     for htlcs in (483, 966):
         line = "repeat {} " + state(htlcs) + "\n"
         print(seconds(program, line.format(1))[1].strip())
-        took[htlcs] = each(program, line, SETS)
+        took[htlcs] = milliseconds(program, line, SETS)
         print(f"penalties, {htlcs} HTLCs {took[htlcs]:8.2f} ms")
-    bounded("the penalties of 966 HTLCs to SHA-256 of 1 MiB", took[966] / hashing, 4)
-    bounded("the penalties of 966 HTLCs to those of 483", took[966] / took[483], 2.4)
+    check_bound("the penalties of 966 HTLCs to SHA-256 of 1 MiB", took[966] / hashing, 4)
+    check_bound("the penalties of 966 HTLCs to those of 483", took[966] / took[483], 2.4)
     towers(program, took[483])
 
 

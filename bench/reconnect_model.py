@@ -71,15 +71,15 @@ def offers(us):
     return [u for u in us if u[0] == "add"]
 
 
-def spent(mine, others):
+def spent_amount(mine, others):
     return sum(o[2] for o in offers(mine) if fate(o[1], others) != "fail")
 
 
-def gained(mine, others):
+def gained_amount(mine, others):
     return sum(o[2] for o in offers(others) if fate(o[1], mine) == "ful")
 
 
-def live(mine, others):
+def live_offers(mine, others):
     return tuple(o for o in offers(mine) if fate(o[1], others) == "live")
 
 
@@ -116,9 +116,9 @@ def update_refusal(by, s, o, u):
             return "BelowMinimum"
         if expiry >= EXPIRY_END:
             return "ExpiryTooLarge"
-        if len(live(known, o_settled)) >= MAX_HTLCS:
+        if len(live_offers(known, o_settled)) >= MAX_HTLCS:
             return "TooManyHtlcs"
-        if START[by] + gained(settled, o_known) < amount + spent(known, o_settled):
+        if START[by] + gained_amount(settled, o_known) < amount + spent_amount(known, o_settled):
             return "OverBalance"
         return None
     if u[0] in ("ful", "fail"):
@@ -132,9 +132,9 @@ def update_refusal(by, s, o, u):
 
 
 def share(by, xs, ys):
-    b = START[by] + gained(xs, ys) - spent(xs, ys)
+    b = START[by] + gained_amount(xs, ys) - spent_amount(xs, ys)
     need(b >= 0, "a balance below 0")
-    return (b, live(xs, ys))
+    return (b, live_offers(xs, ys))
 
 
 def view_of(xs, ys):
@@ -159,7 +159,7 @@ def point_at(side, n):
     return ("point", side, n)
 
 
-def first_of(owner):
+def first_commitment(owner):
     return (owner, 0, point_at(owner, 0), view_of([], []))
 
 
@@ -179,14 +179,14 @@ class State:
                      for k, v in ((k, getattr(self, k)) for k in State.__slots__))
 
 
-def opened(side):
+def first_state(side):
     s = State.__new__(State)
     s.side = side
     s.own, s.theirs = stages(), stages()
     s.awaiting, s.number, s.peer_number = False, 0, 0
     s.point, s.next_point = point_at(1 - side, 0), point_at(1 - side, 1)
     s.secrets = []
-    s.mine, s.signed = [first_of(side)], [first_of(1 - side)]
+    s.mine, s.signed = [first_commitment(side)], [first_commitment(1 - side)]
     s.revoked_last = False
     s.fulfilled = ()
     return s
@@ -209,11 +209,11 @@ def sign_refusal(s):
     return None
 
 
-def peers_next(s):
+def next_peer_commitment(s):
     return (1 - s.side, s.peer_number + 1, s.next_point, view_by(s.side, s.own[0], part(s.theirs, PAST_RECEIVER)))
 
 
-def own_next(s):
+def next_own_commitment(s):
     return (s.side, s.number + 1, point_at(s.side, s.number + 1),
             view_by(1 - s.side, s.theirs[0], part(s.own, PAST_RECEIVER)))
 
@@ -231,7 +231,7 @@ def receive_refusal(s, m):
             return "NotYourTurn"
         if covers_nothing(s.theirs, s.own):
             return "NoUpdates"
-        return None if transaction_of(m[1]) == transaction_of(own_next(s)) else "BadSignature"
+        return None if transaction_of(m[1]) == transaction_of(next_own_commitment(s)) else "BadSignature"
     if not s.awaiting:
         return "NotYourTurn"
     if m[1][0] != "secret" or ("point",) + m[1][1:] != s.point:
@@ -239,7 +239,7 @@ def receive_refusal(s, m):
     return None
 
 
-def after_update(u, s):
+def state_after_update(u, s):
     t = s.copy()
     t.own = (s.own[0] + [u],) + s.own[1:]
     if u[0] == "ful":
@@ -247,19 +247,19 @@ def after_update(u, s):
     return t
 
 
-def after_sign(s):
+def state_after_signature(s):
     t = s.copy()
     k, wr, pr, ws, st = s.own
     t.own = (k, len(k), pr, ws, st)
     k, wr, pr, ws, st = s.theirs
     t.theirs = (k, wr, pr, pr, st)
     t.awaiting = True
-    t.signed = s.signed + [peers_next(s)]
+    t.signed = s.signed + [next_peer_commitment(s)]
     t.revoked_last = False
     return t
 
 
-def after(s, m):
+def state_after_message(s, m):
     t = s.copy()
     if m[0] == "updated":
         t.theirs = (s.theirs[0] + [m[1]],) + s.theirs[1:]
@@ -269,7 +269,7 @@ def after(s, m):
         k, wr, pr, ws, st = s.theirs
         t.theirs = (k, len(k), len(k), ws, st)
         t.number = s.number + 1
-        t.mine = s.mine + [own_next(s)]
+        t.mine = s.mine + [next_own_commitment(s)]
         t.revoked_last = True
     else:
         k, wr, pr, ws, st = s.own
@@ -289,19 +289,19 @@ def answers(s, m):
 
 # ---------------------------------------------------------------- what is new: forgetting, hello, resume
 
-def covered(s):
+def covered_stages(s):
     return (s[0][:s[WITH_RECEIVER]],) + s[1:]
 
 
-def forgotten(s):
+def state_after_cut(s):
     t = s.copy()
     if DRAFT["forget_own"] == "signed":
-        t.own = covered(s.own)
+        t.own = covered_stages(s.own)
     elif DRAFT["forget_own"] == "acknowledged":
         k, wr, pr, ws, st = s.own
         t.own = (k[:pr], pr, pr, ws, st)
     if DRAFT["forget_theirs"] == "signed":
-        t.theirs = covered(s.theirs)
+        t.theirs = covered_stages(s.theirs)
     return t
 
 
@@ -309,7 +309,7 @@ def hello(s):
     return ("hello", s.number + 1, s.peer_number, s.secrets[-1] if s.secrets else ZERO)
 
 
-def last_signed(s):
+def last_signed_number(s):
     return s.peer_number + (1 if s.awaiting else 0)
 
 
@@ -328,15 +328,15 @@ def resume_refusal(s, r):
         return None
     if r[2] + 1 < s.number:
         return "PeerBehind"
-    if r[1] < (last_signed(s) if s.awaiting else last_signed(s) + 1):
+    if r[1] < (last_signed_number(s) if s.awaiting else last_signed_number(s) + 1):
         return "PeerBehind"
-    if last_signed(s) + 1 < r[1]:
+    if last_signed_number(s) + 1 < r[1]:
         return "NeverSigned"
     return None
 
 
 def lost_signature(s, r):
-    return s.awaiting and (not DRAFT["ask_peer"] or r[1] == last_signed(s))
+    return s.awaiting and (not DRAFT["ask_peer"] or r[1] == last_signed_number(s))
 
 
 def lost_revocation(s, r):
@@ -364,7 +364,7 @@ class Book:
 
     def __init__(self, side):
         self.side, self.entries = side, [("open",)]
-        self.state, self.kept, self.link, self.preimages = opened(side), set(), "up", []
+        self.state, self.kept, self.link, self.preimages = first_state(side), set(), "up", []
 
     @staticmethod
     def replay(side, entries):
@@ -374,7 +374,7 @@ class Book:
             need(r is None, "a history does not replay: %s %s" % (e[0], r))
         return b
 
-    def missing(self):
+    def missing_number(self):
         for n in range(len(self.state.secrets)):
             if n not in self.kept:
                 return n
@@ -389,24 +389,24 @@ class Book:
             r = own_tests(s, e[1])
             if r:
                 return r, []
-            self.state, out = after_update(e[1], s), [("updated", e[1])]
+            self.state, out = state_after_update(e[1], s), [("updated", e[1])]
             if e[1][0] == "ful":
                 self.preimages = self.preimages + [e[1][2]]
         elif e[0] == "sign":
             if s.awaiting or s.peer_number >= LAST:
                 return "AwaitingRevocation", []
-            if self.missing() is not None:
+            if self.missing_number() is not None:
                 return "PenaltiesMissing", []
             r = sign_refusal(s)
             if r:
                 return r, []
-            self.state, out = after_sign(s), [("signed", peers_next(s))]
+            self.state, out = state_after_signature(s), [("signed", next_peer_commitment(s))]
         elif e[0] == "receive":
             r = receive_refusal(s, e[1])
             if r:
                 return r, []
             out = answers(s, e[1])
-            self.state = after(s, e[1])
+            self.state = state_after_message(s, e[1])
             if e[1][0] == "updated" and e[1][1][0] == "ful":
                 self.preimages = self.preimages + [e[1][1][2]]
         elif e[0] == "keep":
@@ -416,7 +416,7 @@ class Book:
                 return "AlreadyKept", []
             self.kept = self.kept | {e[1]}
         elif e[0] == "cut":
-            self.state = forgotten(s)
+            self.state = state_after_cut(s)
             if self.link != "behind":
                 self.link = "doubt" if e[1] or self.link == "doubt" else "cut"
         elif e[0] == "resume":
@@ -432,11 +432,11 @@ class Book:
             else:
                 self.link, out = "up", resends(s, e[1])
                 if any(m[0] == "signed" for m in out):
-                    need(self.missing() is None, "a signature goes out again while penalties are missing")
+                    need(self.missing_number() is None, "a signature goes out again while penalties are missing")
         self.entries = self.entries + [e]
         return None, out
 
-    def closing(self):
+    def closing_number(self):
         """the number of the own commitment that may be broadcast"""
         return None if self.link in ("behind", "doubt") else self.state.number
 
@@ -484,7 +484,7 @@ class World:
 
     def do(self, side, e):
         n = self.nodes[side]
-        gate = n.book.missing() if e[0] == "sign" else None
+        gate = n.book.missing_number() if e[0] == "sign" else None
         r, out = n.book.call(e)
         if r is None:
             need(e[0] != "sign" or gate is None, "the gate")
@@ -520,7 +520,7 @@ class World:
         if m[0] == "hello":
             r, out = self.do(side, ("resume", m))
             if r is None and n.book.link == "up":
-                self.check_again(side, out)
+                self.check_resends(side, out)
         else:
             r, out = self.do(side, ("receive", m))
         need(r is None, "an honest message is refused: %s %s" % (m[0], r))
@@ -528,7 +528,7 @@ class World:
         if m[0] == "hello":
             self.seen["resume " + "+".join(x[0] for x in out if x[0] != "updated")] += 1
 
-    def check_again(self, side, out):
+    def check_resends(self, side, out):
         """what goes out again went out before (or waited for the disk), in the same relative order"""
         again = [(m[0], m[1][1] if m[0] == "signed" else m[1][2]) for m in out if m[0] != "updated"]
         before = [x for x in self.said[side] if x in again]
@@ -545,7 +545,7 @@ class World:
             expiry = 500 if rng.random() < 0.02 else rng.randrange(10, 60)
             return ("add", len(offers(s.own[0])), amount, rng.randrange(4), expiry)
         if k < 0.9:
-            ids = [h[1] for h in live(part(s.theirs, SETTLED), s.own[0])] or [rng.randrange(5)]
+            ids = [h[1] for h in live_offers(part(s.theirs, SETTLED), s.own[0])] or [rng.randrange(5)]
             i = rng.choice(ids)
             h = [x for x in offers(s.theirs[0]) if x[1] == i]
             x = h[0][3] if h and rng.random() < 0.95 else 9
@@ -566,7 +566,7 @@ class World:
         elif k < 0.66:
             self.deliver(side)
         elif k < 0.76:
-            m = n.book.missing()
+            m = n.book.missing_number()
             if m is not None:
                 r, _ = self.do(side, ("keep", m))
                 need(r is None, "keep refused")
@@ -585,7 +585,7 @@ class World:
 
     # ---- checks
 
-    def on_its_way(self, to):
+    def messages_to(self, to):
         """what is on its way to a side, with what its peer's `resume` will add to it. None: not told yet"""
         peer = self.nodes[1 - to]
         q = [m for m in self.queues[to] if m[0] != "hello"]
@@ -603,14 +603,14 @@ class World:
             for m in q:
                 r = receive_refusal(t, m)
                 need(r is None, "%s: %s would be refused: %s" % (which, m[0], r))
-                t = after(t, m)
+                t = state_after_message(t, m)
             need(t.theirs[0] == s.own[0], which + ": known")
             need(part(t.theirs, 1) == part(s.own, 1), which + ": with_receiver")
             need(part(t.own, 2) == part(s.theirs, 2), which + ": past_receiver")
             need(part(t.theirs, 4) == part(s.own, 4), which + ": settled")
             need(part(t.own, 3) == part(s.theirs, 3), which + ": with_sender")
             need(t.mine == s.signed, which + ": commitments")
-            need(t.number == last_signed(s), which + ": number")
+            need(t.number == last_signed_number(s), which + ": number")
             need(t.peer_number == s.number, which + ": peer_number")
             need(t.point == point_at(s.side, s.number), which + ": point")
             need(t.next_point == point_at(s.side, s.number + 1), which + ": next point")
@@ -619,7 +619,7 @@ class World:
             revs = sum(m[0] == "revoked" for m in (to_a if q is to_b else to_b))
             need(sigs + revs == (1 if s.awaiting else 0), which + ": one")
 
-    def in_step(self, a, b):
+    def check_order(self, a, b):
         """hellos are true now; signatures and revocations on their way stand as the flag says; the stages are in order"""
         for to, s in ((A, b), (B, a)):      # s sends to `to`
             q = self.queues[to]
@@ -629,7 +629,7 @@ class World:
                 need(self.nodes[to].book.link == "cut", "a side that is not cut has a hello on its way")
             else:
                 need(self.nodes[to].book.link == "up", "a side that is cut has no hello on its way")
-            kinds = [m[0] for m in self.on_its_way(to) if m[0] != "updated"]
+            kinds = [m[0] for m in self.messages_to(to) if m[0] != "updated"]
             if "signed" in kinds:
                 need(not s.revoked_last or "revoked" in kinds, "order: a revocation overtook a signature")
                 if "revoked" in kinds:
@@ -648,27 +648,27 @@ class World:
                 need(n < len(s.signed) and s.signed[n] == c, "a signature went out that its side does not know of")
         if not deep:
             return
-        self.agree(a, b, self.on_its_way(A), self.on_its_way(B), "calm")
-        self.in_step(a, b)
-        fa, fb = forgotten(a), forgotten(b)
+        self.agree(a, b, self.messages_to(A), self.messages_to(B), "calm")
+        self.check_order(a, b)
+        fa, fb = state_after_cut(a), state_after_cut(b)
         self.agree(fa, fb, resends(fb, hello(fa)), resends(fa, hello(fb)), "rewound")
         for s, t in ((a, b), (b, a)):
             need(s.awaiting or s.own[1] == s.own[2], "a signature is not acknowledged, and nobody waits")
-            need(not s.awaiting or self.nodes[s.side].book.missing() is None or DRAFT != GOOD,
+            need(not s.awaiting or self.nodes[s.side].book.missing_number() is None or DRAFT != GOOD,
                  "penalties are missing while a signature awaits its revocation")
         # each un-signed update of one's own passes its tests again once the rest is forgotten
         for s in (a, b):
-            t = forgotten(s)
+            t = state_after_cut(s)
             for u in s.own[0][s.own[1]:]:
                 need(own_tests(t, u) is None, "an un-signed update could not be made again")
-                t = after_update(u, t)
+                t = state_after_update(u, t)
 
-    def check_old(self, side, length):
+    def check_old_state(self, side, length):
         """the side is put back to an old beginning of its history; its peer is honest and up to date"""
-        n, peer = self.nodes[side], forgotten(self.nodes[1 - side].book.state)
+        n, peer = self.nodes[side], state_after_cut(self.nodes[1 - side].book.state)
         old = Book.replay(side, n.book.entries[:length])
         old.call(("cut", True))
-        need(old.closing() is None, "a side in doubt may broadcast")
+        need(old.closing_number() is None, "a side in doubt may broadcast")
         revoked = old.state.number < len(peer.secrets)
         r, out = old.call(("resume", hello(peer)))
         p = resume_refusal(peer, hello(old.state))
@@ -676,13 +676,13 @@ class World:
         need((old.link == "behind") == revoked, "Behind is not where the newest commitment is revoked")
         if old.link == "behind":
             need(p == "PeerBehind", "a side is behind, and its peer does not see it")
-            need(old.closing() is None, "a side that is behind may broadcast")
+            need(old.closing_number() is None, "a side that is behind may broadcast")
             need(old.call(("resume", hello(peer)))[0] == "Behind", "a side that was behind goes on")
             need(old.call(("sign",))[0] == "NotConnected", "a side that is behind signs")
             old.call(("cut", False))
-            need(old.closing() is None, "a side that was behind forgot it")
+            need(old.closing_number() is None, "a side that was behind forgot it")
         elif old.link == "up":
-            need(old.closing() == old.state.number and not revoked, "closing")
+            need(old.closing_number() == old.state.number and not revoked, "closing")
             need(p is None, "a side goes on, and its peer refuses it")
             return old
         return None
@@ -698,7 +698,7 @@ def play(seed, length, cuts, old=0.0, deep=True):
             side = rng.randrange(2)
             n = w.nodes[side]
             at = rng.randrange(1, len(n.book.entries) + 1)
-            back = w.check_old(side, at)
+            back = w.check_old_state(side, at)
             if back is not None and rng.random() < 0.5:
                 # it goes on from there: the calls after it are lost, and its peer is cut too
                 keep = len(back.entries) - 2
@@ -813,7 +813,7 @@ def forget(pending, offered, known, removed):
     return [(h, at, None if e is not None and e[0] >= removed else e) for h, at, e in pending], offered - gone
 
 
-def pending(count):
+def check_summaries(count):
     rng = random.Random(5)
     for _ in range(count):
         # honest lists: each side removes HTLCs of the other's settled ones alone, each once
@@ -838,8 +838,8 @@ def pending(count):
         got = forget(kept, len(offers(own)), o, t)
         want = (pending_htlcs(own[:o], theirs[:t], theirs[:t_settled]), len(offers(own[:o])))
         need(got == want, "pending: %r %r" % (got, want))
-        # gained, spent and live_count do not change for what is settled
-        need(gained(own[:o_settled], theirs) == gained(own[:o_settled], theirs[:t]), "gained")
+        # gained_amount, spent_amount and live_count do not change for what is settled
+        need(gained_amount(own[:o_settled], theirs) == gained_amount(own[:o_settled], theirs[:t]), "gained")
     print("%d random pairs of lists: the summary after forgetting is that of what is left" % count)
     return 0
 
@@ -848,5 +848,5 @@ if __name__ == "__main__":
     if sys.argv[1] == "drafts":
         sys.exit(drafts(float(sys.argv[2])))
     if sys.argv[1] == "pending":
-        sys.exit(pending(int(sys.argv[2])))
+        sys.exit(check_summaries(int(sys.argv[2])))
     sys.exit(run(float(sys.argv[1]), int(sys.argv[2]) if len(sys.argv) > 2 else 0))

@@ -161,7 +161,7 @@ class Play(model.World):
             return ("add", len(model.offers(s.own[0])), amount, rng.randrange(4), expiry)
         if k < 0.9:
             settled = model.part(s.theirs, model.SETTLED)
-            ids = [h[1] for h in model.live(settled, s.own[0])] or [rng.randrange(5)]
+            ids = [h[1] for h in model.live_offers(settled, s.own[0])] or [rng.randrange(5)]
             ids = ids + [i for i in s.fulfilled if rng.random() < 0.3]
             i = rng.choice(ids)
             h = [x for x in model.offers(s.theirs[0]) if x[1] == i]
@@ -174,7 +174,7 @@ class Play(model.World):
     def put_back(self, side):
         """asks an older state of the side what it does about its peer's hello, and goes on from the newest"""
         entries = self.nodes[side].book.entries
-        peer = model.forgotten(self.nodes[1 - side].book.state)
+        peer = model.state_after_cut(self.nodes[1 - side].book.state)
         old = self.replay(side, entries[:self.rng.randrange(1, len(entries) + 1)])
         self.call(side, old, ("cut", True))
         h = model.hello(peer)
@@ -226,7 +226,7 @@ class Play(model.World):
         out = [] if r else model.answers(n.book.state, m)
         self.ask(side, words, self.gives(side, r, out))
         if r is None:
-            n.book.state = model.after(n.book.state, m)
+            n.book.state = model.state_after_message(n.book.state, m)
         self.seen["hostile %s: %s" % (m[0], r or "taken")] += 1
 
     def hostile_end(self):
@@ -242,12 +242,12 @@ class Play(model.World):
             elif k < 0.9:
                 before = n.book.state
                 self.note(side, ("cut", False), before, None, [])
-                n.book.state = model.forgotten(before)
+                n.book.state = model.state_after_cut(before)
             else:
                 u, before = self.own_update(side), n.book.state
                 r = model.own_tests(before, u)
                 self.note(side, ("own", u), before, r, [] if r else [("updated", u)])
-                n.book.state = before if r else model.after_update(u, before)
+                n.book.state = before if r else model.state_after_update(u, before)
 
 
 model.LAST = (1 << 48) - 2
@@ -276,7 +276,7 @@ class Compared:
     def __init__(self):
         self.plays = self.answers = self.differ = 0
 
-    def one(self, names, wanted, text):
+    def is_wanted(self, names, wanted, text):
         sort, value = wanted
         if sort == "text":
             return text == value
@@ -300,7 +300,7 @@ class Compared:
         for line, wanted in lines:
             text = next(answers, None)
             self.answers += 1
-            if text is None or not self.one(names, wanted, text.rstrip("\n")):
+            if text is None or not self.is_wanted(names, wanted, text.rstrip("\n")):
                 self.differ += 1
                 if self.differ < 6:
                     print(f"seed {seed}: {line!r} gave {text!r}, wanted {wanted!r}")

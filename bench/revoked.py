@@ -48,7 +48,7 @@ def program_of(script):
     return "0020" + hashlib.sha256(bytes.fromhex(script)).hexdigest()
 
 
-def with_anchors(case):
+def anchor_outputs(case):
     """The outputs of a case's commitment as they are with anchors, in their order (BIP 69)."""
     outputs = []
     for it in case["outputs"]:
@@ -64,7 +64,7 @@ def with_anchors(case):
     return sorted(outputs, key=lambda it: (it["value_sat"], bytes.fromhex(it["script_pubkey"])))
 
 
-def with_outputs(tx, outputs):
+def changed_transaction(tx, outputs):
     """A transaction of one input with other outputs, and its id in the hash's own byte order."""
     up_to_outputs = 2 * (4 + 1 + 41)
     spelt = "".join(it["value_sat"].to_bytes(8, "little").hex() + f"{len(it['script_pubkey']) // 2:02x}" + it["script_pubkey"] for it in outputs)
@@ -119,7 +119,7 @@ class Row:
         return claimed + ["others" + "".join(f" {i}" for i in others)]
 
 
-def with_changes(values, htlcs):
+def commitment_variants(values, htlcs):
     """The commitment as it is, and with one part changed each time."""
     yield values, htlcs
     yield values, list(reversed(htlcs))
@@ -138,7 +138,7 @@ def rows():
     everything = [htlc_of(h["id"]) for h in APPENDIX["htlcs"]]
     for case in APPENDIX["cases"]:
         htlcs = [htlc_of(number) for number in case["htlcs_given"]]
-        for values, known in with_changes(OWN, htlcs):
+        for values, known in commitment_variants(OWN, htlcs):
             yield Row(values, case["unsigned_tx_no_witness"], case["txid_hash_order"], case["outputs"], known)
         yield Row(OWN, case["unsigned_tx_no_witness"], case["txid_hash_order"], case["outputs"], everything)
         script = next((o["witness_script"] for o in case["outputs"] if o["kind"] == "to_local"), None)
@@ -154,10 +154,10 @@ def rows_with_anchors(everything):
     """The commitment with the most outputs, with and without anchors, as of its own type and of the other one, and an HTLC transaction."""
     case = max(APPENDIX["cases"], key=lambda it: len(it["outputs"]))
     htlcs = [htlc_of(number) for number in case["htlcs_given"]]
-    outputs = with_anchors(case)
-    tx, txid = with_outputs(case["unsigned_tx_no_witness"], outputs)
+    outputs = anchor_outputs(case)
+    tx, txid = changed_transaction(case["unsigned_tx_no_witness"], outputs)
     own = dict(OWN, type="anchors")
-    for values, known in with_changes(own, htlcs):
+    for values, known in commitment_variants(own, htlcs):
         yield Row(values, tx, txid, outputs, known, "anchors")
     yield Row(own, tx, txid, outputs, everything, "anchors")
     yield Row(OWN, tx, txid, outputs, htlcs, "anchors")

@@ -8,9 +8,9 @@
 import json
 import sys
 
-from books import hostile, run
-from bounds import bounded
-from worlds import TERMS, built
+from books import hostile_text, run
+from bounds import check_bound
+from worlds import TERMS, built_program
 
 SEEDS = json.dumps(["0a" * 32, "0b" * 32])
 CHANNEL = json.dumps(TERMS, separators=(",", ":"))
@@ -40,13 +40,13 @@ HOSTILE = {
 
 
 def main(words):
-    (program,) = words or (built("enforce"),)
+    (program,) = words or (built_program("enforce"),)
     for name, (before, middle, after, wanted) in HOSTILE.items():
-        printed, took, memory = run(program, hostile(before, middle, after), "run")
+        printed, took, memory = run(program, hostile_text(before, middle, after), "run")
         last = printed.splitlines()[-1]
         print(f"{name}: {last}")
-        bounded(f"a scenario of 4 MiB, {name}", took, 2, unit=" s")
-        bounded(f"a scenario of 4 MiB, {name}, memory", memory, 256, unit=" MiB")
+        check_bound(f"a scenario of 4 MiB, {name}", took, 2, unit=" s")
+        check_bound(f"a scenario of 4 MiB, {name}, memory", memory, 256, unit=" MiB")
         if last != wanted:
             raise SystemExit(f"scenarios: {name} gives {last}, and not {wanted}")
 

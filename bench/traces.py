@@ -21,13 +21,13 @@ NAMES = {
 }
 
 
-def dropped(*counts):
+def dropped_pushes(*counts):
     """Pushes of these lengths, each with its DROP; their bytes are unlike each other."""
     return "".join(bytes([count, *range(count), 0x75]).hex() for count in counts)
 
 
 # scripts of 252, 253, 300 and 520 bytes
-SIZES = [dropped(75, 75, 75, 19), dropped(75, 75, 75, 20), dropped(75, 75, 75, 67), dropped(75, 75, 75, 75, 75, 75, 56)]
+SIZES = [dropped_pushes(75, 75, 75, 19), dropped_pushes(75, 75, 75, 20), dropped_pushes(75, 75, 75, 67), dropped_pushes(75, 75, 75, 75, 75, 75, 56)]
 # the greatest and the least numbers of four and of five bytes, and six bytes, which are no number
 NUMBERS = "".join(f"{len(it) // 2:02x}{it}75" for it in ("ffffff7f", "ffffffff", "ffffffff7f", "ffffffffff", "000080", "00008000", "0000008000", "ffffffffff7f", "000000000001"))
 KEY = "02" + "11" * 32
@@ -92,7 +92,7 @@ NOTES = {
 }
 
 
-def shown():
+def shown_listings():
     """The scripts of the pages, each with its listing: the lines of its paths, or the refusal; and the notes on each."""
     found, noted = {}, {}
     for name in ["README.md", *sorted(glob.glob("docs/*.md"))]:
@@ -215,20 +215,20 @@ def fact_object(line):
     return one
 
 
-def compact(n):
+def compact_length(n):
     return 1 if n < 0xFD else 3 if n < 0x10000 else 5
 
 
 def weight(arity, facts, script, signature):
     """The bytes of the witness: the number of items, the items, and the script."""
-    total = compact(arity + 1) + compact(script) + script
+    total = compact_length(arity + 1) + compact_length(script) + script
     for slot in range(arity):
         sizes = {"is": lambda it: len(it["value"]) // 2, "size": lambda it: it["value"], "key": lambda it: 33, "token": lambda it: signature, "assigned": lambda it: signature}
         mine = [it for it in facts if it["holds"] and slot in it["slots"]]
         exact = [sizes[it["kind"]](it) for it in mine if it["kind"] in sizes]
         usual = max([{"hash": 32, "truth": 1}.get(it["kind"], 0) for it in mine], default=0)
         size = exact[0] if exact else usual
-        total += compact(size) + size
+        total += compact_length(size) + size
     return total
 
 
@@ -349,7 +349,7 @@ def line_of(text, listing, notes):
 
 def main(words):
     os.chdir(TOP)
-    listed, noted = shown()
+    listed, noted = shown_listings()
     noted.update(NOTES)
     rows = {**listed, **{it: REFUSED[it] if it in REFUSED else LISTED[it] for it in MORE if REFUSED.get(it) or LISTED.get(it) is not None}}
     given = "".join(f"{text}\n" for text in rows)

@@ -26,23 +26,23 @@ NO_KEY = b"\x04" + KEYS[0][1:]
 LONG = bytes(range(256)) * 2
 
 
-def dropped(count):
+def dropped_push(count):
     """A push of this number of bytes, which are unlike each other, and a DROP."""
     return bytes([count]) + bytes(range(count)) + b"\x75"
 
 
-def signed(*counts):
+def signed_script(*counts):
     """A script that drops pushes of these lengths and takes a signature by the first key."""
-    return b"".join(map(dropped, counts)) + PUSHES[0] + b"\xac"
+    return b"".join(map(dropped_push, counts)) + PUSHES[0] + b"\xac"
 
 
-def counting(pairs):
+def multi_sig_script(pairs):
     """CHECKMULTISIG of no signature and two keys, after this number of DUPs with their DROPs."""
     return b"\x00\x00" + b"\x76\x75" * pairs + PUSHES[0] + PUSHES[1] + b"\x52\xae"
 
 
 # scripts whose lengths stand on both sides of the second form of a length, and of an item's limit
-SIZES = {252: signed(75, 75, 61), 253: signed(75, 75, 62), 300: signed(75, 75, 75, 32), 520: signed(75, 75, 75, 75, 75, 75, 21)}
+SIZES = {252: signed_script(75, 75, 61), 253: signed_script(75, 75, 62), 300: signed_script(75, 75, 75, 32), 520: signed_script(75, 75, 75, 75, 75, 75, 21)}
 SAYS = {
     "MissingOperand": "the stack has too few entries",
     "FailedCheck Number": "an entry is no number: it is too long, or not minimally encoded",
@@ -69,11 +69,11 @@ SAYS = {
 }
 
 
-def by_script(script):
+def script_program(script):
     return b"\x00\x20" + hashlib.sha256(script).digest()
 
 
-def by_key(key_hash):
+def key_program(key_hash):
     return b"\x00\x14" + key_hash
 
 
@@ -82,7 +82,7 @@ def key_script(key_hash):
     return b"\x76\xa9\x14" + key_hash + b"\x88\xac"
 
 
-def clean(path, counted, height):
+def clean_run(path, counted, height):
     return {"path": path, "counted": counted, "height": height}
 
 
@@ -90,69 +90,69 @@ def stops(cause, opcode, op, byte, *stack):
     return {"stopped": cause, "opcode": opcode, "op": op, "byte": byte, "stack": stack}
 
 
-def refused(fault):
+def refusal(fault):
     return {"refused": fault}
 
 
-def by_itself(script, items, said):
+def script_row(script, items, said):
     """The input of a script that is alone in its program, with the sequence 0."""
-    return 0, by_script(script), script, [*items, script], said
+    return 0, script_program(script), script, [*items, script], said
 
 
 # Of each input: its sequence, the program that it spends, its script code, its witness (a number is the token of the key with this index, a negative one lacks its
 # last byte), and what is said of it. A stack has the top first; in it a number is that token again.
 ROWS = [
-    (144, by_script(TO_LOCAL), TO_LOCAL, [1, b"", TO_LOCAL], clean(1, 6, 2)),
-    (0, by_script(TO_LOCAL), TO_LOCAL, [0, b"\x01", TO_LOCAL], clean(0, 6, 2)),
-    (0, by_script(TO_LOCAL), TO_LOCAL, [1, b"\x01", TO_LOCAL], stops("FalseEnd", 9, None, 77, b"")),
-    (143, by_script(TO_LOCAL), TO_LOCAL, [1, b"", TO_LOCAL], stops("FailedCheck Sequence", 4, "CHECKSEQUENCEVERIFY", 39, b"\x90\x00", 1)),
-    (0, by_script(TO_LOCAL), TO_LOCAL, [-1, b"\x01", TO_LOCAL], stops("FailedCheck TokenForm", 8, "CHECKSIG", 76, KEYS[0], -1)),
-    (0, by_script(TO_LOCAL), TO_LOCAL, [b"\x05", TO_LOCAL + b"\x51"], refused("OtherScript")),
-    (0, by_script(TO_LOCAL), TO_LOCAL, [], refused("NoScript")),
-    (0, by_key(KEY_HASH), key_script(KEY_HASH), [0, KEYS[0]], clean(0, 4, 4)),
-    (0, by_key(b"\x33" * 20), key_script(b"\x33" * 20), [b"", KEYS[0]], stops("FailedCheck Verify", 3, "EQUALVERIFY", 23, b"\x33" * 20, KEY_HASH, KEYS[0], b"")),
-    (0, by_key(KEY_HASH), key_script(KEY_HASH), [KEYS[0]], refused("NotTwoItems")),
-    (0, b"\x51", b"", [], refused("OtherProgram")),
-    (0, by_script(b"\x51\x93"), b"", [b"\x51\x93"], refused("BadOpcode 1")),
-    (0, by_script(BOTH), BOTH, [b"", 0, 1, BOTH], clean(0, 3, 7)),
-    (0, by_script(BOTH), BOTH, [b"", 1, 0, BOTH], stops("FalseEnd", 5, None, 71, b"")),
-    (0, by_script(LATER), LATER, [0, LATER], clean(0, 3, 2)),
-    (FINAL, by_script(LATER), LATER, [0, LATER], stops("FailedCheck LockTime", 1, "CHECKLOCKTIMEVERIFY", 2, b"\x64", 0)),
-    (0, by_script(MANY), MANY, [b"\x01"] * 8 + [MANY], clean(None, 21, 8)),
-    (0, by_script(b"\x63"), b"\x63", [b"\x01", b"\x63"], stops("OpenBranch", 1, None, 1)),
-    (0, by_script(b"\x51"), b"\x51", [b"\x07", b"\x51"], stops("NotOneValue", 1, None, 1, b"\x01", b"\x07")),
-    (0, by_script(b"\x51\x02\xff"), b"", [b"\x51\x02\xff"], refused("Truncated 1")),
-    by_itself(b"\x55\x88", [], stops("MissingOperand", 1, "EQUALVERIFY", 1, b"\x05")),
+    (144, script_program(TO_LOCAL), TO_LOCAL, [1, b"", TO_LOCAL], clean_run(1, 6, 2)),
+    (0, script_program(TO_LOCAL), TO_LOCAL, [0, b"\x01", TO_LOCAL], clean_run(0, 6, 2)),
+    (0, script_program(TO_LOCAL), TO_LOCAL, [1, b"\x01", TO_LOCAL], stops("FalseEnd", 9, None, 77, b"")),
+    (143, script_program(TO_LOCAL), TO_LOCAL, [1, b"", TO_LOCAL], stops("FailedCheck Sequence", 4, "CHECKSEQUENCEVERIFY", 39, b"\x90\x00", 1)),
+    (0, script_program(TO_LOCAL), TO_LOCAL, [-1, b"\x01", TO_LOCAL], stops("FailedCheck TokenForm", 8, "CHECKSIG", 76, KEYS[0], -1)),
+    (0, script_program(TO_LOCAL), TO_LOCAL, [b"\x05", TO_LOCAL + b"\x51"], refusal("OtherScript")),
+    (0, script_program(TO_LOCAL), TO_LOCAL, [], refusal("NoScript")),
+    (0, key_program(KEY_HASH), key_script(KEY_HASH), [0, KEYS[0]], clean_run(0, 4, 4)),
+    (0, key_program(b"\x33" * 20), key_script(b"\x33" * 20), [b"", KEYS[0]], stops("FailedCheck Verify", 3, "EQUALVERIFY", 23, b"\x33" * 20, KEY_HASH, KEYS[0], b"")),
+    (0, key_program(KEY_HASH), key_script(KEY_HASH), [KEYS[0]], refusal("NotTwoItems")),
+    (0, b"\x51", b"", [], refusal("OtherProgram")),
+    (0, script_program(b"\x51\x93"), b"", [b"\x51\x93"], refusal("BadOpcode 1")),
+    (0, script_program(BOTH), BOTH, [b"", 0, 1, BOTH], clean_run(0, 3, 7)),
+    (0, script_program(BOTH), BOTH, [b"", 1, 0, BOTH], stops("FalseEnd", 5, None, 71, b"")),
+    (0, script_program(LATER), LATER, [0, LATER], clean_run(0, 3, 2)),
+    (FINAL, script_program(LATER), LATER, [0, LATER], stops("FailedCheck LockTime", 1, "CHECKLOCKTIMEVERIFY", 2, b"\x64", 0)),
+    (0, script_program(MANY), MANY, [b"\x01"] * 8 + [MANY], clean_run(None, 21, 8)),
+    (0, script_program(b"\x63"), b"\x63", [b"\x01", b"\x63"], stops("OpenBranch", 1, None, 1)),
+    (0, script_program(b"\x51"), b"\x51", [b"\x07", b"\x51"], stops("NotOneValue", 1, None, 1, b"\x01", b"\x07")),
+    (0, script_program(b"\x51\x02\xff"), b"", [b"\x51\x02\xff"], refusal("Truncated 1")),
+    script_row(b"\x55\x88", [], stops("MissingOperand", 1, "EQUALVERIFY", 1, b"\x05")),
     # numbers: not minimally encoded, of five bytes and of six as a lock, of four bytes and of five as a count
-    by_itself(b"\x02\x01\x00\xb1", [], stops("FailedCheck Number", 1, "CHECKLOCKTIMEVERIFY", 3, b"\x01\x00")),
-    by_itself(b"\xb1", [b"\x00\x00\x00\x00\x01"], stops("FailedCheck LockTime", 0, "CHECKLOCKTIMEVERIFY", 0, b"\x00\x00\x00\x00\x01")),
-    by_itself(b"\xb2", [b"\x00\x00\x00\x00\x00\x01"], stops("FailedCheck Number", 0, "CHECKSEQUENCEVERIFY", 0, b"\x00\x00\x00\x00\x00\x01")),
-    by_itself(b"\xae", [b"\x00\x00\x00\x01"], stops("FailedCheck KeyCount", 0, "CHECKMULTISIG", 0, b"\x00\x00\x00\x01")),
-    by_itself(b"\xae", [b"\x00\x00\x00\x00\x01"], stops("FailedCheck Number", 0, "CHECKMULTISIG", 0, b"\x00\x00\x00\x00\x01")),
+    script_row(b"\x02\x01\x00\xb1", [], stops("FailedCheck Number", 1, "CHECKLOCKTIMEVERIFY", 3, b"\x01\x00")),
+    script_row(b"\xb1", [b"\x00\x00\x00\x00\x01"], stops("FailedCheck LockTime", 0, "CHECKLOCKTIMEVERIFY", 0, b"\x00\x00\x00\x00\x01")),
+    script_row(b"\xb2", [b"\x00\x00\x00\x00\x00\x01"], stops("FailedCheck Number", 0, "CHECKSEQUENCEVERIFY", 0, b"\x00\x00\x00\x00\x00\x01")),
+    script_row(b"\xae", [b"\x00\x00\x00\x01"], stops("FailedCheck KeyCount", 0, "CHECKMULTISIG", 0, b"\x00\x00\x00\x01")),
+    script_row(b"\xae", [b"\x00\x00\x00\x00\x01"], stops("FailedCheck Number", 0, "CHECKMULTISIG", 0, b"\x00\x00\x00\x00\x01")),
     # 21 keys, a negative number of them, two signatures for one key
-    by_itself(b"\x01\x15\xae", [], stops("FailedCheck KeyCount", 1, "CHECKMULTISIG", 2, b"\x15")),
-    by_itself(b"\x01\x81\xae", [], stops("FailedCheck KeyCount", 1, "CHECKMULTISIG", 2, b"\x81")),
-    by_itself(b"\x52" + PUSHES[0] + b"\x51\xae", [], stops("FailedCheck SigCount", 3, "CHECKMULTISIG", 36, b"\x01", KEYS[0], b"\x02")),
-    by_itself(b"\x21" + NO_KEY + b"\xac", [0], stops("FailedCheck KeyForm", 1, "CHECKSIG", 34, NO_KEY, 0)),
-    (0, by_script(BOTH), BOTH, [b"\x01", 0, 1, BOTH], stops("FailedCheck Extra", 4, "CHECKMULTISIG", 70, b"\x02", KEYS[1], KEYS[0], b"\x02", 1, 0, b"\x01")),
+    script_row(b"\x01\x15\xae", [], stops("FailedCheck KeyCount", 1, "CHECKMULTISIG", 2, b"\x15")),
+    script_row(b"\x01\x81\xae", [], stops("FailedCheck KeyCount", 1, "CHECKMULTISIG", 2, b"\x81")),
+    script_row(b"\x52" + PUSHES[0] + b"\x51\xae", [], stops("FailedCheck SigCount", 3, "CHECKMULTISIG", 36, b"\x01", KEYS[0], b"\x02")),
+    script_row(b"\x21" + NO_KEY + b"\xac", [0], stops("FailedCheck KeyForm", 1, "CHECKSIG", 34, NO_KEY, 0)),
+    (0, script_program(BOTH), BOTH, [b"\x01", 0, 1, BOTH], stops("FailedCheck Extra", 4, "CHECKMULTISIG", 70, b"\x02", KEYS[1], KEYS[0], b"\x02", 1, 0, b"\x01")),
     # the 202nd opcode that counts, and the keys of a CHECKMULTISIG, with which 201 and 203 count
-    by_itself(b"\x76\x75" * 101, [b"\x09"], stops("TooManyOps", 201, "DROP", 201, b"\x09", b"\x09")),
-    by_itself(counting(99), [], clean(0, 201, 5)),
-    by_itself(counting(100), [], stops("TooManyOps", 205, "CHECKMULTISIG", 271, b"\x02", KEYS[1], KEYS[0], b"", b"")),
-    by_itself(b"\x51" * 1001, [], stops("StackTooTall", 1000, "PUSH", 1000, *[b"\x01"] * 1000)),
+    script_row(b"\x76\x75" * 101, [b"\x09"], stops("TooManyOps", 201, "DROP", 201, b"\x09", b"\x09")),
+    script_row(multi_sig_script(99), [], clean_run(0, 201, 5)),
+    script_row(multi_sig_script(100), [], stops("TooManyOps", 205, "CHECKMULTISIG", 271, b"\x02", KEYS[1], KEYS[0], b"", b"")),
+    script_row(b"\x51" * 1001, [], stops("StackTooTall", 1000, "PUSH", 1000, *[b"\x01"] * 1000)),
     # items of 520 and of 521 bytes
-    by_itself(b"\x75\x51", [LONG + b"\x00" * 8], clean(0, 1, 1)),
-    by_itself(b"\x75\x51", [LONG + b"\x00" * 9], stops("ItemTooLong", 0, "DROP", 0, LONG + b"\x00" * 9)),
-    *(by_itself(script, [0], clean(0, script.count(b"\x75") + 1, 2)) for script in SIZES.values()),
+    script_row(b"\x75\x51", [LONG + b"\x00" * 8], clean_run(0, 1, 1)),
+    script_row(b"\x75\x51", [LONG + b"\x00" * 9], stops("ItemTooLong", 0, "DROP", 0, LONG + b"\x00" * 9)),
+    *(script_row(script, [0], clean_run(0, script.count(b"\x75") + 1, 2)) for script in SIZES.values()),
 ]
 # those of another transaction: a clean run on a path without items and one on none, a stop with a stack, and a refusal
 FEW = [
-    (0, by_script(b"\x51"), b"\x51", [b"\x51"], clean(0, 0, 1)),
+    (0, script_program(b"\x51"), b"\x51", [b"\x51"], clean_run(0, 0, 1)),
     ROWS[16],
     ROWS[18],
     ROWS[10],
 ]
-OUTPUTS = [(1000, by_key(b"\x07" * 20))]
+OUTPUTS = [(1000, key_program(b"\x07" * 20))]
 
 
 def value(index):
@@ -164,7 +164,7 @@ def sha256d(message):
     return hashlib.sha256(hashlib.sha256(message).digest()).digest()
 
 
-def compact(n):
+def compact_size(n):
     return bytes([n]) if n < 0xFD else b"\xfd" + struct.pack("<H", n)
 
 
@@ -173,14 +173,14 @@ def outpoint(index):
 
 
 def output(amount, program):
-    return struct.pack("<Q", amount) + compact(len(program)) + program
+    return struct.pack("<Q", amount) + compact_size(len(program)) + program
 
 
 def digest(rows, index):
     """The digest for an input (BIP 143, hash type ALL)."""
     sequence, _, code, _, _ = rows[index]
     signed = struct.pack("<I", VERSION) + sha256d(b"".join(outpoint(it) for it in range(len(rows)))) + sha256d(b"".join(struct.pack("<I", it[0]) for it in rows))
-    signed += outpoint(index) + compact(len(code)) + code + struct.pack("<Q", value(index)) + struct.pack("<I", sequence)
+    signed += outpoint(index) + compact_size(len(code)) + code + struct.pack("<Q", value(index)) + struct.pack("<I", sequence)
     signed += sha256d(b"".join(output(*it) for it in OUTPUTS)) + struct.pack("<I", LOCK_TIME) + struct.pack("<I", 1)
     return sha256d(signed)
 
@@ -194,14 +194,14 @@ def bytes_of(item, rows, index):
     return KEYS[item] + digest(rows, index) + b"\x01"
 
 
-def given(rows):
+def given_text(rows):
     """The text that is read."""
-    tx = struct.pack("<I", VERSION) + b"\x00\x01" + compact(len(rows))
+    tx = struct.pack("<I", VERSION) + b"\x00\x01" + compact_size(len(rows))
     tx += b"".join(outpoint(index) + b"\x00" + struct.pack("<I", row[0]) for index, row in enumerate(rows))
-    tx += compact(len(OUTPUTS)) + b"".join(output(*it) for it in OUTPUTS)
+    tx += compact_size(len(OUTPUTS)) + b"".join(output(*it) for it in OUTPUTS)
     for index, row in enumerate(rows):
         items = [bytes_of(item, rows, index) for item in row[3]]
-        tx += compact(len(items)) + b"".join(compact(len(item)) + item for item in items)
+        tx += compact_size(len(items)) + b"".join(compact_size(len(item)) + item for item in items)
     lines = [(tx + struct.pack("<I", LOCK_TIME)).hex()] + [f"{value(index)} {row[1].hex()}" for index, row in enumerate(rows)]
     return "".join(f"{line}\n" for line in lines)
 
@@ -239,19 +239,19 @@ def pages(rows):
     return "".join(page_of(rows, index) for index in range(len(rows)))
 
 
-def told(rows, *words):
+def is_told(rows, *words):
     """Whether the program says this of the inputs, and returns that one of them does not run clean."""
-    ran = subprocess.run(["./trace", "witness", *words], input=given(rows), capture_output=True, encoding="utf-8")
+    ran = subprocess.run(["./trace", "witness", *words], input=given_text(rows), capture_output=True, encoding="utf-8")
     return (ran.stdout, ran.returncode) == ((pages if words else jsons)(rows), 1)
 
 
 def main(words):
     os.chdir(TOP)
-    for word, make in (("--given", given), ("--json", jsons), ("--pages", pages)):
+    for word, make in (("--given", given_text), ("--json", jsons), ("--pages", pages)):
         if word in words:
             sys.stdout.write(make(ROWS))
             return 0
-    differ = sum(not told(rows, *form) for rows in (ROWS, FEW) for form in ((), ("--text",)))
+    differ = sum(not is_told(rows, *form) for rows in (ROWS, FEW) for form in ((), ("--text",)))
     print(f"witnesses: {len(ROWS)} inputs of a transaction and {len(FEW)} of another, each told twice: {differ} differ")
     return int(differ > 0)
 

@@ -38,12 +38,12 @@ def hash160(data):
     return ripemd160(sha256(data))
 
 
-def little(number, size):
+def number_bytes(number, size):
     return number.to_bytes(size, "little")
 
 
-def sized(data):
-    return (bytes([len(data)]) if len(data) < 0xFD else b"\xfd" + little(len(data), 2)) + data
+def sized_data(data):
+    return (bytes([len(data)]) if len(data) < 0xFD else b"\xfd" + number_bytes(len(data), 2)) + data
 
 
 def push(data):
@@ -55,18 +55,18 @@ def number(n):
     if n <= 16:
         return bytes([0x50 + n]) if n else b"\0"
     size = (n.bit_length() + 8) // 8
-    return push(little(n, size))
+    return push(number_bytes(n, size))
 
 
 def key(byte):
     return b"\x02" + bytes([byte]) * 32
 
 
-def filled(byte):
+def filled_bytes(byte):
     return bytes([byte]) * 32
 
 
-def derived(word, base, point):
+def derived_key(word, base, point):
     return b"\x02" + sha256(word + base + point)
 
 
@@ -81,24 +81,24 @@ class Tx:
         self.outpoint, self.sequence, self.outputs, self.lock_time, self.witness = outpoint, sequence, outputs, lock_time, list(witness)
 
     def points(self):
-        return self.outpoint[0] + little(self.outpoint[1], 4)
+        return self.outpoint[0] + number_bytes(self.outpoint[1], 4)
 
     def ages(self):
-        return little(self.sequence, 4)
+        return number_bytes(self.sequence, 4)
 
     def payments(self):
-        return b"".join(little(value, 8) + sized(program) for value, program in self.outputs)
+        return b"".join(number_bytes(value, 8) + sized_data(program) for value, program in self.outputs)
 
-    def stripped(self):
-        return little(2, 4) + b"\x01" + self.points() + b"\0" + self.ages() + bytes([len(self.outputs)]) + self.payments() + little(self.lock_time, 4)
+    def stripped_bytes(self):
+        return number_bytes(2, 4) + b"\x01" + self.points() + b"\0" + self.ages() + bytes([len(self.outputs)]) + self.payments() + number_bytes(self.lock_time, 4)
 
     def id(self):
-        return sha256d(self.stripped())
+        return sha256d(self.stripped_bytes())
 
     def signed_list(self, code, value):
         """BIP 143."""
-        begin = little(2, 4) + sha256d(self.points()) + sha256d(self.ages()) + self.points() + sized(code) + little(value, 8) + self.ages()
-        return begin + sha256d(self.payments()) + little(self.lock_time, 4) + little(1, 4)
+        begin = number_bytes(2, 4) + sha256d(self.points()) + sha256d(self.ages()) + self.points() + sized_data(code) + number_bytes(value, 8) + self.ages()
+        return begin + sha256d(self.payments()) + number_bytes(self.lock_time, 4) + number_bytes(1, 4)
 
 
 def seed_secret(seed, number):
@@ -117,7 +117,7 @@ def secret_at(seed, n):
 
 class Channel:
     def __init__(self, grant, mine, theirs, delays=DELAYS, limits=LIMITS, their_bases=None):
-        self.grant, self.delays, self.limits = sha256d(b"grant" + little(grant, 8)), delays, limits
+        self.grant, self.delays, self.limits = sha256d(b"grant" + number_bytes(grant, 8)), delays, limits
         self.bases = {side: {name: key(first + at) for at, name in enumerate(BASES)} for side, first in (("A", mine), ("B", theirs))}
         self.bases["B"].update(their_bases or {})
         keys = sorted(self.bases[side]["funding"] for side in "AB")
@@ -125,11 +125,11 @@ class Channel:
         self.mask = int.from_bytes(sha256(self.bases["A"]["payment"] + self.bases["B"]["payment"])[26:], "big")
 
 
-def to_local(keys, delay):
+def to_local_script(keys, delay):
     return b"\x63" + push(keys["revocation"]) + b"\x67" + number(delay) + b"\xb2\x75" + push(keys["delayed"]) + b"\x68\xac"
 
 
-def to_key(public):
+def to_key_script(public):
     return b"\x76\xa9" + push(hash160(public)) + b"\x88\xac"
 
 
@@ -139,7 +139,7 @@ def script_program(script):
 
 def htlc_script(keys, is_offered, htlc):
     begin = b"\x76\xa9" + push(hash160(keys["revocation"])) + b"\x87\x63\xac\x67" + push(keys["remote_htlc"]) + b"\x7c\x82" + number(32) + b"\x87"
-    payment = push(ripemd160(sha256(filled(htlc.byte))))
+    payment = push(ripemd160(sha256(filled_bytes(htlc.byte))))
     if is_offered:
         return begin + b"\x64\x75\x52\x7c" + push(keys["local_htlc"]) + b"\x52\xae\x67\xa9" + payment + b"\x88\xac\x68\x68"
     return begin + b"\x63\xa9" + payment + b"\x88\x52\x7c" + push(keys["local_htlc"]) + b"\x52\xae\x67\x75" + number(htlc.expiry) + b"\xb1\x75\xac\x68\x68"
@@ -152,13 +152,13 @@ class Commitment:
         self.channel, self.owner, self.at, peer = channel, owner, at, channel.bases[OTHER[owner]]
         me = channel.bases[owner]
         self.keys = {
-            "revocation": derived(b"revoke", peer["revocation"], at),
-            "delayed": derived(b"derive", me["delayed"], at),
-            "local_htlc": derived(b"derive", me["htlc"], at),
-            "remote_htlc": derived(b"derive", peer["htlc"], at),
+            "revocation": derived_key(b"revoke", peer["revocation"], at),
+            "delayed": derived_key(b"derive", me["delayed"], at),
+            "local_htlc": derived_key(b"derive", me["htlc"], at),
+            "remote_htlc": derived_key(b"derive", peer["htlc"], at),
             "remote": peer["payment"],
         }
-        self.delayed = to_local(self.keys, channel.delays[owner])
+        self.delayed = to_local_script(self.keys, channel.delays[owner])
         self.outputs = self.sorted_outputs(balances, offered)
         hidden = n ^ channel.mask
         self.lock_time, self.sequence = 0x20000000 + hidden % 2**24, 0x80000000 + hidden // 2**24 % 2**24
@@ -175,7 +175,7 @@ class Commitment:
         fee = (724 + 172 * len(outputs)) * RATE // 1000
         left = {side: balances[side] - (fee if side == "A" else 0) for side in "AB"}
         remote = self.keys["remote"]
-        paid = [Output(left[owner], self.delayed, script_program(self.delayed), "ToLocal", None), Output(left[OTHER[owner]], to_key(remote), b"\0\x14" + hash160(remote), "ToRemote", None)]
+        paid = [Output(left[owner], self.delayed, script_program(self.delayed), "ToLocal", None), Output(left[OTHER[owner]], to_key_script(remote), b"\0\x14" + hash160(remote), "ToRemote", None)]
         return sorted(outputs + [it for it in paid if it.value >= limit], key=lambda it: (it.value, it.program))
 
     def stage(self, at, output):
@@ -184,18 +184,18 @@ class Commitment:
         value = output.value - (663 if is_offered else 703) * RATE // 1000
         return Tx((self.tx.id(), at), 0, [(value, script_program(self.delayed))], output.htlc.expiry if is_offered else 0)
 
-    def signed(self):
+    def signed_transaction(self):
         return Signed(self.tx, self.channel.script, CAPACITY)
 
-    def stage_signed(self, at):
+    def signed_stage(self, at):
         return Signed(self.stages[at], self.outputs[at].script, self.outputs[at].value)
 
     def strings(self):
         """All that is hashed for the commitment."""
         peer = self.channel.bases[OTHER[self.owner]]
-        found = [self.tx.stripped(), self.delayed, self.keys["remote"], b"revoke" + peer["revocation"] + self.at, b"derive" + peer["htlc"] + self.at]
+        found = [self.tx.stripped_bytes(), self.delayed, self.keys["remote"], b"revoke" + peer["revocation"] + self.at, b"derive" + peer["htlc"] + self.at]
         for at, tx in self.stages.items():
-            found += [tx.stripped(), self.outputs[at].script]
+            found += [tx.stripped_bytes(), self.outputs[at].script]
         return found
 
     def locks(self):
@@ -209,10 +209,10 @@ CHANNELS = {"first": Channel(0, 0x10, 0x20), "second": Channel(1, 0x30, 0x40)}
 SEVENS, EIGHTS, NINES = Htlc(10000, 7, 3), Htlc(12000, 8, 3), Htlc(12000, 9, 3)
 EVEN = {"A": 80000, "B": 20000}
 COMMITMENTS = {
-    "first_opened": Commitment(CHANNELS["first"], "B", 0, point(filled(0x50)), EVEN, {}),
+    "first_opened": Commitment(CHANNELS["first"], "B", 0, point(filled_bytes(0x50)), EVEN, {}),
     "first_newest": Commitment(CHANNELS["first"], "B", 1, key(0x55), {"A": 60000, "B": 18000}, {"A": [SEVENS], "B": [EIGHTS]}),
     "first_own": Commitment(CHANNELS["first"], "A", 0, key(0x66), EVEN, {}),
-    "second_opened": Commitment(CHANNELS["second"], "B", 0, point(filled(0x51)), {"A": 80000, "B": 8000}, {"B": [NINES]}),
+    "second_opened": Commitment(CHANNELS["second"], "B", 0, point(filled_bytes(0x51)), {"A": 80000, "B": 8000}, {"B": [NINES]}),
     "second_newest": Commitment(CHANNELS["second"], "B", 1, key(0x57), EVEN, {}),
     "second_own": Commitment(CHANNELS["second"], "A", 0, key(0x67), EVEN, {}),
 }
@@ -242,9 +242,9 @@ class Node:
         return found
 
     def payments(self):
-        return [sha256(filled(it.htlc.byte)) for name in self.channels for each in self.peers[name] for it in COMMITMENTS[each].outputs if it.htlc]
+        return [sha256(filled_bytes(it.htlc.byte)) for name in self.channels for each in self.peers[name] for it in COMMITMENTS[each].outputs if it.htlc]
 
-    def newest_own(self):
+    def newest_commitments(self):
         return [COMMITMENTS[self.own[name][self.newest[name]]] for name in self.channels]
 
     def tables(self):
@@ -255,17 +255,17 @@ class Node:
 
     def own_tables(self):
         """The keys of the own commitments, the payment hashes, and what is hashed for the newest own commitments besides."""
-        derived_for = [b"derive" + it.channel.bases[side]["htlc"] + it.at for it in self.newest_own() for side in "AB"]
-        payments = [sha256(filled(each.htlc.byte)) for it in self.newest_own() for each in it.outputs if each.htlc]
+        derived_for = [b"derive" + it.channel.bases[side]["htlc"] + it.at for it in self.newest_commitments() for side in "AB"]
+        payments = [sha256(filled_bytes(each.htlc.byte)) for it in self.newest_commitments() for each in it.outputs if each.htlc]
         newer = [COMMITMENTS[each].keys[word] for name in self.channels for each in self.own[name] for word in ("delayed", "local_htlc")]
         found = {"new_keys_begin": begins(hash160, newer), "hashes_begin": begins(ripemd160, self.payments())}
-        return {**found, "htlc_keys_begin": begins(sha256, derived_for), "revocations_begin": begins(hash160, [it.keys["revocation"] for it in self.newest_own()]), "own_hashes_begin": begins(ripemd160, payments)}
+        return {**found, "htlc_keys_begin": begins(sha256, derived_for), "revocations_begin": begins(hash160, [it.keys["revocation"] for it in self.newest_commitments()]), "own_hashes_begin": begins(ripemd160, payments)}
 
 
 NODE = Node(CHANNELS, {"first": ["first_opened", "first_newest"], "second": ["second_opened", "second_newest"]}, {"first": ["first_own"], "second": ["second_own"]}, {"first": 0, "second": 0})
 
 # two channels of one seed: the node closed the first with its commitment 0, and revoked that of the second
-SEED, THEIR_SEED = filled(1), filled(2)
+SEED, THEIR_SEED = filled_bytes(1), filled_bytes(2)
 SEEDED = Channel(0, 0x10, 0x20, {"A": 2, "B": 2}, {"A": 546, "B": 1500}, {"revocation": point(seed_secret(THEIR_SEED, 4))})
 POINTS = [point(secret_at(SEED, n)) for n in (0, 1)]
 BACK, PAID, RECEIVED, TRIMMED = Htlc(2000, 7, 3), Htlc(3000, 10, 3), Htlc(12000, 8, 3), Htlc(600, 11, 3)
@@ -281,7 +281,7 @@ def begins(hashed, strings):
     return [int.from_bytes(hashed(it)[:4], "big") for it in strings]
 
 
-def recorded(channels, names):
+def recorded_values(channels, names):
     found = {}
     for name, it in channels.items():
         found.update({f"{name}_grant": it.grant, f"{name}_funding": it.script, f"{name}_funding_program": script_program(it.script)})
@@ -294,18 +294,18 @@ def recorded(channels, names):
         if it.stages:
             found[f"{name}_revocation_hash"] = hash160(it.keys["revocation"])
         for at, tx in it.stages.items():
-            signed, output = it.stage_signed(at), it.outputs[at]
+            signed, output = it.signed_stage(at), it.outputs[at]
             found.update({f"{name}_stage_{at}_id": tx.id(), f"{name}_stage_{at}_digest": sha256d(tx.signed_list(signed.code, signed.value))})
-            found.update({f"{name}_htlc_{at}": output.script, f"{name}_htlc_{at}_program": output.program, f"{name}_payment_{at}": ripemd160(sha256(filled(output.htlc.byte)))})
+            found.update({f"{name}_htlc_{at}": output.script, f"{name}_htlc_{at}_program": output.program, f"{name}_payment_{at}": ripemd160(sha256(filled_bytes(output.htlc.byte)))})
     return found
 
 
-def seeded():
+def seeded_values():
     """The points of the node's seed, the peer's base key, and what they make."""
     found = {"peer_base": SEEDED.bases["B"]["revocation"]}
     for n, at in enumerate(POINTS):
         found.update({f"secret_{n}": secret_at(SEED, n), f"point_{n}": at})
-    return {**found, **recorded({}, ["seeded_own", "sibling_old", "sibling_own"])}
+    return {**found, **recorded_values({}, ["seeded_own", "sibling_old", "sibling_own"])}
 
 
 # ---- chains
@@ -317,7 +317,7 @@ class Chain:
     def __init__(self, node=NODE):
         self.node, self.blocks, self.own, self.given = node, [[]], {}, {name: [] for name in node.channels}
 
-    def then(self):
+    def add_block(self):
         self.blocks.append([])
 
     def add(self, tx, code, value, witness):
@@ -332,7 +332,7 @@ class Chain:
 
     def stage(self, name, at, item):
         it = COMMITMENTS[name]
-        signed = it.stage_signed(at)
+        signed = it.signed_stage(at)
         self.add(signed.tx, signed.code, signed.value, [b"", (it.keys["remote_htlc"],), (it.keys["local_htlc"],), item, signed.code])
 
     def take(self, name, outpoint, outputs, witness, released=None, sequence=0, lock_time=0, spent=None):
@@ -349,15 +349,15 @@ class Chain:
         found = []
         for name in self.node.channels:
             for it in map(COMMITMENTS.get, self.node.peers[name]):
-                found += [it.signed(), *map(it.stage_signed, it.stages)]
+                found += [it.signed_transaction(), *map(it.signed_stage, it.stages)]
             found += self.given[name]
         return found
 
-    def named(self):
+    def named_transactions(self):
         return [Signed(tx, *self.node.locks[tx.outpoint]) for block in reversed(self.blocks) for tx in reversed(block) if tx.outpoint in self.node.locks]
 
     def tables(self):
-        named = self.named()
+        named = self.named_transactions()
         items = [item for it in named for item in it.tx.witness]
         found = {**self.own, "items_hashed": [byte for it in items for byte in sha256(it)], "items_once": begins(sha256, items), "items_short": begins(hash160, items), "codes_once": begins(sha256, [it.code for it in named])}
         lists = {"lists": lambda it: it.tx.signed_list(it.code, it.value), "points": lambda it: it.tx.points(), "ages": lambda it: it.tx.ages(), "payments": lambda it: it.tx.payments()}
@@ -371,21 +371,21 @@ NEWEST, REVOKED = COMMITMENTS["first_newest"], COMMITMENTS["second_opened"]
 TO_REMOTE, TO_LOCAL = (NEWEST.tx.id(), 3), (REVOKED.tx.id(), 0)
 
 
-def closed():
+def peer_close():
     it = Chain()
     it.close("first_newest")
     it.close("second_opened")
-    it.then()
+    it.add_block()
     swept = it.take("swept", TO_REMOTE, [(58000, HOME)], [(key(0x11),), key(0x11)], "first")
-    it.stage("first_newest", 0, filled(7))
+    it.stage("first_newest", 0, filled_bytes(7))
     it.take("punished", TO_LOCAL, [(7000, HOME)], [(REVOKED.keys["revocation"],), b"\x01", REVOKED.delayed], "second")
-    it.then()
-    it.take("spent_on", (swept.id(), 0), [(57000, b"")], [(key(0x11),), key(0x11)], spent=(to_key(key(0x11)), 58000))
-    it.then()
+    it.add_block()
+    it.take("spent_on", (swept.id(), 0), [(57000, b"")], [(key(0x11),), key(0x11)], spent=(to_key_script(key(0x11)), 58000))
+    it.add_block()
     it.stage("first_newest", 1, b"")
     it.stage("second_opened", 1, b"")
-    it.then()
-    it.then()
+    it.add_block()
+    it.add_block()
     it.take("slept", (REVOKED.stages[1].id(), 0), [(1000, b"")], [(REVOKED.keys["delayed"],), b"", REVOKED.delayed], sequence=2)
     return it.tables()
 
@@ -394,13 +394,13 @@ def own_close():
     it, remote, ids = Chain(), NEWEST.keys["remote_htlc"], NEWEST.tx.id()
     it.close("first_newest")
     it.close("second_own")
-    it.then()
-    claimed = it.take("claimed", (ids, 1), [(11000, HOME)], [(remote,), filled(8), NEWEST.outputs[1].script])
-    it.then()
-    it.then()
+    it.add_block()
+    claimed = it.take("claimed", (ids, 1), [(11000, HOME)], [(remote,), filled_bytes(8), NEWEST.outputs[1].script])
+    it.add_block()
+    it.add_block()
     returned = it.take("returned", (ids, 0), [(9000, HOME)], [(remote,), b"", NEWEST.outputs[0].script], lock_time=3)
     it.given["first"] = [Signed(returned, *NODE.locks[ids, 0]), Signed(claimed, *NODE.locks[ids, 1])]
-    it.given["second"] = [COMMITMENTS["second_own"].signed()]
+    it.given["second"] = [COMMITMENTS["second_own"].signed_transaction()]
     return it.tables()
 
 
@@ -408,11 +408,11 @@ def thefts():
     it, revocation = Chain(), NEWEST.keys["revocation"]
     it.close("first_newest")
     it.close("second_opened")
-    it.then()
+    it.add_block()
     it.take("takes_remote", TO_REMOTE, [(1000, b"")], [(key(0x11),), key(0x11)])
     it.take("takes_offered", (NEWEST.tx.id(), 0), [(1000, b"")], [(revocation,), revocation, NEWEST.outputs[0].script])
     it.take("takes_local", TO_LOCAL, [(1000, b"")], [(REVOKED.keys["revocation"],), b"\x01", REVOKED.delayed])
-    it.then()
+    it.add_block()
     it.take("takes_received", (NEWEST.tx.id(), 1), [(1000, b"")], [(revocation,), revocation, NEWEST.outputs[1].script])
     return it.tables()
 
@@ -423,32 +423,32 @@ OWN = COMMITMENTS["seeded_own"]
 def one_seed():
     it, revocation = Chain(ONE_SEED), OWN.keys["revocation"]
     it.close("seeded_own")
-    it.then()
+    it.add_block()
     it.take("takes_local", (OWN.tx.id(), 4), [(1000, b"")], [(revocation,), b"\x01", OWN.delayed])
     it.take("takes_back", (OWN.tx.id(), 0), [(1000, b"")], [(revocation,), revocation, OWN.outputs[0].script])
-    it.then()
+    it.add_block()
     it.take("takes_received", (OWN.tx.id(), 2), [(1000, b"")], [(revocation,), revocation, OWN.outputs[2].script])
-    it.given["seeded"] = [OWN.signed()]
+    it.given["seeded"] = [OWN.signed_transaction()]
     return it.tables()
 
 
 def own_stages():
     it, delayed, success = Chain(ONE_SEED), OWN.keys["delayed"], OWN.stages[2]
     it.close("seeded_own")
-    it.then()
-    it.stage("seeded_own", 2, filled(8))
-    it.take("pays", (OWN.tx.id(), 1), [(1000, b"")], [(OWN.keys["remote_htlc"],), filled(10), OWN.outputs[1].script])
-    it.then()
+    it.add_block()
+    it.stage("seeded_own", 2, filled_bytes(8))
+    it.take("pays", (OWN.tx.id(), 1), [(1000, b"")], [(OWN.keys["remote_htlc"],), filled_bytes(10), OWN.outputs[1].script])
+    it.add_block()
     local = it.take("claims_local", (OWN.tx.id(), 4), [(58000, HOME)], [(delayed,), b"", OWN.delayed], sequence=2)
-    it.then()
+    it.add_block()
     it.stage("seeded_own", 0, b"")
     second = it.take("claims_second", (success.id(), 0), [(11000, HOME)], [(delayed,), b"", OWN.delayed], sequence=2)
     released = (success, OWN.stages[0], local, second)
-    it.given["seeded"] = [*(Signed(tx, *ONE_SEED.locks[tx.outpoint]) for tx in released), OWN.signed()]
+    it.given["seeded"] = [*(Signed(tx, *ONE_SEED.locks[tx.outpoint]) for tx in released), OWN.signed_transaction()]
     return it.tables()
 
 
-def written(file):
+def file_tables(file):
     """The tables that stand in a file, by their names."""
     with open(f"{PROOFS}/{file}.antt", encoding="utf-8") as it:
         text = it.read()
@@ -463,8 +463,11 @@ def written(file):
 def main():
     count = wrong = 0
     first = ["first_opened", "first_newest", "first_own", "second_opened", "second_newest", "second_own"]
-    for file, made in (("Recorded", recorded(CHANNELS, first)), ("Tables", NODE.tables()), ("ClosedExamples", closed()), ("OwnCloseExamples", own_close()), ("TokenTheftExamples", thefts()), ("SeededRecorded", seeded()), ("SeededTables", ONE_SEED.own_tables()), ("OneSeedExamples", one_seed()), ("OwnStageExamples", own_stages())):
-        stand = written(file)
+    for file, made in (
+        ("Recorded", recorded_values(CHANNELS, first)), ("Tables", NODE.tables()), ("ClosedExamples", peer_close()), ("OwnCloseExamples", own_close()), ("TokenTheftExamples", thefts()),
+        ("SeededRecorded", seeded_values()), ("SeededTables", ONE_SEED.own_tables()), ("OneSeedExamples", one_seed()), ("OwnStageExamples", own_stages()),
+    ):
+        stand = file_tables(file)
         for name in sorted({*made, *stand}):
             count += 1
             if list(made.get(name, ())) != stand.get(name):

@@ -14,7 +14,7 @@ import subprocess
 import sys
 import tempfile
 
-from bounds import bounded
+from bounds import check_bound
 
 TOP = os.path.dirname(os.path.dirname(os.path.abspath(__file__)))
 CHANNELS = 8
@@ -41,15 +41,15 @@ def payment(payer, channel, number):
     identity = number // 2
     return [
         ["offer", payer, channel, 10_000_000 + number, hashlib.sha256(preimage).hexdigest(), 400_000],
-        *signed(payer, payee, channel),
+        *round_events(payer, payee, channel),
         *[["keep", side, channel, first] for side in (payer, payee)],
         ["fulfil", payee, channel, identity, preimage.hex()],
-        *signed(payee, payer, channel),
+        *round_events(payee, payer, channel),
         *[["keep", side, channel, second] for side in (payer, payee)],
     ]
 
 
-def signed(updater, other, channel):
+def round_events(updater, other, channel):
     """An update is delivered, and both sides sign and revoke."""
     return [
         ["deliver", other, channel],
@@ -88,7 +88,7 @@ def scenario(length):
     return {"seeds": ["0a" * 32, "0b" * 32], "channels": CHANNELS * [TERMS], "events": events}
 
 
-def timed(words, text):
+def timed_output(words, text):
     """The output of a program for a text, and its processor seconds."""
     with tempfile.TemporaryFile() as given:
         given.write(text.encode())
@@ -99,43 +99,43 @@ def timed(words, text):
     return done.stdout, after.ru_utime + after.ru_stime - before.ru_utime - before.ru_stime
 
 
-def fastest(words, text):
-    return min(timed(words, text)[1] for _ in range(ROUNDS))
+def least_seconds(words, text):
+    return min(timed_output(words, text)[1] for _ in range(ROUNDS))
 
 
-def built(name):
+def built_program(name):
     """A program that is proved and built in a copy of the repository."""
     done = subprocess.run([os.path.join(TOP, ".ci", "program"), name], stdout=subprocess.PIPE, text=True, check=True)
     return done.stdout.strip()
 
 
-def hashing(program):
+def hash_seconds(program):
     """The processor seconds of SHA-256 of 1 MiB, without the start of the program."""
-    many, one = (fastest([program], f"hash {times}\n") for times in (HASHES + 1, 1))
+    many, one = (least_seconds([program], f"hash {times}\n") for times in (HASHES + 1, 1))
     return (many - one) / HASHES
 
 
 def play(program, length):
     """The processor seconds of a scenario, whose events must all succeed."""
     text = json.dumps(scenario(length))
-    printed, _ = timed([program, "run"], text)
+    printed, _ = timed_output([program, "run"], text)
     refused = [line for line in printed.splitlines() if " refused " in line]
     if refused:
         raise SystemExit(f"{len(refused)} events are refused, the first: {refused[0]}")
-    return fastest([program, "run"], text)
+    return least_seconds([program, "run"], text)
 
 
 def main(words):
     if words[:1] == ["--scenario"]:
         return print(json.dumps(scenario(int(words[1]))))
-    enforce, hashes = words if words else (built("enforce"), built("commitment_costs"))
-    hashed = hashing(hashes)
+    enforce, hashes = words if words else (built_program("enforce"), built_program("commitment_costs"))
+    hashed = hash_seconds(hashes)
     print(f"SHA-256 of 1 MiB: {hashed * 1e3:.2f} ms")
     few, many = play(enforce, 1000), play(enforce, 10_000)
     print(f"1,000 events: {few * 1e3:.0f} ms")
     print(f"10,000 events: {many * 1e3:.0f} ms")
-    bounded("a scenario of 10,000 events to SHA-256 of 1 MiB", many / hashed, 400)
-    bounded("an event of 10,000 to one of 1,000", many / few / 10, 1.2)
+    check_bound("a scenario of 10,000 events to SHA-256 of 1 MiB", many / hashed, 400)
+    check_bound("an event of 10,000 to one of 1,000", many / few / 10, 1.2)
 
 
 if __name__ == "__main__":

@@ -1,7 +1,7 @@
 """The band of who owns a channel's money over the events: A's from above, B's from below, and between them what is undecided, and fees."""
 import bisect
 
-from drawing import element, escaped, figure, told, words
+from drawing import element, figure, markup, tooltip, words
 from story import satoshis
 
 HIGH = 56
@@ -44,13 +44,13 @@ def letters(channel, moments):
     for number, room, kind in ((0, 26, "strong middle on"), (1, 84, "small middle halo"), (3, 26, "strong middle on")):
         wide = moments * room / NARROW
         places = [wide / 2 + (moments - wide) * step / 19 for step in range(20)] if wide < moments else []
-        high, x, y = max((clear(stretches, starts, channel.capacity, number, place, wide) for place in places), default=(0, 0, 0))
+        high, x, y = max((clear_height(stretches, starts, channel.capacity, number, place, wide) for place in places), default=(0, 0, 0))
         if high >= 17:
             found.append(words(f"{100 * x / moments:.3f}%", round(TOP + y + 4.5, 1), PARTS[number], kind))
     return found
 
 
-def clear(stretches, starts, capacity, number, place, wide):
+def clear_height(stretches, starts, capacity, number, place, wide):
     """The height that a share has across a width around a position, with the position and the middle of that height."""
     first = bisect.bisect_right(starts, place - wide / 2) - 1
     last = bisect.bisect_left(starts, place + wide / 2)
@@ -61,16 +61,16 @@ def clear(stretches, starts, capacity, number, place, wide):
 
 def legend(story, channel, now, y):
     """What each share is worth at a moment."""
-    cell = channel.cells.setdefault("money", story.cells.new(None))
+    cell = channel.cells.setdefault("money", story.cells.add(None))
     for event, owned in channel.money:
         story.cells.set(cell, event, "|".join(satoshis(share) for share in owned))
-    values = story.cells.at(cell, now).split("|")
+    values = story.cells.value_at(cell, now).split("|")
     found = []
     for number, (name, value) in enumerate(zip(PARTS, values)):
         x, line = ("0%", "50%")[number in (2, 3)], y + 18 * (number % 2 if number < 2 else 3 - number)
         found.append(element("rect", x=x, y=line, width=12, height=12, rx=2, class_=f"share {name}"))
-        value = element("tspan", escaped(value), class_="value", data_c=cell, data_part=number)
-        found.append(element("text", escaped(f"{name} "), value, x=x, y=line + 10.5, dx=18, class_="small"))
+        value = element("tspan", markup(value), class_="value", data_c=cell, data_part=number)
+        found.append(element("text", markup(f"{name} "), value, x=x, y=line + 10.5, dx=18, class_="small"))
     return found
 
 

@@ -12,7 +12,7 @@ import time
 NAMES = ("chromium", "chromium-headless-shell", "chromium-browser", "google-chrome")
 
 
-def found():
+def chromium_path():
     """The path of a Chromium, or None."""
     return next((path for path in map(shutil.which, NAMES) if path), None)
 
@@ -117,7 +117,7 @@ class Browser:
             code = {"ArrowLeft": 37, "ArrowRight": 39, "Home": 36, "End": 35, "Tab": 9}[key]
             self.ask("Input.dispatchKeyEvent", type=kind, key=key, code=key, windowsVirtualKeyCode=code)
 
-    def fetched(self):
+    def fetched_addresses(self):
         """The addresses that the page asked for."""
         return [it["params"]["request"]["url"] for it in self.events if it.get("method") == "Network.requestWillBeSent"]
 

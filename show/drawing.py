@@ -26,7 +26,7 @@ def width(text, size, bold=False, mono=False):
     return size * sum(WIDTH.get(letter, 100) for letter in text) / (87 if bold else 100)
 
 
-def short(text):
+def short_text(text):
     """The text with each long number in hexadecimal by its first four and last two digits."""
     return LONG.sub(lambda it: f"{it[0][:4]}..{it[0][-2:]}", text)
 
@@ -49,7 +49,7 @@ def lines(text, room, size, bold=False, mono=False):
     return [*found, line] if line else found
 
 
-def fitted(text, room, size, bold=False, mono=False):
+def fitted_text(text, room, size, bold=False, mono=False):
     """The text, or as much of its beginning as `room` pixels hold, followed by two points."""
     if width(text, size, bold, mono) <= room:
         return text
@@ -60,26 +60,26 @@ def fitted(text, room, size, bold=False, mono=False):
 
 def element(name, *inside, **attributes):
     """An element. `class_` stands for class, and an underscore in a name for a hyphen."""
-    said = "".join(f' {key.rstrip("_").replace("_", "-")}="{escaped(value)}"' for key, value in attributes.items() if value is not None)
+    said = "".join(f' {key.rstrip("_").replace("_", "-")}="{markup(value)}"' for key, value in attributes.items() if value is not None)
     return f"<{name}{said}>{''.join(inside)}</{name}>" if inside else f"<{name}{said}/>"
 
 
-def escaped(value):
+def markup(value):
     return html.escape(format(value, ".7g") if isinstance(value, float) else str(value))
 
 
 def words(x, y, text, kind="", **more):
     """A text in the picture."""
-    return element("text", escaped(text), x=x, y=y, class_=kind or None, **more)
+    return element("text", markup(text), x=x, y=y, class_=kind or None, **more)
 
 
-def told(text):
+def tooltip(text):
     """The title of an element: a screen reader reads it, and it is shown while the pointer is on the element."""
-    return element("title", escaped(text))
+    return element("title", markup(text))
 
 
 def figure(inside, wide, high, title, description, kind=None, role="group"):
     """A whole picture of `wide` by `high` pixels; without a width it fills the place that it has. Its role is `list` where its parts are items."""
     box = {"viewBox": f"0 0 {wide} {high}", "width": wide} if wide else {"width": "100%"}
-    inside = [told(title), element("desc", escaped(description)), *inside]
+    inside = [tooltip(title), element("desc", markup(description)), *inside]
     return element("svg", *inside, xmlns="http://www.w3.org/2000/svg", **box, height=high, role=role, class_=kind, aria_label=title)

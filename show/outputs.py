@@ -1,5 +1,5 @@
 """The tree of a channel's outputs: funding, the commitment that spends it, HTLC transactions and claims, each output coloured by who can spend it."""
-from drawing import element, escaped, figure, lines, told, words
+from drawing import element, figure, lines, markup, tooltip, words
 from story import kind_of, satoshis
 
 STEP = 13
@@ -17,10 +17,10 @@ class Tree:
 
     def cell(self, states, told_of):
         """A cell with the text for each state of a thing, and the one for this moment."""
-        cell = self.story.cells.new(None)
+        cell = self.story.cells.add(None)
         for event, state in states:
             self.story.cells.set(cell, event, told_of(state))
-        return cell, self.story.cells.at(cell, self.now) or "absent|"
+        return cell, self.story.cells.value_at(cell, self.now) or "absent|"
 
     def output(self, output, depth, rail=None):
         """An output with all that spends it. `rail` is where a line comes down to it from its transaction."""
@@ -30,25 +30,25 @@ class Tree:
         left, top = STEP * depth, self.y
         cell, state = self.cell(output.states, lambda it: f"{it}|{it}")
         kind, status = state.split("|")
-        sides, first, late = output.sides, output.sides_at_first, output.late
+        sides, first, late = output.sides, output.first_sides, output.late_ways
         elbow = [element("path", d=f"M{left - STEP + 8} {rail}V{top + 13}H{left}", class_="rail")] if rail else []
         inside = [*elbow, *chip(first, sides, left, top)]
         x = left + (40 if len(sides) == 2 else 26)
-        inside.append(element("text", element("tspan", satoshis(output.value), class_="strong"), escaped(f" {kind_of(output)}"), x=x, y=top + 17, class_="said"))
-        inside.append(element("text", escaped(status), x="100%", dx=-6, y=top + 17, class_="small soft end status", data_c=cell, data_part=1))
-        y, lined = written(ways(output, [it for it in output.ways if it not in late]), x, top + 22)
+        inside.append(element("text", element("tspan", satoshis(output.value), class_="strong"), markup(f" {kind_of(output)}"), x=x, y=top + 17, class_="said"))
+        inside.append(element("text", markup(status), x="100%", dx=-6, y=top + 17, class_="small soft end status", data_c=cell, data_part=1))
+        y, lined = small_lines(ways(output, [it for it in output.ways if it not in late]), x, top + 22)
         inside += lined
-        y, lined = written(ways(output, late), x, y)
+        y, lined = small_lines(ways(output, late), x, y)
         y += 4
         grounds = [ground(first, left, top, y)]
         if late:
-            grounds.append(self.later(late, [*([ground(sides, left, top, y)] if first != sides else []), *chip(sides.replace(first, ""), sides, left, top), *lined]))
-        self.parts.append(element("g", told(heard(output)), *grounds, *inside, class_=f"output {kind}", role="listitem", data_c=cell, data_part=0))
+            grounds.append(self.late_part(late, [*([ground(sides, left, top, y)] if first != sides else []), *chip(sides.replace(first, ""), sides, left, top), *lined]))
+        self.parts.append(element("g", tooltip(output_text(output)), *grounds, *inside, class_=f"output {kind}", role="listitem", data_c=cell, data_part=0))
         self.y = y + 2
         for spend in output.spenders:
             self.spend(spend, depth + 1, left, top + 22, output is spend.inputs[0])
 
-    def later(self, late, inside):
+    def late_part(self, late, inside):
         """What an output has from the event on at which a way to spend it came."""
         cell, state = self.cell([(late[0]["since"], "there|")], str)
         return element("g", *inside, class_=f"late {state.split('|')[0]}", data_c=cell, data_part=0)
@@ -60,9 +60,9 @@ class Tree:
         kind, status = state.split("|")
         elbow = element("path", d=f"M{rail + 6} {top}V{self.y + 12}h{STEP - 6}", class_="rail")
         name = [words(left + 4, self.y + 16 + 15 * number, line, "small strong") for number, line in enumerate(lines(spend.brief if first else f"{spend.brief}, see above", WIDE - left - 80, 12, bold=True))]
-        status = element("text", escaped(status), x="100%", dx=-6, y=self.y + 16, class_="small soft end status", data_c=cell, data_part=1)
+        status = element("text", markup(status), x="100%", dx=-6, y=self.y + 16, class_="small soft end status", data_c=cell, data_part=1)
         fee = f", fee {satoshis(spend.fee)}" if spend.fee else ""
-        self.parts.append(element("g", told(f"{spend.said}{fee}; transaction {spend.txid}"), elbow, *name, status, class_=f"spend {kind}", role="listitem", data_c=cell, data_part=0))
+        self.parts.append(element("g", tooltip(f"{spend.said}{fee}; transaction {spend.txid}"), elbow, *name, status, class_=f"spend {kind}", role="listitem", data_c=cell, data_part=0))
         self.y += 9 + 15 * len(name)
         rail = self.y - 3
         for output in spend.outputs if first else []:
@@ -84,7 +84,7 @@ def chip(some, sides, left, top):
     return found
 
 
-def written(said, x, y):
+def small_lines(said, x, y):
     """Lines of small text from a height on, and the height of their end."""
     broken = [line for one in said for line in lines(one, WIDE - x - 8, 12)]
     return y + 15 * len(broken), [words(x, y + 11 + 15 * number, line, "small soft") for number, line in enumerate(broken)]
@@ -94,14 +94,14 @@ def ways(output, some):
     """Who can spend an output, how and from which block on, a line each. A way that came after the output has its event."""
     if output.kind in ("wallet", "funding"):
         return []
-    return [f"{it['side']} {BY.get(it['by'], it['by'])}, from block {it['due']:,}{since(it)}" for it in some]
+    return [f"{it['side']} {BY.get(it['by'], it['by'])}, from block {it['due']:,}{way_start(it)}" for it in some]
 
 
-def since(way):
+def way_start(way):
     return f", since event {way['since']:,}" if way["since"] >= 0 else ""
 
 
-def heard(output):
+def output_text(output):
     return f"{kind_of(output)} of {satoshis(output.value)}: {'; '.join(ways(output, output.ways)) or 'of ' + ' and '.join(output.sides)}. Outpoint {output.outpoint}"
 
 

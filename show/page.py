@@ -7,8 +7,8 @@ import band
 import outputs
 import script_tree
 import sequence
-from drawing import element, escaped, figure
-from story import PANEL, many, satoshis
+from drawing import element, figure, markup
+from story import PANEL, quantity, satoshis
 
 HERE = pathlib.Path(__file__).resolve().parent
 WINDOW = 200
@@ -32,7 +32,7 @@ def document(title, inside):
             '<meta name="viewport" content="width=device-width, initial-scale=1">',
             "<meta http-equiv=\"Content-Security-Policy\" content=\"default-src 'none'; style-src 'unsafe-inline'; script-src 'unsafe-inline'\">",
             '<link rel="icon" href="data:,">',
-            f"<title>{escaped(title)}</title>",
+            f"<title>{markup(title)}</title>",
             f"<style>\n{part('picture.css')}{part('page.css')}</style>",
             "</head>",
             "<body>",
@@ -52,9 +52,9 @@ def definitions():
 def scenario(story, name=""):
     """The page of a scenario. Without scripts it shows the last event that is drawn; its script begins at the first one."""
     count = len(story.rows)
-    rows = [sequence.drawn(row, len(story.channels)) for row in story.rows]
+    rows = [sequence.row_parts(row, len(story.channels)) for row in story.rows]
     now = min(count, WINDOW) - 1
-    size = f"{many(count, 'event')} and {many(len(story.channels), 'channel')}"
+    size = f"{quantity(count, 'event')} and {quantity(len(story.channels), 'channel')}"
     left, right = left_part(story, rows, now), right_part(story, now)
     inside = [definitions(), headline(name or f"A scenario of {size}", size if name else ""), "<main>", controls(story, now), '<div class="parts">', *left, *right, "</div>", "</main>"]
     if count:
@@ -64,8 +64,8 @@ def scenario(story, name=""):
 
 def headline(title, more):
     """The head of a page: its name, and what it is of where that is not its name."""
-    more = f'<p class="soft">{escaped(more[:1].upper() + more[1:])}.</p>' if more else ""
-    return f"<header><h1>{escaped(title)}</h1>{more}</header>"
+    more = f'<p class="soft">{markup(more[:1].upper() + more[1:])}.</p>' if more else ""
+    return f"<header><h1>{markup(title)}</h1>{more}</header>"
 
 
 def right_part(story, now):
@@ -79,7 +79,7 @@ def right_part(story, now):
         if number == 0:
             found.append('<p class="soft">The letters say who can spend an output, and the lines below it how, and from which block on. A pale one is spent.</p>')
         found.append(tree)
-    return [*found, panel(story, now), f'<p class="soft">{escaped(ending(story))}</p>', "</section>"]
+    return [*found, panel(story, now), f'<p class="soft">{markup(end_sentence(story))}</p>', "</section>"]
 
 
 def left_part(story, rows, now):
@@ -111,7 +111,7 @@ def controls(story, now):
     """The slider over the events, and the sentence of the event that it is on."""
     if not story.rows:
         return '<p class="soft">There are no events.</p>'
-    said, brief = (escaped(tell(story.rows[now], len(story.channels))) for tell in (sequence.heard, sequence.brief))
+    said, brief = (markup(tell(story.rows[now], len(story.channels))) for tell in (sequence.sentence, sequence.short_sentence))
     return (
         '<div class="controls"><div class="bar"><button id="before" type="button" aria-label="The event before">&#8592;</button>'
         f'<input id="event" type="range" min="0" max="{len(story.rows) - 1}" value="{now}" step="1" aria-label="Event" aria-valuetext="{said}">'
@@ -132,17 +132,17 @@ def panel(story, now):
 
 
 def entry(name, cell, story, now):
-    return f'<dt>{name}</dt><dd data-c="{cell}">{escaped(story.cells.at(cell, now))}</dd>'
+    return f'<dt>{name}</dt><dd data-c="{cell}">{markup(story.cells.value_at(cell, now))}</dd>'
 
 
-def ending(story):
+def end_sentence(story):
     """How the run ends, in a sentence."""
     if story.end is None:
         return f"{story.stops()}."
     end = story.end
     refused = sum(row.refused for row in story.rows)
-    said = f"It ends at height {end['height']:,} with {many(end['unspent'], 'unspent output')} worth {satoshis(end['value'])}, and {satoshis(end['fees'])} of fees."
-    return said + (f" {many(refused, 'event')} {'was' if refused == 1 else 'were'} refused." if refused else "")
+    said = f"It ends at height {end['height']:,} with {quantity(end['unspent'], 'unspent output')} worth {satoshis(end['value'])}, and {satoshis(end['fees'])} of fees."
+    return said + (f" {quantity(refused, 'event')} {'was' if refused == 1 else 'were'} refused." if refused else "")
 
 
 def data(story, rows):
@@ -163,11 +163,11 @@ def data(story, rows):
 
 def scripts(objects, name=""):
     """The page of scripts."""
-    size = headed(objects[0]) if len(objects) == 1 else many(len(objects), "script")
+    size = script_heading(objects[0]) if len(objects) == 1 else quantity(len(objects), "script")
     inside = [headline(name or size, size if name else ""), "<main>"]
     for number, script in enumerate(objects):
         if len(objects) > 1:
-            inside.append(f"<h2>{number}: {headed(script)}</h2>")
+            inside.append(f"<h2>{number}: {script_heading(script)}</h2>")
         inside += ['<div class="parts script">', '<section aria-label="Opcodes">', "<h2>Opcodes</h2>", script_tree.opcodes(script, OPCODES), "</section>"]
         inside += ['<section aria-label="Paths">', "<h2>Paths</h2>"]
         if "paths" in script:
@@ -182,16 +182,16 @@ def scripts(objects, name=""):
 
 def notes(script):
     """What endangers money, where a refusal comes from, and what else is noted of a script."""
-    found = "".join(f"<li>{escaped(it)}</li>" for it in script.get("notes", []))
+    found = "".join(f"<li>{markup(it)}</li>" for it in script.get("notes", []))
     return ["<h2>Notes</h2>", f'<ul class="notes">{found}</ul>'] if found else []
 
 
-def headed(script):
+def script_heading(script):
     size = script_tree.size_of(script)
     return size[:1].upper() + size[1:]
 
 
-def alone(wide, high, title, description, inside):
+def lone_picture(wide, high, title, description, inside):
     """A picture that stands alone, with its own styles and ground."""
     ground = element("rect", width="100%", height="100%", class_="page")
     style = f"<style>{re.sub(r'/[*].*?[*]/', '', part('picture.css'), flags=re.S).strip()}</style>"
@@ -201,33 +201,33 @@ def alone(wide, high, title, description, inside):
     return re.sub(r">(?=<(?:g|rect|path|text|line|circle|svg|defs|style)\b)", ">\n", whole) + "\n"
 
 
-def at(x, y, wide, picture):
+def placed_picture(x, y, wide, picture):
     """A picture in a place of another one."""
     return picture.replace("<svg ", f'<svg x="{x}" y="{y}" ', 1).replace('width="100%"', f'width="{wide}"', 1)
 
 
-def scenario_alone(story, name):
+def scenario_picture(story, name):
     """The picture of a scenario: its sequence, and beside it the bands and trees after the last event."""
     now, margin, column = len(story.rows) - 1, 16, 400
-    rows = [sequence.drawn(row, len(story.channels)) for row in story.rows[:WINDOW]]
+    rows = [sequence.row_parts(row, len(story.channels)) for row in story.rows[:WINDOW]]
     high, picture = sequence.picture(story, rows, 0, None)
     heads = element("svg", *sequence.heads(), width="100%", height=sequence.HEAD)
-    inside = [at(margin, 8, column, heads), at(margin, 8 + sequence.HEAD, column, picture)]
+    inside = [placed_picture(margin, 8, column, heads), placed_picture(margin, 8 + sequence.HEAD, column, picture)]
     y, x = 8, 2 * margin + 24 + column
     several = len(story.channels) > 1
     drawn = [band.picture(story, it, now) for it in story.channels] + [outputs.picture(story, it, now, headed=several) for it in story.channels]
     for tall, picture in drawn:
-        inside.append(at(x, y, column, picture))
+        inside.append(placed_picture(x, y, column, picture))
         y += tall + 20
     title = f"The scenario {name}" if name else "A scenario"
     whole = max(high + sequence.HEAD + 24, y)
-    return alone(x + column + margin, whole, title, f"{many(len(story.rows), 'event')}. {ending(story)}", inside)
+    return lone_picture(x + column + margin, whole, title, f"{quantity(len(story.rows), 'event')}. {end_sentence(story)}", inside)
 
 
-def script_alone(script):
+def script_picture(script):
     """The picture of a script: its opcodes, and beside them the tree of its paths."""
     left, right = script_tree.opcodes(script, OPCODES), script_tree.paths(script, 560) if "paths" in script else None
     highs = [int(it.split(' height="', 1)[1].split('"', 1)[0]) for it in (left, right) if it]
-    inside = [at(16, 12, OPCODES, left)] + ([at(OPCODES + 48, 12, 560, right)] if right else [])
+    inside = [placed_picture(16, 12, OPCODES, left)] + ([placed_picture(OPCODES + 48, 12, 560, right)] if right else [])
     wide = OPCODES + 32 + (592 if right else 0)
-    return alone(wide, max(highs) + 24, headed(script), "Its opcodes, and beside them the tree of its paths.", inside)
+    return lone_picture(wide, max(highs) + 24, script_heading(script), "Its opcodes, and beside them the tree of its paths.", inside)

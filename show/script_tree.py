@@ -1,5 +1,5 @@
 """The picture of a script: its opcodes, indented by branch, and the tree of its paths with each path's conditions."""
-from drawing import element, escaped, figure, fitted, lines, short, told, words
+from drawing import element, figure, fitted_text, lines, markup, short_text, tooltip, words
 
 LINE = 18
 SMALL = 12
@@ -16,11 +16,11 @@ def opcodes(script, wide):
     for op in script["opcodes"]:
         left = 46 + step * op["depth"]
         rails = [element("path", d=f"M{46 + step * n + 4} {y}v{LINE}", class_="rail") for n in range(op["depth"])]
-        said, full = spoken(op)
-        name = element("tspan", escaped(op["op"]), class_=None if said else "strong")
-        more = element("tspan", " " + escaped(fitted(said, wide - left - 8 * len(op["op"]) - 10, SMALL, mono=True)), class_="soft")
+        said, full = opcode_texts(op)
+        name = element("tspan", markup(op["op"]), class_=None if said else "strong")
+        more = element("tspan", " " + markup(fitted_text(said, wide - left - 8 * len(op["op"]) - 10, SMALL, mono=True)), class_="soft")
         line = element("text", name, more if said else "", x=left, y=y + 13, class_="mono")
-        parts.append(element("g", told(full), *rails, words(36, y + 13, op["byte"], "mono soft end"), line, role="listitem"))
+        parts.append(element("g", tooltip(full), *rails, words(36, y + 13, op["byte"], "mono soft end"), line, role="listitem"))
         y += LINE
     if "refused" in script:
         for line in lines(refusal(script), wide - 46, SIZE):
@@ -30,17 +30,17 @@ def opcodes(script, wide):
     return figure(parts, wide, y + 6, f"The opcodes of {size_of(script)}", description, role="list")
 
 
-def spoken(op):
+def opcode_texts(op):
     """What a line shows after an opcode's name, and the whole of it."""
     if "hex" not in op:
         return "", f"byte {op['byte']}: {op['op']}"
     looks = f"number {op['number']}" if op["looks"] == "number" else op["looks"]
     item = op["hex"] or "-"
-    return f"{short(item)} ({looks})", f"byte {op['byte']}: PUSH {item} ({looks})"
+    return f"{short_text(item)} ({looks})", f"byte {op['byte']}: PUSH {item} ({looks})"
 
 
 def size_of(script):
-    return "a text that is no script" if script["bytes"] is None else f"a script of {many(script['bytes'], 'byte')}"
+    return "a text that is no script" if script["bytes"] is None else f"a script of {quantity(script['bytes'], 'byte')}"
 
 
 def refusal(script):
@@ -51,7 +51,7 @@ def refusal(script):
     return f"refused: {said.removesuffix(f' {byte}')} at byte {byte}"
 
 
-def same(fact):
+def fact_subject(fact):
     """What a fact asks about, whether it has to hold or not."""
     return fact["kind"], tuple(fact["slots"]), tuple(map(str, fact["keys"])), fact["value"]
 
@@ -61,7 +61,7 @@ def tree(paths):
     shared = []
     if len(paths) > 1:
         for facts in zip(*(facts for _, facts in paths)):
-            if len({(same(it), it["holds"]) for it in facts}) > 1:
+            if len({(fact_subject(it), it["holds"]) for it in facts}) > 1:
                 break
             shared.append(facts[0])
     rest = [(path, facts[len(shared) :]) for path, facts in paths]
@@ -69,7 +69,7 @@ def tree(paths):
         return {"shared": [], "path": rest[0][0], "branches": []}
     branches = {}
     for path, facts in rest:
-        branches.setdefault((same(facts[0]), facts[0]["holds"]) if facts else None, []).append((path, facts))
+        branches.setdefault((fact_subject(facts[0]), facts[0]["holds"]) if facts else None, []).append((path, facts))
     if len(branches) == 1:
         return {"shared": shared, "path": None, "branches": [{"shared": [], "path": path, "branches": [], "by": None} for path, _ in rest]}
     found = []
@@ -104,7 +104,7 @@ class Paper:
         self.parts.append(element("path", d=f"M{left + shift + 5} {top + 4}l5 5l-5 5l-5 -5z", class_="fork"))
         self.text(left + shift + 16, question(node["branches"]), "strong")
         for fact in node["shared"]:
-            self.text(left + shift + 16, "first: " + short(fact["says"]), "small soft", SMALL)
+            self.text(left + shift + 16, "first: " + short_text(fact["says"]), "small soft", SMALL)
         rail = len(self.parts)
         for branch in node["branches"]:
             self.y += 6
@@ -121,7 +121,9 @@ class Paper:
             yes = "yes" if by["holds"] else "no"
             shift = CHIP + 8
             chip = element("rect", x=inner, y=self.y, width=CHIP, height=18, rx=9, class_=f"chip {yes}")
-            self.parts.append(element("g", told(by["says"]), chip, words(inner + CHIP // 2, self.y + 13, yes, f"small middle strong {'on' if by['holds'] else ''}".strip())))
+            self.parts.append(
+                element("g", tooltip(by["says"]), chip, words(inner + CHIP // 2, self.y + 13, yes, f"small middle strong {'on' if by['holds'] else ''}".strip()))
+            )
         if node["path"] is not None:
             self.y += 22 if by else 0
             self.card(node["path"], inner)
@@ -134,23 +136,23 @@ class Paper:
         top, parts, self.parts = self.y, self.parts, []
         self.y += 6
         self.text(left + 10, f"Path {number}", "strong")
-        self.text(left + 10, f"{many(path['arity'], 'item')}, {path['weight']} weight units ({path['token_weight']} with tokens)", "small soft", SMALL)
+        self.text(left + 10, f"{quantity(path['arity'], 'item')}, {path['weight']} weight units ({path['token_weight']} with tokens)", "small soft", SMALL)
         for role, said in conditions(path):
             self.parts.append(words(left + 10, self.y + 14, role, "small strong"))
-            self.text(left + 52, short(said), "small", SMALL)
+            self.text(left + 52, short_text(said), "small", SMALL)
         self.y += 6
         inside, self.parts = self.parts, parts
         box = element("rect", x=left + 0.5, y=top + 0.5, width=self.wide - left - 2, height=self.y - top - 1, rx=6, class_="card")
-        self.parts.append(element("g", told(aloud(number, path)), box, *inside, role="listitem"))
+        self.parts.append(element("g", tooltip(path_text(number, path)), box, *inside, role="listitem"))
         self.y += 6
 
 
 def question(branches):
     """What decides which way is taken."""
     asked = [it["by"] for it in branches]
-    if all(asked) and len({same(it) for it in asked}) == 1:
+    if all(asked) and len({fact_subject(it) for it in asked}) == 1:
         says = next((it["says"] for it in asked if it["holds"]), asked[0]["says"])
-        return short(says[:1].upper() + says[1:]) + "?"
+        return short_text(says[:1].upper() + says[1:]) + "?"
     return "One of these ways"
 
 
@@ -162,11 +164,11 @@ def conditions(path):
     return [*told_who, *(("with", it["says"]) for it in facts if it["role"] == "with"), *told_when]
 
 
-def aloud(number, path):
+def path_text(number, path):
     return f"Path {number}. " + " ".join(f"{role}: {said}." for role, said in conditions(path))
 
 
-def many(count, what):
+def quantity(count, what):
     return f"{count} {what}" if count == 1 else f"{count} {what}s"
 
 
@@ -175,13 +177,13 @@ def paths(script, wide):
     listed = script["paths"]
     whole = tree([(number, path["facts"]) for number, path in enumerate(listed)]) if listed else None
     paper = Paper(script, wide, depth(whole) if whole else 0)
-    heading = f"{many(len(listed), 'way')} to spend an output to this script, by the rules here" if listed else "No listed way to spend an output to this script"
+    heading = f"{quantity(len(listed), 'way')} to spend an output to this script, by the rules here" if listed else "No listed way to spend an output to this script"
     paper.text(0, heading, "strong big", 15)
     paper.y += 6
     if whole and whole["path"] is not None:
         paper.card(whole["path"], 0)
     elif whole:
         paper.branches(whole, 0, 0)
-    title = f"The {many(len(listed), 'path')} of a script"
+    title = f"The {quantity(len(listed), 'path')} of a script"
     description = "A tree from top to bottom: each fork asks a question, each way on is a yes or a no, and each leaf is a path with its conditions."
     return figure(paper.parts, wide, paper.y + 4, title, description, role="list")

@@ -1,6 +1,6 @@
 """The sequence of a scenario's events: both sides and the chain between them, time downwards, a row for each event."""
-from drawing import element, figure, lines, told, words
-from story import PEER, many
+from drawing import element, figure, lines, tooltip, words
+from story import PEER, quantity
 
 LONG = 80
 PLACES = {"A": 17, "chain": 56, "B": 95}
@@ -31,7 +31,7 @@ def texts(row, room):
     return found + [(line, "small soft") for more in row.more for line in lines(more, room, 12)]
 
 
-def drawn(row, channels):
+def row_parts(row, channels):
     """A row: its height and its parts, measured from its own top."""
     blocks = row.actor == "chain" and not row.refused
     x, side = {"A": (GUTTER, ""), "B": ("100%", " end"), "chain": (f"{PLACES['chain']}%", " middle")}[row.actor]
@@ -51,18 +51,18 @@ def drawn(row, channels):
         written.append(words(4, 34, f"ch {row.channel}", "small soft"))
     high = max(y + 9, 42)
     ground = element("rect", width="100%", height=high, class_="ground")
-    return high, "".join([told(heard(row, channels)), ground, *shapes, *written])
+    return high, "".join([tooltip(sentence(row, channels)), ground, *shapes, *written])
 
 
-def heard(row, channels):
+def sentence(row, channels):
     place = f", channel {row.channel}" if channels > 1 and row.channel is not None else ""
     said = "; ".join([row.said, *row.more]).replace("; takes", " takes", 1).replace("; of", " of", 1).replace("; until", " until", 1)
     return f"Event {row.number}{place}: {said}"
 
 
-def brief(row, channels):
+def short_sentence(row, channels):
     """The sentence of an event. Where it is long, it is told without its details, as the page's script does."""
-    whole = heard(row, channels)
+    whole = sentence(row, channels)
     return whole if len(whole) <= LONG else whole[: whole.index(": ") + 2] + row.said
 
 
@@ -114,7 +114,7 @@ def markers():
     return element("defs", *[element("marker", tip, id=f"head-{who}", viewBox="0 0 8 8", refX=7, refY=4, markerWidth=8, markerHeight=8, markerUnits="userSpaceOnUse", orient="auto", class_=f"tip {who}") for who in PLACES])
 
 
-def placed(rows, first, now):
+def stacked_rows(rows, first, now):
     """Rows one under another: their height together, and their parts. `rows` are pairs of a height and parts."""
     y, found = 0, []
     for number, (high, parts) in enumerate(rows, first):
@@ -125,7 +125,7 @@ def placed(rows, first, now):
 
 def picture(story, rows, first, now, wide=None):
     """The rows from `first` on."""
-    high, inside = placed(rows, first, now)
+    high, inside = stacked_rows(rows, first, now)
     parts = [element("g", *lifelines("100%")), element("g", inside, class_="rows", role="list")]
-    title = f"Sequence of {many(len(rows), 'event')}, from event {first}"
+    title = f"Sequence of {quantity(len(rows), 'event')}, from event {first}"
     return high, figure(parts, wide, high + 6, title, "Both sides and the chain between them. Time goes downwards. Dashed arrows are messages that leave, whole ones messages that arrive.", "sequence")

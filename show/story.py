@@ -23,7 +23,7 @@ def millisatoshis(value):
     return satoshis(value // 1000) if value % 1000 == 0 or value >= 10**13 else f"{value // 1000:,}.{value % 1000:03} sat"
 
 
-def many(count, what, more=None):
+def quantity(count, what, more=None):
     return f"{count:,} {what if count == 1 else more or what + 's'}"
 
 
@@ -48,12 +48,12 @@ class Output:
         return "".join(sorted({it["side"] for it in self.ways})) or self.owner or "AB"
 
     @property
-    def late(self):
+    def late_ways(self):
         """The ways that came after the output did."""
         return [it for it in self.ways if it["since"] >= 0]
 
     @property
-    def sides_at_first(self):
+    def first_sides(self):
         """Who can spend it by the other ways."""
         return "".join(sorted({it["side"] for it in self.ways if it["since"] < 0})) or self.sides
 
@@ -100,7 +100,7 @@ class Cells:
     def __init__(self):
         self.histories = []
 
-    def new(self, value):
+    def add(self, value):
         self.histories.append([(-1, value)])
         return len(self.histories) - 1
 
@@ -112,7 +112,7 @@ class Cells:
             history.pop()
         history.append((event, value))
 
-    def at(self, cell, event):
+    def value_at(self, cell, event):
         return next(value for since, value in reversed(self.histories[cell]) if since <= event)
 
 
@@ -136,10 +136,10 @@ class Channel:
         # who can spend each unspent output, and what they can spend together
         self.unspent = {self.funding.outpoint: "AB"}
         self.sums = {"A": 0, "B": 0, "AB": self.capacity}
-        self.money = [(-1, self.owned())]
-        self.cells = {name: cells.new(self.told(name)) for name in ("commitments", "htlcs", "way")}
+        self.money = [(-1, self.shares())]
+        self.cells = {name: cells.add(self.panel_line(name)) for name in ("commitments", "htlcs", "way")}
 
-    def owned(self):
+    def shares(self):
         """The owners of the money, in satoshis: A's, undecided, fees, B's. On the chain an output is undecided while both sides can spend it."""
         if self.funding.outpoint in self.unspent:
             mine, theirs = (self.newest[side]["balance"][side] for side in SIDES)
@@ -155,22 +155,22 @@ class Channel:
             self.unspent[output.outpoint] = output.sides
             self.sums[output.sides] += output.value
 
-    def told(self, name):
+    def panel_line(self, name):
         """A line of the panel of this channel."""
         if name == "commitments":
-            return "; ".join(self.told_side(side) for side in SIDES)
+            return "; ".join(self.side_text(side) for side in SIDES)
         if name == "htlcs":
-            return listed(self.live, lambda key: f"{key[0]}{key[1]} {millisatoshis(self.htlcs[key])} {self.stages[key]}")
-        return "; ".join(f"to {side}: {listed(self.queue[side])}" for side in SIDES if self.queue[side]) or "none"
+            return name_list(self.live, lambda key: f"{key[0]}{key[1]} {millisatoshis(self.htlcs[key])} {self.stages[key]}")
+        return "; ".join(f"to {side}: {name_list(self.queue[side])}" for side in SIDES if self.queue[side]) or "none"
 
-    def told_side(self, side):
+    def side_text(self, side):
         revoked = f", {self.revoked[side]} and older revoked" if self.revoked[side] > 0 else ", 0 revoked" if self.revoked[side] == 0 else ""
         signed = f", {self.signed[side]} signed" if self.signed[side] > self.newest[side]["number"] else ""
         closed = ", closed the channel" if self.closed[side] else ""
         return f"{side} holds {self.newest[side]['number']}{signed}{revoked}{closed}"
 
 
-def listed(items, named=str):
+def name_list(items, named=str):
     """The names of the first items, and how many more there are."""
     first = ", ".join(named(it) for it in islice(items, WHOLE_LISTS)) or "none"
     return f"{first} and {len(items) - WHOLE_LISTS:,} more" if len(items) > WHOLE_LISTS else first
@@ -187,21 +187,21 @@ class Story:
         self.spends, self.names, self.claims = {}, {}, {}
         self.pool, self.jobs = {}, {side: (0, 0) for side in SIDES}
         self.kept = {side: 0 for side in SIDES}
-        self.panel = {name: self.cells.new(self.told(name)) for name in ("height", "pool", "jobs", "kept")}
+        self.panel = {name: self.cells.add(self.panel_line(name)) for name in ("height", "pool", "jobs", "kept")}
 
     def stops(self):
         """Where a trace stops that does not have its end."""
         return f"The trace stops {f'after event {len(self.rows) - 1:,}' if self.rows else 'before event 0'} of {self.events:,}"
 
-    def told(self, name):
+    def panel_line(self, name):
         """A line of the panel of both sides and the chain."""
         if name == "height":
             return f"height {self.heights[-1] if self.heights else 0:,}"
         if name == "pool":
-            return listed(self.pool, self.names.__getitem__)
+            return name_list(self.pool, self.names.__getitem__)
         if name == "jobs":
-            return "; ".join(f"{side} has {many(jobs, 'job')} and {taken:,} taken" for side, (jobs, taken) in self.jobs.items())
-        return "; ".join(f"{side} keeps penalties of {many(count, 'commitment')}" for side, count in self.kept.items())
+            return "; ".join(f"{side} has {quantity(jobs, 'job')} and {taken:,} taken" for side, (jobs, taken) in self.jobs.items())
+        return "; ".join(f"{side} keeps penalties of {quantity(count, 'commitment')}" for side, count in self.kept.items())
 
     def play(self, line):
         """Reads an event."""
@@ -216,12 +216,12 @@ class Story:
         row = tell(self, line, before)
         self.rows.append(row)
         for name, cell in self.panel.items():
-            self.cells.set(cell, number, self.told(name))
+            self.cells.set(cell, number, self.panel_line(name))
         touched = {row.channel} | {it["channel"] for it in line.get("mined", [])} if "undone" not in line else set(range(len(self.channels)))
         for channel in (self.channels[it] for it in touched if it is not None and it < len(self.channels)):
             for name, cell in channel.cells.items():
-                self.cells.set(cell, number, channel.told(name))
-            owned = channel.owned()
+                self.cells.set(cell, number, channel.panel_line(name))
+            owned = channel.shares()
             if owned != channel.money[-1][1]:
                 channel.money.append((number, owned))
 
@@ -329,7 +329,7 @@ class Story:
 
     def meet(self, mined, inputs):
         """A transaction that no block took before."""
-        said = spoken(self, mined)
+        said = transaction_name(self, mined)
         brief = said if mined["kind"] != "claim" else f"{mined['owner']}'s claim" + (f" of {len(inputs)} outputs" if len(inputs) > 1 else "")
         spend = Spend(mined["txid"], said, brief, mined["fee"], inputs)
         self.spends[mined["txid"]] = spend
@@ -346,7 +346,7 @@ class Story:
         return spend
 
 
-def spoken(story, mined):
+def transaction_name(story, mined):
     """What a transaction of a block is."""
     owner = mined["owner"]
     if mined["kind"] == "commitment":
@@ -354,7 +354,7 @@ def spoken(story, mined):
     if mined["kind"] == "htlc":
         offered = story.outputs[mined["spends"][0]].owner == owner
         return f"{owner}'s HTLC-{'timeout' if offered else 'success'} transaction"
-    return f"{owner}'s claim of {what(story, mined['spends'])}"
+    return f"{owner}'s claim of {spent_outputs(story, mined['spends'])}"
 
 
 def name_of(story, event, joined):
@@ -365,11 +365,11 @@ def name_of(story, event, joined):
     if event[0] == "close":
         return f"{event[1]}'s commitment {story.channels[event[2]].newest[event[1]]['number']}{story.place(event[2])}"
     if event[0] == "release":
-        return f"{event[1]}'s claim of {what(story, joined['spends'])}"
+        return f"{event[1]}'s claim of {spent_outputs(story, joined['spends'])}"
     return "a transaction"
 
 
-def what(story, outpoints):
+def spent_outputs(story, outpoints):
     """The outputs that a transaction spends."""
     found = []
     for it in outpoints:
@@ -377,7 +377,7 @@ def what(story, outpoints):
             found.append(f"{satoshis(story.outputs[it].value)} ({kind_of(story.outputs[it])})")
         elif it in story.claims:
             found.append(f'{satoshis(story.claims[it]["value"])} (not on chain yet)')
-    return listed(found) if found else many(len(outpoints), "output")
+    return name_list(found) if found else quantity(len(outpoints), "output")
 
 
 def kind_of(output):
@@ -393,13 +393,13 @@ def tell(story, line, before):
     channel = event[2] if name in ("offer", "fulfil", "fail", "fee", "sign", "deliver", "keep", "broadcast", "close") else None
     answer = line["answer"]
     if answer.startswith("refused"):
-        said = f"{side}: {wanted(event)}" if side in SIDES else wanted(event)
+        said = f"{side}: {event_words(event)}" if side in SIDES else event_words(event)
         return Row(line["event"], said, [answer.replace("refused ", "refused: ", 1)], channel, side, [], True)
     said, more, arrows = TELL[name](story, line, event, before)
     return Row(line["event"], said, more, channel, side, arrows, False)
 
 
-def wanted(event):
+def event_words(event):
     """What a refused event wanted."""
     arguments = [str(it) if not isinstance(it, str) or len(it) < 9 else f"{it[:4]}..{it[-2:]}" for it in event[2 if isinstance(event[1], str) else 1 :]]
     return f"{event[0]} {', '.join(arguments)}"
@@ -465,10 +465,10 @@ def tell_close(story, line, event, before):
 def tell_blocks(story, line, event, before):
     after = line["height"]
     said = "no block" if after == before else f"block {after:,}" if after == before + 1 else f"blocks {before + 1:,} to {after:,}"
-    return said, taken_by(story, line), [("block", "chain")]
+    return said, mined_lines(story, line), [("block", "chain")]
 
 
-def taken_by(story, line):
+def mined_lines(story, line):
     """The transactions in new blocks, a line each."""
     mined = line.get("mined", [])
     several = len({it["height"] for it in mined}) > 1 or line["words"][1] != 1
@@ -477,19 +477,19 @@ def taken_by(story, line):
 
 
 def tell_reorg(story, line, event, before):
-    return f"{many(event[1], 'block')} taken off, {event[1] + 1:,} made: height {line['height']:,}", taken_by(story, line), [("block", "chain")]
+    return f"{quantity(event[1], 'block')} taken off, {event[1] + 1:,} made: height {line['height']:,}", mined_lines(story, line), [("block", "chain")]
 
 
 def tell_look(story, line, event, before):
     claims = line.get("claims", [])
     several = len(story.channels) > 1
-    more = [f"{'ch ' + str(it['channel']) + ': ' if several else ''}{satoshis(it['value'])} by {it['by']}{due(story, it)}" for it in claims[:WHOLE_LISTS]]
+    more = [f"{'ch ' + str(it['channel']) + ': ' if several else ''}{satoshis(it['value'])} by {it['by']}{due_time(story, it)}" for it in claims[:WHOLE_LISTS]]
     if len(claims) > WHOLE_LISTS:
         more.append(f"and {len(claims) - WHOLE_LISTS:,} more")
-    return f"{event[1]} looks: {many(len(claims), 'claim')}", more, [("from chain", event[1])]
+    return f"{event[1]} looks: {quantity(len(claims), 'claim')}", more, [("from chain", event[1])]
 
 
-def due(story, claim):
+def due_time(story, claim):
     """When a claim can be taken. A spent output keeps its `due`."""
     if claim["due"] is None:
         return ", not on chain yet"
@@ -499,13 +499,13 @@ def due(story, claim):
 
 
 def tell_take(story, line, event, before):
-    return f"{event[1]} takes {many(event[2], 'job')}", [], [("keeps", event[1])]
+    return f"{event[1]} takes {quantity(event[2], 'job')}", [], [("keeps", event[1])]
 
 
 def tell_release(story, line, event, before):
     joined = line.get("joined", [])
-    of = f" of {what(story, joined[0]['spends'])}" if joined else ""
-    return f"{event[1]} releases {many(event[2], 'claim')}", [of.strip()] if of else [], [("to chain", event[1])]
+    of = f" of {spent_outputs(story, joined[0]['spends'])}" if joined else ""
+    return f"{event[1]} releases {quantity(event[2], 'claim')}", [of.strip()] if of else [], [("to chain", event[1])]
 
 
 TELL = {

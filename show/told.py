@@ -1,5 +1,5 @@
 """What `trace` tells of a scenario or of a book, in sentences: the ones that the pictures have, and of a book what to claim first."""
-from story import PANEL, PEER, many, millisatoshis, satoshis
+from story import PANEL, PEER, millisatoshis, quantity, satoshis
 
 # how soon others can take an output, the soonest first, barring a penalty on an HTLC whose preimage they may have
 ORDER = ("until", "blocks", "no_preimage", "always")
@@ -21,32 +21,32 @@ def scenario(told):
     last = len(told.rows) - 1
     lines.append("")
     lines.append("At the end:" if told.end is not None else f"{told.stops()}:")
-    lines += [f"  {PANEL[name]}: {told.cells.at(cell, last)}" for name, cell in told.panel.items()]
+    lines += [f"  {PANEL[name]}: {told.cells.value_at(cell, last)}" for name, cell in told.panel.items()]
     for channel in told.channels:
-        lines += ended(told, channel, last)
+        lines += end_lines(told, channel, last)
     return "".join(f"{it}\n" for it in lines)
 
 
-def ended(told, channel, last):
+def end_lines(told, channel, last):
     """How a channel stands after the last event."""
     a, undecided, fees, b = channel.money[-1][1]
     said = f"A {satoshis(a)}, B {satoshis(b)}" + (f", undecided {satoshis(undecided)}" if undecided else "") + (f", fees {satoshis(fees)}" if fees else "")
     lines = [f"Channel {channel.number}: {said}"]
-    return lines + [f"  {PANEL[name]}: {told.cells.at(cell, last)}" for name, cell in channel.cells.items()]
+    return lines + [f"  {PANEL[name]}: {told.cells.value_at(cell, last)}" for name, cell in channel.cells.items()]
 
 
 def book(lines):
     """What a book has, and what it can claim, in the order in which its claims are to be released."""
     told = []
     for line in lines:
-        told += channel(line) if "channel" in line else [f"The book has {many(line['entries'], 'call')} and {many(line['channels'], 'channel')}."]
+        told += channel(line) if "channel" in line else [f"The book has {quantity(line['entries'], 'call')} and {quantity(line['channels'], 'channel')}."]
     return "".join(f"{it}\n" for it in told)
 
 
 def channel(it):
     """A channel of a book."""
     side, peer = it["side"], PEER[it["side"]]
-    lines = [f"Channel {it['channel']}: {side}'s book, {satoshis(it['capacity'])}, opened by {it['opener']}. {peer} waits {many(it['peer_delay'], 'block')} for its own outputs."]
+    lines = [f"Channel {it['channel']}: {side}'s book, {satoshis(it['capacity'])}, opened by {it['opener']}. {peer} waits {quantity(it['peer_delay'], 'block')} for its own outputs."]
     if it.get("closed") is not None:
         lines.append(f"  {side} closed it with its commitment {it['closed']}.")
     for name, owner in (("ours", side), ("theirs", peer), ("next", peer)):
@@ -56,7 +56,7 @@ def channel(it):
     for htlc in it["htlcs"]:
         lines.append(f"  HTLC {htlc['id']}, {htlc['direction']}: {millisatoshis(htlc['amount'])} until height {htlc['expiry']:,}, in {commitments(htlc)}.")
     for close in it["closes"]:
-        lines += closing(close, side, peer)
+        lines += claim_lines(close, side, peer)
     return lines
 
 
@@ -65,13 +65,13 @@ def commitments(htlc):
     return ", ".join(name for name in ("ours", "theirs", "next") if htlc[name]) or "none"
 
 
-def closing(close, side, peer):
+def claim_lines(close, side, peer):
     """What a side can claim if its peer closes the channel with a commitment."""
     state = {"theirs": "its newest", "next": "the one after its newest", "revoked": "which is revoked"}[close["commitment"]]
     kept = {None: "", True: ", with the penalties kept", False: ", with the penalties not kept yet"}[close["kept"]]
     lines = [f"  If {peer} broadcasts its commitment {close['number']}, {state}{kept}:"]
     for claim in sorted(close["claims"], key=urgency):
-        lines.append(f"    {side} claims {satoshis(claim['value'])} ({output(claim)}) {WAYS[claim['by']]}{lock(claim)}: {alone(claim, peer)}.")
+        lines.append(f"    {side} claims {satoshis(claim['value'])} ({output(claim)}) {WAYS[claim['by']]}{lock(claim)}: {exclusivity(claim, peer)}.")
     if not close["claims"]:
         lines.append(f"    {side} can claim nothing.")
     return lines
@@ -92,7 +92,7 @@ def lock(claim):
     return f" from block {claim['lock'] + 1:,} on" if claim["lock"] is not None else ""
 
 
-def alone(claim, peer):
+def exclusivity(claim, peer):
     """How long an output is a side's alone."""
     return {
         "always": "its own as long as it is unspent",
