@@ -114,7 +114,7 @@ def taken_apart(curve):
         digests, found = Digests(transaction), []
         for index, (kind, given, output, path) in enumerate(zip(kinds, transaction.inputs, spent, paths)):
             code = scripts.key_script(output.program) if scripts.is_key_hash(output.program) else given.witness[-1]
-            found.append(Signed(kind, given, output, path, digests.of(index, code, output.value), curve))
+            found.append(Signed(kind, given, output, path, digests.digest_of(index, code, output.value), curve))
         if not all(it.keys for it in found):
             raise SystemExit("library: the record has no signature of an input")
         yield transaction, found
@@ -125,11 +125,11 @@ def unsigned(transaction, inputs):
     asked = [needs(it.kind, it, transaction.lock_time) for it in inputs]
     made = [Input(it.given.outpoint, b"", sequence, it.blanks()) for it, (_, sequence) in zip(inputs, asked)]
     whole = Transaction(2, made, transaction.outputs, max(height for height, _ in asked))
-    if all(it.kind in AS_SIGNED for it in inputs) and whole.stripped() != Transaction(2, transaction.inputs, transaction.outputs, transaction.lock_time).stripped():
+    if all(it.kind in AS_SIGNED for it in inputs) and whole.stripped_bytes() != Transaction(2, transaction.inputs, transaction.outputs, transaction.lock_time).stripped_bytes():
         raise SystemExit("library: the transaction that was signed is another one")
     digests = Digests(whole)
     lines = [
-        sign_line(index, place, it.keys[place], digests.of(index, it.script, it.spent.value))
+        sign_line(index, place, it.keys[place], digests.digest_of(index, it.script, it.spent.value))
         for index, it in enumerate(inputs)
         for place in sorted(it.keys, reverse=True)
     ]

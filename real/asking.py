@@ -68,10 +68,10 @@ def weight_of(transaction, witnesses):
     signed = Transaction(transaction.version, [Input(it.outpoint, b"", it.sequence) for it in transaction.inputs], transaction.outputs, transaction.lock_time)
     for it, witness in zip(signed.inputs, witnesses):
         it.witness = [SIGNATURE if item is None else bytes.fromhex(item) for item in witness]
-    return 3 * len(signed.stripped()) + len(signed.bytes())
+    return 3 * len(signed.stripped_bytes()) + len(signed.bytes())
 
 
-def planned(told, asked, sequences, lock_time):
+def wanted_plan(told, asked, sequences, lock_time):
     """The plan that `spend` has to print."""
     preimages = {it["payment_hash"]: it["preimage"] for it in told["htlcs"]}
     witnesses = [witness_of(it, preimages) for it in asked["outputs"]]
@@ -90,10 +90,10 @@ def planned(told, asked, sequences, lock_time):
         places = [place for place, item in enumerate(witness) if item is None]
         wanted = [{"item": place, "key": key, "digest": digest} for place, key in zip(reversed(places), keys)]
         told_inputs.append({**{name: it[name] for name in ("value", "program", "script", "path")}, "witness": witness, "signatures": wanted})
-    return {"transaction": transaction.stripped().hex(), "fee": fee, "weight": weight, "inputs": told_inputs}
+    return {"transaction": transaction.stripped_bytes().hex(), "fee": fee, "weight": weight, "inputs": told_inputs}
 
 
-def asked_of_spend(text):
+def spend_answer(text):
     """What `spend` prints, and its status."""
     try:
         ran = subprocess.run([os.path.join(TOP, "spend")], input=text.encode(), capture_output=True, timeout=SECONDS)
@@ -104,11 +104,11 @@ def asked_of_spend(text):
     return ran.stdout.decode(), ran.returncode
 
 
-def changed(asked, **members):
+def changed_request(asked, **members):
     return line({**asked, **members})
 
 
-def keyed(told, prefix, value):
+def keyed_claim(told, prefix, value):
     """A claim on an output whose script has this before a key's check."""
     key = told["terms"]["keys"]["remote_htlcpubkey"]
     script = f"{prefix}21{key}ac"
@@ -120,11 +120,11 @@ def bounds(told):
     """Requests at a bound, each with the refusal of the one beyond it: all the bitcoins there are, and for each kind of destination the least that is no dust."""
     asked, _, _ = next(requests(told))
     late = asked["outputs"][1]
-    whole = {**asked, "outputs": [{**late, "value": MAX_MONEY - 1}, keyed(told, "", 1)], "feerate_per_kw": 0}
-    yield whole, [0, 0], 501, [whole["outputs"][0], keyed(told, "", 2)], "ValueTooLarge", 8
+    whole = {**asked, "outputs": [{**late, "value": MAX_MONEY - 1}, keyed_claim(told, "", 1)], "feerate_per_kw": 0}
+    yield whole, [0, 0], 501, [whole["outputs"][0], keyed_claim(told, "", 2)], "ValueTooLarge", 8
     for destination, dust in DUST:
         paying = {**asked, "outputs": [late], "preimages": [], "destination": destination, "feerate_per_kw": 1000}
-        fee = planned(told, paying, [0], 501)["fee"]
+        fee = wanted_plan(told, paying, [0], 501)["fee"]
         yield {**paying, "outputs": [{**late, "value": fee + dust}]}, [0], 501, [{**late, "value": fee + dust - 1}], "Dust", 10
 
 
@@ -132,38 +132,38 @@ def refusals(told):
     """Requests that `spend` refuses, and how: each refusal, and before the next one where both hold."""
     asked, _, _ = next(requests(told))
     both = asked["outputs"]
-    fee = planned(told, {**asked, "outputs": both[1:], "preimages": [], "feerate_per_kw": 1000}, [0], 501)["fee"]
+    fee = wanted_plan(told, {**asked, "outputs": both[1:], "preimages": [], "feerate_per_kw": 1000}, [0], 501)["fee"]
     fixed = {**both[0], "shell": "02000000" + "01" + both[0]["outpoint"][:64] + "01000000" + "00" + "00000000" + "00" + "00000000"}
     # SIZE, 66, EQUALVERIFY: a token has 66 bytes, and no signature in DER has to
-    measured = keyed(told, "82014288", 2000)
+    measured = keyed_claim(told, "82014288", 2000)
     # CHECKLOCKTIMEVERIFY for height 1, and for the first second of 1985-11-05, which is 500,000,000; CHECKSEQUENCEVERIFY for 512 seconds
-    at_height, at_second, after_seconds = (keyed(told, prefix, 2000) for prefix in ("51b175", "040065cd1db175", "03010040b275"))
+    at_height, at_second, after_seconds = (keyed_claim(told, prefix, 2000) for prefix in ("51b175", "040065cd1db175", "03010040b275"))
     bad = {**both[0], "path": 3}
     # it has the shape of a claim, and no path has the number 1
     least = {"outpoint": "07" * 32 + ":0", "path": 1, "program": "", "script": "51", "shell": None, "slots": [], "value": 0}
     yield "", "NotJson", 1
     yield "{", "NotJson", 1
     yield "[]", "BadShape", 2
-    yield changed(asked, more=1), "BadShape", 2
-    yield changed(asked, feerate_per_kw=-1), "BadShape", 2
-    yield changed(asked, outputs=[]), "BadShape", 2
-    yield changed(asked, outputs=[least] * 4001), "BadShape", 2
-    yield changed(asked, outputs=[bad], destination="51" * 10_001), "BadShape", 2
-    yield changed(asked, outputs=[least] * 4000), "BadClaim", 3
-    yield changed(asked, outputs=[bad], destination="51" * 10_000), "BadClaim", 3
-    yield changed(asked, outputs=[{**both[0], "script": "51"}]), "BadClaim", 3
-    yield changed(asked, outputs=[fixed, bad]), "BadClaim", 3
-    yield changed(asked, outputs=[at_height, at_second]), "BadClaim", 3
-    yield changed(asked, outputs=[after_seconds]), "BadClaim", 3
-    yield changed(asked, outputs=[fixed]), "FixedTransaction", 4
-    yield changed(asked, outputs=[both[0], fixed]), "FixedTransaction", 4
-    yield changed(asked, outputs=[both[0], both[0]]), "SameOutpoint", 5
-    yield changed(asked, outputs=[measured, measured]), "SameOutpoint", 5
-    yield changed(asked, outputs=[both[0], measured], preimages=[]), "MeasuredSignature", 6
-    yield changed(asked, outputs=[both[0], {**both[1], "value": MAX_MONEY}], preimages=[]), "NoPreimage", 7
-    yield changed(asked, outputs=[both[0], {**both[1], "value": MAX_MONEY}]), "ValueTooLarge", 8
-    yield changed(asked, outputs=[{**both[1], "value": fee}], feerate_per_kw=1000), "NothingLeft", 9
-    yield changed(asked, outputs=[{**both[1], "value": fee + 1}], feerate_per_kw=1000), "Dust", 10
+    yield changed_request(asked, more=1), "BadShape", 2
+    yield changed_request(asked, feerate_per_kw=-1), "BadShape", 2
+    yield changed_request(asked, outputs=[]), "BadShape", 2
+    yield changed_request(asked, outputs=[least] * 4001), "BadShape", 2
+    yield changed_request(asked, outputs=[bad], destination="51" * 10_001), "BadShape", 2
+    yield changed_request(asked, outputs=[least] * 4000), "BadClaim", 3
+    yield changed_request(asked, outputs=[bad], destination="51" * 10_000), "BadClaim", 3
+    yield changed_request(asked, outputs=[{**both[0], "script": "51"}]), "BadClaim", 3
+    yield changed_request(asked, outputs=[fixed, bad]), "BadClaim", 3
+    yield changed_request(asked, outputs=[at_height, at_second]), "BadClaim", 3
+    yield changed_request(asked, outputs=[after_seconds]), "BadClaim", 3
+    yield changed_request(asked, outputs=[fixed]), "FixedTransaction", 4
+    yield changed_request(asked, outputs=[both[0], fixed]), "FixedTransaction", 4
+    yield changed_request(asked, outputs=[both[0], both[0]]), "SameOutpoint", 5
+    yield changed_request(asked, outputs=[measured, measured]), "SameOutpoint", 5
+    yield changed_request(asked, outputs=[both[0], measured], preimages=[]), "MeasuredSignature", 6
+    yield changed_request(asked, outputs=[both[0], {**both[1], "value": MAX_MONEY}], preimages=[]), "NoPreimage", 7
+    yield changed_request(asked, outputs=[both[0], {**both[1], "value": MAX_MONEY}]), "ValueTooLarge", 8
+    yield changed_request(asked, outputs=[{**both[1], "value": fee}], feerate_per_kw=1000), "NothingLeft", 9
+    yield changed_request(asked, outputs=[{**both[1], "value": fee + 1}], feerate_per_kw=1000), "Dust", 10
     yield " " * 4_194_305, "TooLong", 12
 
 
@@ -171,18 +171,18 @@ def ask(count):
     """Each plan is the one that is worked out here, and each refusal the one that is wanted."""
     told = bolt3.read()
     for asked, sequences, lock_time in requests(told):
-        found = asked_of_spend(line(asked))
-        count.check(found == (line(planned(told, asked, sequences, lock_time)), 0), f"a plan: {found}")
+        found = spend_answer(line(asked))
+        count.check(found == (line(wanted_plan(told, asked, sequences, lock_time)), 0), f"a plan: {found}")
     beyond = []
     for asked, sequences, lock_time, outputs, name, number in bounds(told):
-        found = asked_of_spend(line(asked))
-        count.check(found == (line(planned(told, asked, sequences, lock_time)), 0), f"a plan at a bound: {found}")
-        beyond.append((changed(asked, outputs=outputs), name, number))
+        found = spend_answer(line(asked))
+        count.check(found == (line(wanted_plan(told, asked, sequences, lock_time)), 0), f"a plan at a bound: {found}")
+        beyond.append((changed_request(asked, outputs=outputs), name, number))
     for text, name, number in (*refusals(told), *beyond):
-        found = asked_of_spend(text)
+        found = spend_answer(text)
         count.check(found == (line({"refused": name, "number": number}), 1), f"a refusal that is to be {name}: {found}")
 
 
 if __name__ == "__main__":
     for each in requests(bolt3.read()):
-        print(line(each[0]), line(planned(bolt3.read(), *each)), sep="")
+        print(line(each[0]), line(wanted_plan(bolt3.read(), *each)), sep="")

@@ -35,10 +35,10 @@ def input_fields(index, spent, outpoint):
 def make(plan):
     """The partially signed transaction of a plan, without a signature."""
     inputs = [input_fields(index, it, given.outpoint) for index, (it, given) in enumerate(zip(plan.inputs, plan.transaction.inputs))]
-    return Partial(plan.transaction, {key_of(partial.UNSIGNED_TX): plan.transaction.stripped()}, inputs, [{} for _ in plan.transaction.outputs])
+    return Partial(plan.transaction, {key_of(partial.UNSIGNED_TX): plan.transaction.stripped_bytes()}, inputs, [{} for _ in plan.transaction.outputs])
 
 
-def checked(wanted, item, curve, place):
+def checked_signature(wanted, item, curve, place):
     """A signature of the wanted key over the wanted digest, with hash type ALL and a low s."""
     if not signatures.is_strict_der(item):
         raise Refused(f"BadSignature {place}")
@@ -51,21 +51,21 @@ def checked(wanted, item, curve, place):
     return item
 
 
-def formed_of(fields):
+def formed_items(fields):
     """The items of an input's final witness that have the form of a signature with hash type ALL."""
     return [it for it in partial.final_witness(fields) or [] if signatures.is_strict_der(it) and it[-1] == signatures.ALL]
 
 
 def fill(index, spent, fields, curve):
     """The witness of an input, with its signatures in their places."""
-    witness, partials, formed = list(spent.witness), partial.with_kind(fields, partial.PARTIAL_SIG), formed_of(fields)
+    witness, partials, formed = list(spent.witness), partial.with_kind(fields, partial.PARTIAL_SIG), formed_items(fields)
     for it in spent.wanted:
         found = partials.get(it.key)
         if found is None:
             found = next((each for each in formed if curve.verify(it.key, it.digest, each[:-1])), None)
         if found is None:
             raise Refused(f"MissingSignature {index} {it.key.hex()}")
-        witness[it.item] = checked(it, found, curve, f"{index} {it.key.hex()}")
+        witness[it.item] = checked_signature(it, found, curve, f"{index} {it.key.hex()}")
     return witness
 
 
@@ -85,9 +85,9 @@ def check_fields(index, spent, partially):
 
 def finish(plan, partially, curve):
     """The signed transaction of a plan, with the signatures of a partially signed one."""
-    if partially.transaction.stripped() != plan.transaction.stripped():
+    if partially.transaction.stripped_bytes() != plan.transaction.stripped_bytes():
         raise Refused("OtherSpend")
-    if sum(len(it.wanted) * len(formed_of(fields)) for it, fields in zip(plan.inputs, partially.inputs)) > MAX_CHECKS:
+    if sum(len(it.wanted) * len(formed_items(fields)) for it, fields in zip(plan.inputs, partially.inputs)) > MAX_CHECKS:
         raise Refused("TooManyChecks")
     for index, spent in enumerate(plan.inputs):
         check_fields(index, spent, partially)

@@ -19,7 +19,7 @@ def read():
         return json.load(file)
 
 
-def signed(raw, items, script, value):
+def signed_transaction(raw, items, script, value):
     """A transaction with one input, which has these items and this script."""
     found = read_transaction(bytes.fromhex(raw), marked=False)
     found.inputs[0].witness = [*items, script]
@@ -36,7 +36,7 @@ def commitments(told):
         ours, theirs = signatures_of(case, "local_signature_der", "remote_signature_der")
         items = [b"", ours, theirs] if told["terms"]["keys"]["local_funding_pubkey"] < told["terms"]["keys"]["remote_funding_pubkey"] else [b"", theirs, ours]
         script = bytes.fromhex(case["funding_witness_script"])
-        yield case["name"], *signed(case["unsigned_tx_no_witness"], items, script, told["terms"]["funding_amount_sat"]), FUNDING_SCRIPT_END, 0
+        yield case["name"], *signed_transaction(case["unsigned_tx_no_witness"], items, script, told["terms"]["funding_amount_sat"]), FUNDING_SCRIPT_END, 0
 
 
 def htlc_transactions(told):
@@ -47,11 +47,11 @@ def htlc_transactions(told):
             output = case["outputs"][it["commitment_output_index"]]
             success = it["kind"] == "success"
             items = [b"", *signatures_of(it, "remote_htlc_signature_der", "local_htlc_signature_der"), preimages[it["htlc"]] if success else b""]
-            found = signed(it["unsigned_tx_no_witness"], items, bytes.fromhex(output["witness_script"]), output["value_sat"])
+            found = signed_transaction(it["unsigned_tx_no_witness"], items, bytes.fromhex(output["witness_script"]), output["value_sat"])
             yield f"{case['name']}: HTLC {it['htlc']}", *found, RECEIVED_END if success else OFFERED_END, 1
 
 
-def changed(name, transaction, spent, end):
+def changed_rows(name, transaction, spent, end):
     """The transaction with a changed signature, amount and order: each leaves a false entry at the end."""
     answer = [{"answer": "stops", "reason": "FalseEnd", "opcode": end}]
     items = transaction.inputs[0].witness
@@ -73,7 +73,7 @@ def rows():
     for name, transaction, spent, end, path in [*commitments(told), *htlc_transactions(told)]:
         items = transaction.inputs[0].witness
         yield row(name, transaction, items, spent, [{"answer": "clean", "path": path, "relay": []}])
-        yield from changed(name, transaction, spent, end)
+        yield from changed_rows(name, transaction, spent, end)
 
 
 def vectors():

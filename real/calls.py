@@ -29,26 +29,26 @@ CLEAN = {**CLEAN, "signatures": [], "digest": ONE.digest(0, SCRIPT, 5).hex(), "r
 WHOLE = {"txid": ONE.txid(), "wtxid": ONE.wtxid(), "inputs": 1, "outputs": 1, "fee": 1, "faults": []}
 
 
-def bare():
+def bare_transaction():
     return Transaction(2, [Input(OUTPOINT, b"", 0)], [Output(4, b"\x51")], 0)
 
 
-def partially(fields=None, whole=None, before=b""):
+def partial_base64(fields=None, whole=None, before=b""):
     """A partially signed transaction of one input with these fields, in base64."""
-    own = {key_of(0): before or bare().stripped(), **(whole or {})}
-    return Partial(bare(), own, [fields or {}], [{}]).base64()
+    own = {key_of(0): before or bare_transaction().stripped_bytes(), **(whole or {})}
+    return Partial(bare_transaction(), own, [fields or {}], [{}]).base64()
 
 
 def line(value):
     return json.dumps(value, separators=(",", ":")) + "\n"
 
 
-def settled(reason, says):
+def settled_line(reason, says):
     """The line of the one input where it is not judged."""
     return line({"input": 0, "outpoint": CLEAN["outpoint"], "answer": "not judged", "reason": reason, "says": says})
 
 
-def refused(name):
+def refused_line(name):
     return line({"refused": name})
 
 
@@ -62,61 +62,66 @@ FINAL = {key_of(FINAL_SCRIPTWITNESS): b"\x01" + text(SCRIPT)}
 UNSIGNED = {**WHOLE, "wtxid": ONE.txid()}
 UNKNOWN = {**UNSIGNED, "fee": None}
 HEX = ONE.bytes().hex()
-STRIPPED = ONE.stripped().hex()
+STRIPPED = ONE.stripped_bytes().hex()
 TOKEN = Transaction(2, [Input(OUTPOINT, b"", 0, [b"\x03" + bytes(64) + b"\x01", SCRIPT])], [], 0).bytes().hex()
 MANY = "ff" + "ff" * 8
 
 JUDGE = [
-    ("", "", refused("Truncated"), 1),
+    ("", "", refused_line("Truncated"), 1),
     ("--text", "", "refused Truncated\n", 1),
-    ("", "zz", refused("BadHex"), 1),
-    ("", "0", refused("BadHex"), 1),
-    ("", b"\xff\xfe", refused("BadHex"), 1),
+    ("", "zz", refused_line("BadHex"), 1),
+    ("", "0", refused_line("BadHex"), 1),
+    ("", b"\xff\xfe", refused_line("BadHex"), 1),
     (BY_RECORD, LINES, line(WHOLE) + line(CLEAN), 0),
     (BY_RECORD, LINES.replace("\n", "\r\n") + "\n", line(WHOLE) + line(CLEAN), 0),
     (BY_RECORD, LINES.upper(), line(WHOLE) + line(CLEAN), 0),
     (BY_RECORD, f"{HEX}\n3 {PROGRAM.hex()}", line(OVER) + line({**CLEAN, "digest": ONE.digest(0, SCRIPT, 3).hex()}), 1),
     (BY_RECORD, f"{TWICE.bytes().hex()}\n5 {PROGRAM.hex()}\n5 {PROGRAM.hex()}", line(TWICE_TOLD) + BOTH, 1),
-    ("", HEX, refused("BadCount"), 1),
-    ("", LINES + f"5 {PROGRAM.hex()}", refused("BadCount"), 1),
-    ("", f"{HEX}\n5", refused("BadLine 2"), 1),
-    ("", f"{HEX}\n5  {PROGRAM.hex()}", refused("BadLine 2"), 1),
-    ("", f"{HEX}\n-5 {PROGRAM.hex()}", refused("BadLine 2"), 1),
-    ("", f"{HEX}\n0.5 {PROGRAM.hex()}", refused("BadLine 2"), 1),
-    ("", f"{HEX}\n2100000000000001 {PROGRAM.hex()}", refused("BadLine 2"), 1),
-    ("", f"{HEX}\n{'9' * 5000} {PROGRAM.hex()}", refused("BadLine 2"), 1),
-    ("", f"{HEX}\n5 bc1q", refused("BadLine 2"), 1),
-    ("", HEX[:-2], refused("Truncated"), 1),
-    ("", HEX + "00", refused("Trailing"), 1),
-    ("", f"02000000{MANY}", refused("Truncated"), 1),
-    ("", "02000000" + "01" + "00" * 36 + MANY, refused("Truncated"), 1),
-    ("", "02000000" + "fd0100" + "00" * 36, refused("LongCount"), 1),
-    ("", "020000000002" + HEX[12:], refused("BadMarker"), 1),
-    ("", "020000000001" + "00" + "00" + "00000000", refused("NoInputs"), 1),
-    ("", STRIPPED[:8] + "0001" + STRIPPED[8:-8] + "00" + STRIPPED[-8:], refused("NoWitness"), 1),
-    ("", "02000000" + "01" + "00" * 41 + "01" + (MAX_MONEY + 1).to_bytes(8, "little").hex() + "00" + "00000000", refused("ValueTooLarge"), 1),
-    ("", TOKEN, refused("BadCount"), 1),
-    ("", f"{TOKEN}\n5 51", refused("ForgedToken 0 0"), 1),
-    ("", "00" * 4_194_305, refused("TooLong"), 1),
-    ("", MAGIC, refused("Truncated"), 1),
-    ("", "cHNidP8=", refused("Truncated"), 1),
-    ("", "cHNidP\xe9", refused("BadBase64"), 1),
-    ("", "cHNidP8", refused("BadBase64"), 1),
-    ("", partially(whole={key_of(VERSION): b"\x02\x00\x00\x00"}), refused("PsbtVersion 2"), 1),
-    ("", partially(whole={key_of(VERSION): b"\x02"}), refused("BadField VERSION"), 1),
-    ("", (MAGIC + b"\x00").hex(), refused("NoTransaction"), 1),
-    ("", MAGIC + (b"\x01\x00" + text(bare().stripped())) * 2 + b"\x00" * 3, refused("DuplicateField"), 1),
-    ("", partially(before=ONE.bytes()), refused("SignedTransaction"), 1),
-    ("", partially({key_of(WITNESS_UTXO, b"\x01"): b""}), refused(f"BadField {WITNESS_UTXO}"), 1),
-    ("", partially({key_of(WITNESS_UTXO): b"\x05"}), refused("Truncated"), 1),
-    ("", partially({key_of(NON_WITNESS_UTXO): ONE.bytes()}), refused("OtherTransaction 0"), 1),
-    ("", partially({**FINAL, key_of(NON_WITNESS_UTXO): BEFORE.bytes(), key_of(WITNESS_UTXO): output_field(Output(6, PROGRAM))}), refused("OtherOutput 0"), 1),
-    (BY_RECORD, partially({**FINAL, **UTXO}), line(WHOLE) + line(CLEAN), 0),
-    (BY_RECORD, base64.b64decode(partially({**FINAL, key_of(NON_WITNESS_UTXO): BEFORE.bytes()})), line(WHOLE) + line(CLEAN), 0),
-    (BY_RECORD, partially({key_of(0x13): b""}), line(UNKNOWN) + settled("TaprootFields", "the input has the fields TAP_KEY_SIG (BIP 371)"), 1),
-    (BY_RECORD, partially(FINAL), line({**WHOLE, "fee": None}) + settled("NoOutput", "neither WITNESS_UTXO nor NON_WITNESS_UTXO tells what the input spends"), 1),
-    (BY_RECORD, partially(UTXO), line(UNSIGNED) + settled("NotFinal", "the input has no FINAL_SCRIPTWITNESS; real/psbt finish makes it from signatures"), 1),
-    (BY_RECORD, partially({key_of(WITNESS_UTXO): output_field(Output(5, b"\x51"))}), line(UNSIGNED) + settled("LegacyInput", "the output is no witness program (BIP 141)"), 1),
+    ("", HEX, refused_line("BadCount"), 1),
+    ("", LINES + f"5 {PROGRAM.hex()}", refused_line("BadCount"), 1),
+    ("", f"{HEX}\n5", refused_line("BadLine 2"), 1),
+    ("", f"{HEX}\n5  {PROGRAM.hex()}", refused_line("BadLine 2"), 1),
+    ("", f"{HEX}\n-5 {PROGRAM.hex()}", refused_line("BadLine 2"), 1),
+    ("", f"{HEX}\n0.5 {PROGRAM.hex()}", refused_line("BadLine 2"), 1),
+    ("", f"{HEX}\n2100000000000001 {PROGRAM.hex()}", refused_line("BadLine 2"), 1),
+    ("", f"{HEX}\n{'9' * 5000} {PROGRAM.hex()}", refused_line("BadLine 2"), 1),
+    ("", f"{HEX}\n5 bc1q", refused_line("BadLine 2"), 1),
+    ("", HEX[:-2], refused_line("Truncated"), 1),
+    ("", HEX + "00", refused_line("Trailing"), 1),
+    ("", f"02000000{MANY}", refused_line("Truncated"), 1),
+    ("", "02000000" + "01" + "00" * 36 + MANY, refused_line("Truncated"), 1),
+    ("", "02000000" + "fd0100" + "00" * 36, refused_line("LongCount"), 1),
+    ("", "020000000002" + HEX[12:], refused_line("BadMarker"), 1),
+    ("", "020000000001" + "00" + "00" + "00000000", refused_line("NoInputs"), 1),
+    ("", STRIPPED[:8] + "0001" + STRIPPED[8:-8] + "00" + STRIPPED[-8:], refused_line("NoWitness"), 1),
+    ("", "02000000" + "01" + "00" * 41 + "01" + (MAX_MONEY + 1).to_bytes(8, "little").hex() + "00" + "00000000", refused_line("ValueTooLarge"), 1),
+    ("", TOKEN, refused_line("BadCount"), 1),
+    ("", f"{TOKEN}\n5 51", refused_line("ForgedToken 0 0"), 1),
+    ("", "00" * 4_194_305, refused_line("TooLong"), 1),
+    ("", MAGIC, refused_line("Truncated"), 1),
+    ("", "cHNidP8=", refused_line("Truncated"), 1),
+    ("", "cHNidP\xe9", refused_line("BadBase64"), 1),
+    ("", "cHNidP8", refused_line("BadBase64"), 1),
+    ("", partial_base64(whole={key_of(VERSION): b"\x02\x00\x00\x00"}), refused_line("PsbtVersion 2"), 1),
+    ("", partial_base64(whole={key_of(VERSION): b"\x02"}), refused_line("BadField VERSION"), 1),
+    ("", (MAGIC + b"\x00").hex(), refused_line("NoTransaction"), 1),
+    ("", MAGIC + (b"\x01\x00" + text(bare_transaction().stripped_bytes())) * 2 + b"\x00" * 3, refused_line("DuplicateField"), 1),
+    ("", partial_base64(before=ONE.bytes()), refused_line("SignedTransaction"), 1),
+    ("", partial_base64({key_of(WITNESS_UTXO, b"\x01"): b""}), refused_line(f"BadField {WITNESS_UTXO}"), 1),
+    ("", partial_base64({key_of(WITNESS_UTXO): b"\x05"}), refused_line("Truncated"), 1),
+    ("", partial_base64({key_of(NON_WITNESS_UTXO): ONE.bytes()}), refused_line("OtherTransaction 0"), 1),
+    ("", partial_base64({**FINAL, key_of(NON_WITNESS_UTXO): BEFORE.bytes(), key_of(WITNESS_UTXO): output_field(Output(6, PROGRAM))}), refused_line("OtherOutput 0"), 1),
+    (BY_RECORD, partial_base64({**FINAL, **UTXO}), line(WHOLE) + line(CLEAN), 0),
+    (BY_RECORD, base64.b64decode(partial_base64({**FINAL, key_of(NON_WITNESS_UTXO): BEFORE.bytes()})), line(WHOLE) + line(CLEAN), 0),
+    (BY_RECORD, partial_base64({key_of(0x13): b""}), line(UNKNOWN) + settled_line("TaprootFields", "the input has the fields TAP_KEY_SIG (BIP 371)"), 1),
+    (BY_RECORD, partial_base64(FINAL), line({**WHOLE, "fee": None}) + settled_line("NoOutput", "neither WITNESS_UTXO nor NON_WITNESS_UTXO tells what the input spends"), 1),
+    (BY_RECORD, partial_base64(UTXO), line(UNSIGNED) + settled_line("NotFinal", "the input has no FINAL_SCRIPTWITNESS; real/psbt finish makes it from signatures"), 1),
+    (
+        BY_RECORD,
+        partial_base64({key_of(WITNESS_UTXO): output_field(Output(5, b"\x51"))}),
+        line(UNSIGNED) + settled_line("LegacyInput", "the output is no witness program (BIP 141)"),
+        1,
+    ),
     ("--texts", "", USAGES["judge"], 2),
     ("--recorded", "", USAGES["judge"], 2),
     (f"{BY_RECORD} --text", "", USAGES["judge"], 2),
@@ -125,16 +130,20 @@ JUDGE = [
 # an opcode that the machine does not know
 BAD_SCRIPT = b"\x51\xa8"
 BAD_PROGRAM = b"\x00\x20" + sha256(BAD_SCRIPT)
-PLAN = {"transaction": bare().stripped().hex(), "fee": 1, "inputs": [{"value": 5, "program": PROGRAM.hex(), "script": "51", "witness": ["51"], "signatures": []}]}
-MADE = partially({**UTXO, key_of(SIGHASH_TYPE): b"\x01\x00\x00\x00", key_of(WITNESS_SCRIPT): SCRIPT})
+PLAN = {
+    "transaction": bare_transaction().stripped_bytes().hex(),
+    "fee": 1,
+    "inputs": [{"value": 5, "program": PROGRAM.hex(), "script": "51", "witness": ["51"], "signatures": []}],
+}
+MADE = partial_base64({**UTXO, key_of(SIGHASH_TYPE): b"\x01\x00\x00\x00", key_of(WITNESS_SCRIPT): SCRIPT})
 
 
-def changed(**members):
+def changed_plan(**members):
     return json.dumps({**PLAN, **members})
 
 
 def other_input(**members):
-    return changed(inputs=[{**PLAN["inputs"][0], **members}])
+    return changed_plan(inputs=[{**PLAN["inputs"][0], **members}])
 
 
 PSBT = [
@@ -145,16 +154,16 @@ PSBT = [
     ("make", b"\xff", "refused NotJson\n", 1),
     ("make", '{"fee":1,"fee":1}', "refused NotJson\n", 1),
     ("make", "[]", "refused BadShape plan\n", 1),
-    ("make", changed(transaction=5), "refused BadShape transaction\n", 1),
-    ("make", changed(transaction="00"), "refused Truncated\n", 1),
-    ("make", changed(transaction=HEX), "refused NoInputs\n", 1),
-    ("make", changed(fee=True), "refused BadShape fee\n", 1),
-    ("make", changed(fee=2), "refused OtherFee\n", 1),
-    ("make", changed(inputs=[]), "refused OtherInputs\n", 1),
-    ("make", changed(inputs=[5]), "refused BadShape inputs[0]\n", 1),
+    ("make", changed_plan(transaction=5), "refused BadShape transaction\n", 1),
+    ("make", changed_plan(transaction="00"), "refused Truncated\n", 1),
+    ("make", changed_plan(transaction=HEX), "refused NoInputs\n", 1),
+    ("make", changed_plan(fee=True), "refused BadShape fee\n", 1),
+    ("make", changed_plan(fee=2), "refused OtherFee\n", 1),
+    ("make", changed_plan(inputs=[]), "refused OtherInputs\n", 1),
+    ("make", changed_plan(inputs=[5]), "refused BadShape inputs[0]\n", 1),
     ("make", other_input(value=-1), "refused BadShape inputs[0].value\n", 1),
     ("make", other_input(value=10**4000), "refused BadShape inputs[0].value\n", 1),
-    ("make", changed(fee=10**4000), "refused BadShape fee\n", 1),
+    ("make", changed_plan(fee=10**4000), "refused BadShape fee\n", 1),
     ("make", json.dumps(PLAN).replace('"fee": 1', '"fee": ' + "9" * 1_000_000), "refused BadShape fee\n", 1),
     ("make", json.dumps(PLAN).replace('"fee": 1', '"fee": 1e0'), "refused BadShape fee\n", 1),
     ("make", other_input(program=BAD_PROGRAM.hex(), script=BAD_SCRIPT.hex(), witness=[BAD_SCRIPT.hex()]), "refused BadScript 0\n", 1),
@@ -168,8 +177,8 @@ PSBT = [
     ("make", other_input(witness=[None, "51"], signatures=[{"item": 0, "key": "02" * 33, "digest": "00" * 32}]), "refused OtherDigest 0\n", 1),
     ("make", other_input(previous=HEX), "refused OtherTransaction 0\n", 1),
     ("make", other_input(derivations=[{"key": "02" * 33, "fingerprint": "00000000", "path": "m/x"}]), "refused BadShape inputs[0].derivations[0].path\n", 1),
-    ("make", changed(fees=1), "refused BadShape fees\n", 1),
-    ("make", changed(weight="951"), "refused BadShape weight\n", 1),
+    ("make", changed_plan(fees=1), "refused BadShape fees\n", 1),
+    ("make", changed_plan(weight="951"), "refused BadShape weight\n", 1),
     ("make", other_input(path=0), MADE + "\n", 0),
     ("make", other_input(path="0"), "refused BadShape inputs[0].path\n", 1),
     ("make", other_input(prevoius=HEX), "refused BadShape inputs[0].prevoius\n", 1),
@@ -178,26 +187,26 @@ PSBT = [
     ("make", other_input(derivations=[{"key": "02" * 33, "fingerprint": "00000000", "path": "m/1", "root": 1}]), "refused BadShape inputs[0].derivations[0].root\n", 1),
     (f"finish {BY_RECORD}", json.dumps(PLAN), "refused BadMagic\n", 1),
     (f"finish {BY_RECORD}", f"{json.dumps(PLAN)}\n{MADE}", LINES, 0),
-    (f"finish {BY_RECORD}", f"{json.dumps(PLAN)}\n{partially({key_of(0x13): b''})}", "refused TaprootField 0 TAP_KEY_SIG\n", 1),
-    (f"finish {BY_RECORD}", f"{json.dumps(PLAN)}\n{partially({key_of(SIGHASH_TYPE): bytes.fromhex('83000000')})}", "refused HashType 0\n", 1),
-    (f"finish {BY_RECORD}", f"{json.dumps(PLAN)}\n{partially({key_of(WITNESS_SCRIPT): bytes.fromhex('52')})}", "refused OtherScript 0\n", 1),
-    (f"finish {BY_RECORD}", f"{json.dumps(PLAN)}\n{partially({key_of(WITNESS_UTXO): output_field(Output(6, PROGRAM))})}", "refused OtherOutput 0\n", 1),
+    (f"finish {BY_RECORD}", f"{json.dumps(PLAN)}\n{partial_base64({key_of(0x13): b''})}", "refused TaprootField 0 TAP_KEY_SIG\n", 1),
+    (f"finish {BY_RECORD}", f"{json.dumps(PLAN)}\n{partial_base64({key_of(SIGHASH_TYPE): bytes.fromhex('83000000')})}", "refused HashType 0\n", 1),
+    (f"finish {BY_RECORD}", f"{json.dumps(PLAN)}\n{partial_base64({key_of(WITNESS_SCRIPT): bytes.fromhex('52')})}", "refused OtherScript 0\n", 1),
+    (f"finish {BY_RECORD}", f"{json.dumps(PLAN)}\n{partial_base64({key_of(WITNESS_UTXO): output_field(Output(6, PROGRAM))})}", "refused OtherOutput 0\n", 1),
     ("", "", USAGES["psbt"], 2),
     ("make now", "", USAGES["psbt"], 2),
     (f"make {BY_RECORD}", "", USAGES["psbt"], 2),
 ]
 # a private key of BOLT 3's Appendix C, which everybody knows
 KNOWN_KEY = "bb13b121cdc357cd2e608b0aea294afca36e2b34cf958e2e6451a2f274694491"
-BAD = partially({key_of(WITNESS_UTXO): output_field(Output(5, BAD_PROGRAM)), key_of(WITNESS_SCRIPT): BAD_SCRIPT})
+BAD = partial_base64({key_of(WITNESS_UTXO): output_field(Output(5, BAD_PROGRAM)), key_of(WITNESS_SCRIPT): BAD_SCRIPT})
 SIGN = [
     ("", "", "refused BadMagic\n", 1),
     ("", MADE, "refused NoKey\n", 1),
     (BY_RECORD, f"{BAD}\n{KNOWN_KEY}", "refused BadScript 0\n", 1),
-    (BY_RECORD, f"{partially()}\n{KNOWN_KEY}", "refused NoOutput 0\n", 1),
-    (BY_RECORD, f"{partially(UTXO)}\n{KNOWN_KEY}", "refused NoScript 0\n", 1),
-    (BY_RECORD, f"{partially({**UTXO, key_of(WITNESS_SCRIPT): BAD_SCRIPT})}\n{KNOWN_KEY}", "refused OtherScript 0\n", 1),
-    (BY_RECORD, f"{partially({**UTXO, key_of(0x17): b''})}\n{KNOWN_KEY}", "refused TaprootField 0 TAP_INTERNAL_KEY\n", 1),
-    (BY_RECORD, f"{partially({**UTXO, key_of(SIGHASH_TYPE): bytes.fromhex('02000000')})}\n{KNOWN_KEY}", "refused HashType 0\n", 1),
+    (BY_RECORD, f"{partial_base64()}\n{KNOWN_KEY}", "refused NoOutput 0\n", 1),
+    (BY_RECORD, f"{partial_base64(UTXO)}\n{KNOWN_KEY}", "refused NoScript 0\n", 1),
+    (BY_RECORD, f"{partial_base64({**UTXO, key_of(WITNESS_SCRIPT): BAD_SCRIPT})}\n{KNOWN_KEY}", "refused OtherScript 0\n", 1),
+    (BY_RECORD, f"{partial_base64({**UTXO, key_of(0x17): b''})}\n{KNOWN_KEY}", "refused TaprootField 0 TAP_INTERNAL_KEY\n", 1),
+    (BY_RECORD, f"{partial_base64({**UTXO, key_of(SIGHASH_TYPE): bytes.fromhex('02000000')})}\n{KNOWN_KEY}", "refused HashType 0\n", 1),
     (BY_RECORD, f"{MADE}\n{KNOWN_KEY}", "refused UnusedKey 0\n", 1),
     ("", f"{MADE}\n07", "refused BadKey 0\n", 1),
     ("", f"{MADE}\n{'0g' * 32}", "refused BadKey 0\n", 1),
@@ -214,46 +223,46 @@ PAYMENTS = {"opener_payment": BACKUP["bases"]["owner_htlc"], "other_payment": BA
 NUMBER = {"transaction": SEEN.txid(), "commitment_number": 42, "secret_index": 281_474_976_710_613}
 
 
-def seen(*places):
+def seen_transaction(*places):
     """The transaction of the page with some of its outputs (the second is to_remote); a value may be told."""
     outputs = [Output(value or SEEN.outputs[at].value, SEEN.outputs[at].program) for at, value in places]
     return Transaction(SEEN.version, SEEN.inputs, outputs, SEEN.lock_time)
 
 
-def revoked(transaction, *keys, **members):
+def state_lines(transaction, *keys, **members):
     """What real/revoked reads."""
-    return "\n".join([json.dumps({**BACKUP, "transaction": transaction.stripped().hex(), **members}), *keys])
+    return "\n".join([json.dumps({**BACKUP, "transaction": transaction.stripped_bytes().hex(), **members}), *keys])
 
 
-def told(transaction, *answers, taken=(), too_little=(), no_key=(), others=()):
+def answer_lines(transaction, *answers, taken=(), too_little=(), no_key=(), others=()):
     """What real/revoked prints where it makes no transaction."""
     last = {"transaction": transaction.txid(), "taken": [*taken], "too_little": [*too_little], "no_key": [*no_key], "others": [*others]}
     return "".join(map(line, [*answers, last]))
 
 
 # to_remote alone, with one satoshi less than what is passed on, and among outputs of nobody's
-REMOTE, LITTLE, NOBODYS = seen((1, None)), seen((1, 111 + 293)), Transaction(2, SEEN.inputs, [Output(5, b"\x51")], 0)
+REMOTE, LITTLE, NOBODYS = seen_transaction((1, None)), seen_transaction((1, 111 + 293)), Transaction(2, SEEN.inputs, [Output(5, b"\x51")], 0)
 ANSWER = {"outputs": [0], "kinds": ["to_remote"], "value": 3_000_000, "fee": 111}
 NO_PAYMENT = {**ANSWER, "answer": "no key", "deadline_blocks": None, "key": "payment"}
 REVOKED = [
-    ("--number", json.dumps({"transaction": SEEN.stripped().hex(), **PAYMENTS}), line(NUMBER), 0),
-    ("--number", "", refused("NotJson"), 1),
-    ("--number", json.dumps({"transaction": HEX, **PAYMENTS}), refused("NotCommitment"), 1),
-    ("--number", json.dumps({"transaction": HEX[:-2], **PAYMENTS}), refused("Truncated"), 1),
-    ("--number", json.dumps({**PAYMENTS, "transaction": HEX, "opener_payment": "02" * 32}), refused("BadShape seen.opener_payment"), 1),
-    ("--number", revoked(SEEN), refused("BadShape seen.secret"), 1),
-    ("", "", refused("NotJson"), 1),
-    (BY_RECORD, revoked(SEEN), refused("NoKey"), 1),
-    (BY_RECORD, revoked(SEEN, "07"), refused("BadKey 0"), 1),
-    (BY_RECORD, revoked(SEEN, "0g" * 32), refused("BadKey 0"), 1),
-    (BY_RECORD, revoked(SEEN, PAYMENT_KEY, confirmed_height=502), refused("BadShape state.confirmed_height"), 1),
-    (BY_RECORD, revoked(SEEN, PAYMENT_KEY, confirmed_hieght=501), refused("BadShape state.confirmed_hieght"), 1),
-    (BY_RECORD, revoked(SEEN, PAYMENT_KEY, destination="6a"), refused("BadShape state.destination"), 1),
-    (BY_RECORD, revoked(SEEN, PAYMENT_KEY, secret="zz"), refused("BadShape state.secret"), 1),
-    (BY_RECORD, revoked(REMOTE, REVOCATION_KEY), told(REMOTE, NO_PAYMENT, no_key=[0]), 1),
-    (f"--one {BY_RECORD}", revoked(REMOTE, REVOCATION_KEY), told(REMOTE, NO_PAYMENT, no_key=[0]), 1),
-    (BY_RECORD, revoked(LITTLE, PAYMENT_KEY), told(LITTLE, {**ANSWER, "value": 404, "answer": "too little to be passed on"}, too_little=[0]), 0),
-    (BY_RECORD, revoked(NOBODYS, PAYMENT_KEY), told(NOBODYS, others=[0]), 1),
+    ("--number", json.dumps({"transaction": SEEN.stripped_bytes().hex(), **PAYMENTS}), line(NUMBER), 0),
+    ("--number", "", refused_line("NotJson"), 1),
+    ("--number", json.dumps({"transaction": HEX, **PAYMENTS}), refused_line("NotCommitment"), 1),
+    ("--number", json.dumps({"transaction": HEX[:-2], **PAYMENTS}), refused_line("Truncated"), 1),
+    ("--number", json.dumps({**PAYMENTS, "transaction": HEX, "opener_payment": "02" * 32}), refused_line("BadShape seen.opener_payment"), 1),
+    ("--number", state_lines(SEEN), refused_line("BadShape seen.secret"), 1),
+    ("", "", refused_line("NotJson"), 1),
+    (BY_RECORD, state_lines(SEEN), refused_line("NoKey"), 1),
+    (BY_RECORD, state_lines(SEEN, "07"), refused_line("BadKey 0"), 1),
+    (BY_RECORD, state_lines(SEEN, "0g" * 32), refused_line("BadKey 0"), 1),
+    (BY_RECORD, state_lines(SEEN, PAYMENT_KEY, confirmed_height=502), refused_line("BadShape state.confirmed_height"), 1),
+    (BY_RECORD, state_lines(SEEN, PAYMENT_KEY, confirmed_hieght=501), refused_line("BadShape state.confirmed_hieght"), 1),
+    (BY_RECORD, state_lines(SEEN, PAYMENT_KEY, destination="6a"), refused_line("BadShape state.destination"), 1),
+    (BY_RECORD, state_lines(SEEN, PAYMENT_KEY, secret="zz"), refused_line("BadShape state.secret"), 1),
+    (BY_RECORD, state_lines(REMOTE, REVOCATION_KEY), answer_lines(REMOTE, NO_PAYMENT, no_key=[0]), 1),
+    (f"--one {BY_RECORD}", state_lines(REMOTE, REVOCATION_KEY), answer_lines(REMOTE, NO_PAYMENT, no_key=[0]), 1),
+    (BY_RECORD, state_lines(LITTLE, PAYMENT_KEY), answer_lines(LITTLE, {**ANSWER, "value": 404, "answer": "too little to be passed on"}, too_little=[0]), 0),
+    (BY_RECORD, state_lines(NOBODYS, PAYMENT_KEY), answer_lines(NOBODYS, others=[0]), 1),
     ("--number --one", "", USAGES["revoked"], 2),
     ("--one --one", "", USAGES["revoked"], 2),
     ("--recorded", "", USAGES["revoked"], 2),
@@ -261,14 +270,14 @@ REVOKED = [
 ]
 
 
-def called(tool, words, given, **streams):
+def run_tool(tool, words, given, **streams):
     data = given if isinstance(given, bytes) else given.encode()
     return subprocess.run([sys.executable, os.path.join(HERE, tool), *words.split()], input=data, **streams)
 
 
 def answers(tool, words, given, printed, status):
     """Whether a call prints this and ends so."""
-    ran = called(tool, words, given, capture_output=True)
+    ran = run_tool(tool, words, given, capture_output=True)
     said = ran.stderr.decode() if status > 1 else ran.stdout.decode()
     found = said == printed and ran.returncode == status
     if not found:
@@ -279,7 +288,7 @@ def answers(tool, words, given, printed, status):
 def fails_to_write(tool, words, given):
     """Whether a call that can't write ends with status 1, and without a word of Python's."""
     with open("/dev/full", "wb") as full:
-        ran = called(tool, words, given, stdout=full, stderr=subprocess.PIPE)
+        ran = run_tool(tool, words, given, stdout=full, stderr=subprocess.PIPE)
     found = (ran.returncode, b"Traceback" in ran.stderr) == (1, False)
     if not found:
         print(f"real/{tool} {words}: status {ran.returncode} where nothing can be written")

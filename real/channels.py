@@ -8,7 +8,7 @@ import hashlib
 from dataclasses import dataclass
 from typing import Dict, List, Optional
 
-from claims import Key, serialized
+from claims import Key, transaction_hex
 from electrum import bitcoin, ecc, lnutil
 
 BASES = ("revocation", "payment", "htlc", "owner_delayed", "owner_htlc")
@@ -32,14 +32,14 @@ class Draws:
         self.count += 1
         return hashlib.sha256(f"{self.name} {self.count}".encode()).digest()
 
-    def below(self, bound):
+    def number_below(self, bound):
         return int.from_bytes(self.bytes(), "big") % bound
 
-    def between(self, least, most):
-        return least + self.below(most - least + 1)
+    def number_between(self, least, most):
+        return least + self.number_below(most - least + 1)
 
-    def of(self, values):
-        return values[self.below(len(values))]
+    def choice(self, values):
+        return values[self.number_below(len(values))]
 
 
 @dataclass
@@ -84,7 +84,7 @@ class Channel:
         threshold = lnutil.received_htlc_trim_threshold_sat if is_received else lnutil.offered_htlc_trim_threshold_sat
         return threshold(dust_limit_sat=self.dust_limit_sat, feerate=self.feerate_per_kw)
 
-    def untrimmed(self):
+    def untrimmed_htlcs(self):
         return [it for it in self.htlcs if it.amount_msat // 1000 >= self.least_sat(it.is_received)]
 
 
@@ -113,31 +113,31 @@ class Known:
 
 def drawn_htlc(draws, channel):
     """An HTLC. One in eight has the hash of an earlier one, as the parts of a payment have; half stand near the bound below which an HTLC is trimmed."""
-    earlier = draws.of(channel.htlcs) if channel.htlcs and draws.below(8) == 0 else None
-    is_received = earlier.is_received if earlier else draws.below(2) == 0
+    earlier = draws.choice(channel.htlcs) if channel.htlcs and draws.number_below(8) == 0 else None
+    is_received = earlier.is_received if earlier else draws.number_below(2) == 0
     payment_hash = earlier.payment_hash if earlier else hashlib.sha256(draws.bytes()).digest()
-    expiry_height = draws.of(EXPIRIES) if draws.below(5) == 0 else draws.between(500_000, 900_000)
+    expiry_height = draws.choice(EXPIRIES) if draws.number_below(5) == 0 else draws.number_between(500_000, 900_000)
     least = channel.least_sat(is_received)
-    near = draws.of((draws.between(1, least - 1), least - 1, least, least + 1, least + draws.below(5_000)))
-    amount_sat = near if draws.below(2) else least + draws.below(200_000)
-    return Htlc(is_received, 1000 * amount_sat + draws.below(1000), payment_hash, expiry_height)
+    near = draws.choice((draws.number_between(1, least - 1), least - 1, least, least + 1, least + draws.number_below(5_000)))
+    amount_sat = near if draws.number_below(2) else least + draws.number_below(200_000)
+    return Htlc(is_received, 1000 * amount_sat + draws.number_below(1000), payment_hash, expiry_height)
 
 
-def drawn(number):
+def drawn_channel(number):
     """The channel of a number: of two one is older than static_remotekey, of two more one was opened by the owner, and there are 0 to 20 HTLCs in turn."""
     draws = Draws(f"a channel that everybody knows: {number}")
     # of two in three one side has so little that its output is trimmed, or that it does not pay the fee
-    balances_msat = [draws.between(100_000_000, 2_000_000_000) for _ in range(2)]
-    if draws.below(3) < 2:
-        balances_msat[draws.below(2)] = draws.below(1_000_000)
+    balances_msat = [draws.number_between(100_000_000, 2_000_000_000) for _ in range(2)]
+    if draws.number_below(3) < 2:
+        balances_msat[draws.number_below(2)] = draws.number_below(1_000_000)
     found = Channel(
         number=number,
         is_legacy=number % 2 == 1,
         is_owner_opener=number // 2 % 2 == 1,
-        delay_blocks=draws.of(DELAYS),
-        dust_limit_sat=draws.of(DUST_LIMITS_SAT),
-        feerate_per_kw=draws.of(FEERATES_PER_KW),
-        commitment_number=draws.below(COMMITMENTS),
+        delay_blocks=draws.choice(DELAYS),
+        dust_limit_sat=draws.choice(DUST_LIMITS_SAT),
+        feerate_per_kw=draws.choice(FEERATES_PER_KW),
+        commitment_number=draws.number_below(COMMITMENTS),
         privates={name: Key(f"{name} base of channel {number}").secret for name in BASES},
         secret=draws.bytes(),
         htlcs=[],
@@ -149,12 +149,12 @@ def drawn(number):
     return found
 
 
-def public(private):
+def public_key(private):
     return ecc.ECPrivkey(private).get_public_key_bytes(compressed=True)
 
 
 def keys_of(channel):
-    point, base = public(channel.secret), {name: public(it) for name, it in channel.privates.items()}
+    point, base = public_key(channel.secret), {name: public_key(it) for name, it in channel.privates.items()}
     return Keys(
         revocation=lnutil.derive_blinded_pubkey(base["revocation"], point),
         delayed=lnutil.derive_pubkey(base["owner_delayed"], point),
@@ -193,7 +193,7 @@ def known_outputs(channel):
         yield Known("received" if it.is_received else "offered", script_program(script), script, keys.revocation, first_height)
 
 
-def known(channel):
+def outputs_by_program(channel):
     """The same by programs. Several HTLCs may have one: then the first height of all of them counts."""
     found = {}
     for it in known_outputs(channel):
@@ -205,7 +205,7 @@ def known(channel):
 
 def payment_bases(channel):
     """The payment base points, first that of the side that opened the channel."""
-    found = [Key(f"payment base of the owner of channel {channel.number}").public, public(channel.privates["payment"])]
+    found = [Key(f"payment base of the owner of channel {channel.number}").public, public_key(channel.privates["payment"])]
     return found if channel.is_owner_opener else found[::-1]
 
 
@@ -213,7 +213,7 @@ def commitment_of(channel):
     """The commitment's transaction, by lnutil, signed by both funding keys."""
     keys, funding = keys_of(channel), [Key(f"funding {side} of channel {channel.number}") for side in range(2)]
     opener, other = payment_bases(channel)
-    htlcs = channel.untrimmed()
+    htlcs = channel.untrimmed_htlcs()
     found = lnutil.make_commitment(
         ctn=channel.commitment_number,
         local_funding_pubkey=funding[0].public,
@@ -237,9 +237,9 @@ def commitment_of(channel):
     return found
 
 
-def htlc_private(channel, name):
+def htlc_private_key(channel, name):
     """The private HTLC key of a side at this commitment."""
-    return lnutil.derive_privkey(int.from_bytes(channel.privates[name], "big"), public(channel.secret)).to_bytes(32, "big")
+    return lnutil.derive_privkey(int.from_bytes(channel.privates[name], "big"), public_key(channel.secret)).to_bytes(32, "big")
 
 
 def second_stage_of(channel, commitment, htlc):
@@ -250,6 +250,6 @@ def second_stage_of(channel, commitment, htlc):
     _, output = lnutil.make_htlc_tx_output(htlc.amount_msat, channel.feerate_per_kw, keys.revocation, keys.delayed, htlc.is_received, channel.delay_blocks)
     inputs = lnutil.make_htlc_tx_inputs(commitment.txid(), at, htlc.amount_msat, script.hex())
     found = lnutil.make_htlc_tx(cltv_expiry=0 if htlc.is_received else htlc.expiry_height, inputs=inputs, output=output)
-    peers, owners = (bytes.fromhex(found.sign_txin(0, htlc_private(channel, it))) for it in ("htlc", "owner_htlc"))
-    serialized(found, [[b"", peers, owners, bytes(32) if htlc.is_received else b"", script]])
+    peers, owners = (bytes.fromhex(found.sign_txin(0, htlc_private_key(channel, it))) for it in ("htlc", "owner_htlc"))
+    transaction_hex(found, [[b"", peers, owners, bytes(32) if htlc.is_received else b"", script]])
     return found

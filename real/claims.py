@@ -69,7 +69,7 @@ def penalty(number):
     return Claim("penalty", script, [keys[0]], lambda it: [it[0], b"\x01"], 0, TO_LOCAL, FINAL)
 
 
-def delayed(number):
+def delayed_claim(number):
     keys, delay, script = to_local(number)
     return Claim("delayed", script, [keys[1]], lambda it: [it[0], b""], 1, TO_LOCAL, delay)
 
@@ -117,7 +117,7 @@ def two_of_three(number):
     return Claim("two_of_three", script, [keys[it] for it in pair], lambda it: [b"", *it], 0, TWO_OF_THREE)
 
 
-KINDS = (penalty, delayed, offered_penalty, received_penalty, timeout, success, direct_preimage, direct_timeout, key_hash, two_of_three)
+KINDS = (penalty, delayed_claim, offered_penalty, received_penalty, timeout, success, direct_preimage, direct_timeout, key_hash, two_of_three)
 # their transaction has one input and one output (BOLT 3)
 ALONE = (timeout, success)
 
@@ -145,7 +145,7 @@ def input_of(claim):
     return found
 
 
-def placed(claims, number):
+def place_claims(claims, number):
     """Gives each claim its outpoint and value."""
     for place, claim in enumerate(claims):
         claim.txid = hashlib.sha256(f"transaction {number} {place}".encode()).digest()
@@ -161,7 +161,7 @@ def claims_of(number):
         together = [it for it in KINDS if it not in ALONE]
         more = (number // len(KINDS)) % 3
         found += [together[(number * 5 + 3 * place + number // 7) % len(together)](300 + 10 * number + place) for place in range(more)]
-    return placed(found, number)
+    return place_claims(found, number)
 
 
 def htlc_transaction(claim, number):
@@ -188,7 +188,7 @@ def sign(transaction, claims):
         claim.signatures = [bytes.fromhex(transaction.sign_txin(place, it.secret)) for it in claim.signers]
 
 
-def serialized(transaction, witnesses, scripts=None):
+def transaction_hex(transaction, witnesses, scripts=None):
     """The transaction with these witnesses, as Electrum writes it."""
     for place, (it, items) in enumerate(zip(transaction.inputs(), witnesses)):
         it.script_sig = scripts[place] if scripts else b""
@@ -197,6 +197,6 @@ def serialized(transaction, witnesses, scripts=None):
     return transaction.serialize_to_network()
 
 
-def spent_of(claims):
+def spent_outputs(claims):
     """What a judge is told of the outputs that are spent."""
     return [[it.value, it.program().hex()] for it in claims]

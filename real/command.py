@@ -31,7 +31,7 @@ def curve_of(record, instead):
     return found
 
 
-def recorded_of(words):
+def record_of(words):
     """The record that the last words name: None where there are none, False where they are others."""
     if not words:
         return None

@@ -109,14 +109,14 @@ def keys_of(curve, bases, point, is_legacy):
     """The keys of the commitment with this per-commitment point. The remote key is the payment base point itself, unless the channel is older than static_remotekey."""
     return Keys(
         revocation=derivation.revocation(curve, bases["revocation"], point),
-        delayed=derivation.derived(curve, bases["owner_delayed"], point),
-        local_htlc=derivation.derived(curve, bases["owner_htlc"], point),
-        remote_htlc=derivation.derived(curve, bases["htlc"], point),
-        remote=derivation.derived(curve, bases["payment"], point) if is_legacy else bases["payment"],
+        delayed=derivation.derived_key(curve, bases["owner_delayed"], point),
+        local_htlc=derivation.derived_key(curve, bases["owner_htlc"], point),
+        remote_htlc=derivation.derived_key(curve, bases["htlc"], point),
+        remote=derivation.derived_key(curve, bases["payment"], point) if is_legacy else bases["payment"],
     )
 
 
-def privates_of(curve, bases, privates, secret, point, is_legacy):
+def private_keys_of(curve, bases, privates, secret, point, is_legacy):
     """The private keys that sign penalties, by their public keys: from the private keys of the revocation and payment base points, in any order. One of the two may be missing."""
     if not privates:
         raise Refused("NoKey")
@@ -124,12 +124,12 @@ def privates_of(curve, bases, privates, secret, point, is_legacy):
     for place, private in enumerate(privates):
         if not curve.is_private(private):
             raise Refused(f"BadKey {place}")
-        base = curve.public(private)
+        base = curve.public_key(private)
         if base == bases["revocation"]:
-            found[derivation.revocation(curve, base, point)] = derivation.revocation_private(private, base, secret, point)
+            found[derivation.revocation(curve, base, point)] = derivation.revocation_private_key(private, base, secret, point)
         elif base == bases["payment"]:
-            key = derivation.derived(curve, base, point) if is_legacy else base
-            found[key] = derivation.derived_private(private, base, point) if is_legacy else private
+            key = derivation.derived_key(curve, base, point) if is_legacy else base
+            found[key] = derivation.derived_private_key(private, base, point) if is_legacy else private
         else:
             raise Refused(f"UnusedKey {place}")
     return found

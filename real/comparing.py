@@ -40,7 +40,7 @@ def rows_of(lines):
     return {row["name"]: row for row in map(json.loads, lines)}
 
 
-def edited(text, edit):
+def edited_text(text, edit):
     """A text with changes to its transaction and its lines."""
     transaction, lines = read_transaction(bytes.fromhex(text[0])), [it.split(" ") for it in text[1:]]
     for kind, *places, last in edit:
@@ -67,7 +67,7 @@ def input_of(row, rows):
     if "psbt" in row:
         data = base64.b64decode(row["psbt"])
         return {"base64": row["psbt"].encode(), "hex": data.hex().encode(), "bytes": data}[row["as"]]
-    text = edited(rows[row["of"]]["text"], row["edit"]) if "edit" in row else row["text"]
+    text = edited_text(rows[row["of"]]["text"], row["edit"]) if "edit" in row else row["text"]
     return "".join(f"{it}\n" for it in text).encode()
 
 
@@ -77,7 +77,7 @@ def spend_of(data):
         first, *lines = data.decode().splitlines()
         pairs = [it.split(" ") for it in lines]
         return read_transaction(bytes.fromhex(first)), [Output(int(value), bytes.fromhex(program)) for value, program in pairs]
-    found = partial.read(partial.decoded(data))
+    found = partial.read(partial.decoded_bytes(data))
     for it, fields in zip(found.transaction.inputs, found.inputs):
         it.witness = partial.final_witness(fields) or []
     return found.transaction, [partial.spent_output(found, place) for place in range(len(found.inputs))]
@@ -91,7 +91,7 @@ class Places:
         self.script, self.items = (scripts.key_script(program), witness) if is_key else (witness[-1], witness[:-1])
         self.opcodes = scripts.operations(self.script)
 
-    def named(self, place):
+    def bytes_at(self, place):
         """The bytes of a place."""
         kind, _, number = place.partition(" ")
         if kind == "push":
@@ -111,7 +111,7 @@ class Places:
     def signatures(self, keys):
         """The items that are signatures, with their keys."""
         pairs = sorted((int(item), key) for item, key in keys.items())
-        return [{"item": item, "key": key and self.named(key).hex()} for item, key in pairs]
+        return [{"item": item, "key": key and self.bytes_at(key).hex()} for item, key in pairs]
 
 
 def answer_of(answer, transaction, index, spent):
@@ -125,11 +125,11 @@ def answer_of(answer, transaction, index, spent):
         path, counted, height, keys, relay = answer[1:]
         return {**found, "path": path, "counted": counted, "height": height, "signatures": places.signatures(keys), "relay": sorted(relay)}
     reason, opcode, stack, keys, *relay = answer[1:]
-    found.update(places.stop(opcode), reason=reason, stack=[places.named(it).hex() for it in stack], signatures=places.signatures(keys))
+    found.update(places.stop(opcode), reason=reason, stack=[places.bytes_at(it).hex() for it in stack], signatures=places.signatures(keys))
     return {**found, "relay": sorted(relay[0])} if relay else found
 
 
-def wanted(row, rows, data):
+def wanted_lines(row, rows, data):
     """The lines that are wanted: of each the members that are."""
     if "refused" in row["wanted"]:
         return [row["wanted"]]
@@ -153,10 +153,10 @@ def is_blind(lines, found):
     return any(is_met(it, found) for it in changed)
 
 
-def judged(data, curve, trace):
+def printed_lines(data, curve, trace):
     """The lines that real/judge prints."""
     try:
-        return given.told(*given.read(data), curve, trace)
+        return given.answers_of(*given.read(data), curve, trace)
     except Refused as why:
         return [{"refused": str(why)}]
 
@@ -169,7 +169,7 @@ def compare(count, rows, recorded, curve, trace):
             count.check(False, f"{name}: made otherwise than it is recorded")
             continue
         data = input_of(row, rows)
-        lines, found = wanted(row, rows, data), judged(data, curve, trace)
+        lines, found = wanted_lines(row, rows, data), printed_lines(data, curve, trace)
         count.check(is_met(lines, found) and not is_blind(lines, found), f"{name}: wanted {lines}, found {found}")
 
 
@@ -191,5 +191,5 @@ def plant(rows, curve, trace):
         chosen = [row for title, row in rows.items() if title.endswith(seen_by)]
         with mock.patch.object(place, member, change, create=True):
             inputs = [(row, input_of(row, rows)) for row in chosen]
-            unseen += [name for row, data in inputs if is_met(wanted(row, rows, data), judged(data, curve, trace))] if chosen else [name]
+            unseen += [name for row, data in inputs if is_met(wanted_lines(row, rows, data), printed_lines(data, curve, trace))] if chosen else [name]
     return unseen

@@ -215,7 +215,7 @@ class Run:
             self.fail_unless(len(self.stack) <= MAX_STACK)
             self.opcode += 1
 
-    def whole(self, operations_of):
+    def run_script(self, operations_of):
         self.fail_unless(all(len(it) <= MAX_ITEM for it in self.stack))
         self.steps(operations_of)
         self.fail_unless(not self.branches and len(self.stack) == 1 and is_true(self.stack[0]))
@@ -236,7 +236,7 @@ def end_of(spend, script, items):
     try:
         if len(script) > MAX_SCRIPT:
             raise Fails
-        run.whole(operations(script))
+        run.run_script(operations(script))
     except (Fails, Refused):
         return End(False, run.opcode, set())
     return End(True, run.opcode, run.relay)

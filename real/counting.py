@@ -13,6 +13,6 @@ class Count:
             self.differ += 1
             print(f"differs: {what}", flush=True)
 
-    def told(self, name):
+    def report(self, name):
         print(f"real: {self.tried} {name}, {self.differ} differ")
         return int(self.differ > 0)

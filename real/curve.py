@@ -78,16 +78,16 @@ class Curve:
     def is_private(self, private):
         return len(private) == 32 and bool(self.call("ec_seckey_verify", private))
 
-    def compressed(self, point):
+    def compressed_point(self, point):
         found, size = ctypes.create_string_buffer(33), SIZE(33)
         self.call("ec_pubkey_serialize", found, ctypes.byref(size), point, COMPRESSED)
         return found.raw
 
-    def public(self, private):
+    def public_key(self, private):
         """The compressed public key of a private key."""
         point = ctypes.create_string_buffer(64)
         self.call("ec_pubkey_create", point, private)
-        return self.compressed(point)
+        return self.compressed_point(point)
 
     def read_point(self, key):
         """A point by its compressed form; no bytes, which are no point, where there is none."""
@@ -97,14 +97,14 @@ class Curve:
     def is_point(self, key):
         return self.read_point(key) is not None
 
-    def added(self, key, number):
+    def sum_with_generator(self, key, number):
         """A point and a number of times the generator together; empty where there is no such key."""
         point = self.read_point(key)
         if point is None or not self.call("ec_pubkey_tweak_add", point, number):
             return b""
-        return self.compressed(point)
+        return self.compressed_point(point)
 
-    def combined(self, first, one, second, other):
+    def weighted_sum(self, first, one, second, other):
         """The sum of two points, each times its number; empty where there is no such key."""
         points = [self.read_point(first), self.read_point(second)]
         for point, number in zip(points, (one, other)):
@@ -113,7 +113,7 @@ class Curve:
         found, both = ctypes.create_string_buffer(64), (POINTER * 2)(*map(ctypes.addressof, points))
         if not self.call("ec_pubkey_combine", found, both, 2):
             return b""
-        return self.compressed(found)
+        return self.compressed_point(found)
 
     def sign(self, private, digest):
         """A signature in DER with a low s, without its hash type, whose nonce is that of RFC 6979."""
@@ -156,7 +156,7 @@ class Recorded(Record):
             raise NotRun(f"there is no record in {path}")
         return cls(found)
 
-    def asked(self, kind, call, *given):
+    def recorded_answer(self, kind, call, *given):
         """The answer of this kind to a question."""
         found = self.answers.get(self.name_of(call, *given))
         if not isinstance(found, kind):
@@ -165,29 +165,29 @@ class Recorded(Record):
 
     def asked_bytes(self, call, *given):
         try:
-            return bytes.fromhex(self.asked(str, call, *given))
+            return bytes.fromhex(self.recorded_answer(str, call, *given))
         except ValueError:
             raise NotRun("the record has no such signature") from None
 
     def verify(self, key, digest, der):
-        return self.asked(bool, "verify", key, digest, der)
+        return self.recorded_answer(bool, "verify", key, digest, der)
 
     def has_low_s(self, der):
-        return self.asked(bool, "low", der)
+        return self.recorded_answer(bool, "low", der)
 
     def is_private(self, private):
-        return self.asked(bool, "private", private)
+        return self.recorded_answer(bool, "private", private)
 
-    def public(self, private):
+    def public_key(self, private):
         return self.asked_bytes("public", private)
 
     def is_point(self, key):
-        return self.asked(bool, "point", key)
+        return self.recorded_answer(bool, "point", key)
 
-    def added(self, key, number):
+    def sum_with_generator(self, key, number):
         return self.asked_bytes("added", key, number)
 
-    def combined(self, first, one, second, other):
+    def weighted_sum(self, first, one, second, other):
         return self.asked_bytes("combined", first, one, second, other)
 
     def sign(self, private, digest):
@@ -201,30 +201,30 @@ class Recording(Record):
         super().__init__(answers)
         self.curve = curve
 
-    def noted(self, call, answer, *given):
+    def note_answer(self, call, answer, *given):
         self.answers[self.name_of(call, *given)] = answer.hex() if isinstance(answer, bytes) else answer
         return answer
 
     def verify(self, key, digest, der):
-        return self.noted("verify", self.curve.verify(key, digest, der), key, digest, der)
+        return self.note_answer("verify", self.curve.verify(key, digest, der), key, digest, der)
 
     def has_low_s(self, der):
-        return self.noted("low", self.curve.has_low_s(der), der)
+        return self.note_answer("low", self.curve.has_low_s(der), der)
 
     def is_private(self, private):
-        return self.noted("private", self.curve.is_private(private), private)
+        return self.note_answer("private", self.curve.is_private(private), private)
 
-    def public(self, private):
-        return self.noted("public", self.curve.public(private), private)
+    def public_key(self, private):
+        return self.note_answer("public", self.curve.public_key(private), private)
 
     def is_point(self, key):
-        return self.noted("point", self.curve.is_point(key), key)
+        return self.note_answer("point", self.curve.is_point(key), key)
 
-    def added(self, key, number):
-        return self.noted("added", self.curve.added(key, number), key, number)
+    def sum_with_generator(self, key, number):
+        return self.note_answer("added", self.curve.sum_with_generator(key, number), key, number)
 
-    def combined(self, first, one, second, other):
-        return self.noted("combined", self.curve.combined(first, one, second, other), first, one, second, other)
+    def weighted_sum(self, first, one, second, other):
+        return self.note_answer("combined", self.curve.weighted_sum(first, one, second, other), first, one, second, other)
 
     def sign(self, private, digest):
-        return self.noted("sign", self.curve.sign(private, digest), private, digest)
+        return self.note_answer("sign", self.curve.sign(private, digest), private, digest)

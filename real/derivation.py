@@ -10,7 +10,7 @@ def number_of(data):
     return int.from_bytes(data, "big")
 
 
-def private_of(number):
+def private_key_of(number):
     """A private key. Zero is none, which no hash that anybody knows gives."""
     found = (number % ORDER).to_bytes(32, "big")
     if not any(found):
@@ -25,20 +25,20 @@ def point_of(found):
     return found
 
 
-def derived(curve, base, point):
+def derived_key(curve, base, point):
     """A key of the commitment: the base point, and SHA-256 of the per-commitment point and the base point times the generator."""
-    return point_of(curve.added(base, sha256(point + base)))
+    return point_of(curve.sum_with_generator(base, sha256(point + base)))
 
 
-def derived_private(private, base, point):
-    return private_of(number_of(private) + number_of(sha256(point + base)))
+def derived_private_key(private, base, point):
+    return private_key_of(number_of(private) + number_of(sha256(point + base)))
 
 
 def revocation(curve, base, point):
     """The revocation key: the base point and the per-commitment point, each times the SHA-256 of both with itself first."""
-    return point_of(curve.combined(base, sha256(base + point), point, sha256(point + base)))
+    return point_of(curve.weighted_sum(base, sha256(base + point), point, sha256(point + base)))
 
 
-def revocation_private(private, base, secret, point):
+def revocation_private_key(private, base, secret, point):
     """Its private key, from that of the base point and the per-commitment secret."""
-    return private_of(number_of(private) * number_of(sha256(base + point)) + number_of(secret) * number_of(sha256(point + base)))
+    return private_key_of(number_of(private) * number_of(sha256(base + point)) + number_of(secret) * number_of(sha256(point + base)))

@@ -40,7 +40,7 @@ def sign_by_electrum(found, claims):
     found.sign({key.public.hex(): (key.secret, True) for claim in claims for key in claim.signers})
 
 
-def signed_by_electrum(found, claims):
+def signed_bytes(found, claims):
     """What Electrum signed, as bytes: it makes no final witness where it is not told a kind."""
     sign_by_electrum(found, claims)
     for it in found.inputs():
@@ -48,7 +48,7 @@ def signed_by_electrum(found, claims):
     return found.serialize_as_bytes(force_psbt=True)
 
 
-def finished_by_electrum(found, claims):
+def finished_bytes(found, claims):
     """What Electrum signed, with its final witnesses where it knows how: of the hash of a key, and of 2 of 3."""
     for it, claim in zip(found.inputs(), claims):
         if claim.kind == "two_of_three":
@@ -68,4 +68,4 @@ def cases(count):
         transaction = built.transaction_of(claims, number)
         plan = plan_of(transaction, claims)
         built.sign(transaction, claims)
-        yield claims, plan, built.serialized(transaction, [it.witness() for it in claims])
+        yield claims, plan, built.transaction_hex(transaction, [it.witness() for it in claims])

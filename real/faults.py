@@ -17,7 +17,7 @@ EQUALVERIFY_OF_KEY_HASH = 3
 MEASURE = bytes.fromhex("7c820147887c")
 
 
-def clean(path):
+def clean_answer(path):
     return {"answer": "clean", "path": path, "relay": []}
 
 
@@ -25,7 +25,7 @@ def stops(reason, opcode):
     return {"answer": "stops", "reason": reason, "opcode": opcode}
 
 
-def not_judged(reason):
+def unjudged_answer(reason):
     return {"answer": "not judged", "reason": reason}
 
 
@@ -43,28 +43,28 @@ class Case:
         self.transaction = built.transaction_of(self.claims, number)
         built.sign(self.transaction, self.claims)
         self.witnesses = [it.witness() for it in self.claims]
-        self.spent = built.spent_of(self.claims)
+        self.spent = built.spent_outputs(self.claims)
         self.place = (number // 3) % len(self.claims)
 
     def claim(self):
         return self.claims[self.place]
 
-    def all_clean(self):
-        return [clean(it.path) for it in self.claims]
+    def clean_answers(self):
+        return [clean_answer(it.path) for it in self.claims]
 
     def with_answer(self, answer):
         """All inputs are clean but the one with the fault."""
-        return [answer if place == self.place else it for place, it in enumerate(self.all_clean())]
+        return [answer if place == self.place else it for place, it in enumerate(self.clean_answers())]
 
     def row(self, fault, answers):
         kinds = "+".join(it.kind for it in self.claims)
-        raw = built.serialized(self.transaction, self.witnesses)
+        raw = built.transaction_hex(self.transaction, self.witnesses)
         row = {"name": f"{self.number:03} {kinds} / {fault}", "transaction": raw, "spent": self.spent}
         return {**row, **(answers if isinstance(answers, dict) else {"answers": answers})}
 
 
 def no_fault(case):
-    return case.all_clean()
+    return case.clean_answers()
 
 
 def signature(case):
@@ -158,9 +158,9 @@ def measured_signature(case):
     before = case.transaction
     case.transaction = type(before).from_io(inputs, list(before.outputs()), locktime=before.locktime, version=2, BIP69_sort=False)
     built.sign(case.transaction, case.claims)
-    case.witnesses, case.spent = [it.witness() for it in case.claims], built.spent_of(case.claims)
+    case.witnesses, case.spent = [it.witness() for it in case.claims], built.spent_outputs(case.claims)
     assert case.spent[case.place][1] == "0020" + hashlib.sha256(claim.script).hexdigest()
-    return case.with_answer(not_judged("MeasuredSignature"))
+    return case.with_answer(unjudged_answer("MeasuredSignature"))
 
 
 FAULTS = (no_fault, signature, order, extra_item, amount, sequence, lock_time, forged_token, measured_signature)

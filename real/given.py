@@ -32,7 +32,7 @@ def read_lines(given):
     return transaction, [output_of(number, line.strip()) for number, line in enumerate(lines[1:], 2)], {}
 
 
-def unreadable(fields, output):
+def unjudged_reason(fields, output):
     """Why an input of a partially signed transaction is not judged, or None. Outputs of other kinds than version 0 are named later."""
     taproot = partial.taproot_fields(fields)
     if taproot:
@@ -47,11 +47,11 @@ def unreadable(fields, output):
 
 def read_partial(given):
     """A partially signed transaction, with what it says of the outputs that it spends: None where it says nothing."""
-    found = partial.read(partial.decoded(given))
+    found = partial.read(partial.decoded_bytes(given))
     outputs, settled = [], {}
     for index, (it, fields) in enumerate(zip(found.transaction.inputs, found.inputs)):
         output = partial.spent_output(found, index)
-        why = unreadable(fields, output)
+        why = unjudged_reason(fields, output)
         if why:
             settled[index] = why
         it.witness = partial.final_witness(fields) or []
@@ -67,6 +67,6 @@ def read(given):
     return transaction, spent, settled
 
 
-def told(transaction, spent, settled, curve, trace):
+def answers_of(transaction, spent, settled, curve, trace):
     """What is told of a transaction, and of each of its inputs."""
-    return [whole.told(transaction, spent), *judging.judge(transaction, spent, curve, trace, settled)]
+    return [whole.summary_of(transaction, spent), *judging.judge(transaction, spent, curve, trace, settled)]

@@ -41,7 +41,7 @@ def survives(count, name, read, given):
     count.check(True, name)
 
 
-def read_whole(given):
+def read_all_fields(given):
     """Reads a partially signed transaction as far as any tool does."""
     found = partial.read(given)
     for index, fields in enumerate(found.inputs):
@@ -50,27 +50,32 @@ def read_whole(given):
         partial.taproot_fields(fields)
 
 
-def read_hostile(count):
+def read_hostile_bytes(count):
     """Each reader, with changed bytes."""
     told = bolt3.read()
     plan = json.dumps(bolt3.plan(told, *bolt3.PLANNED)).encode()
     _, transaction, _, _, _ = next(bolt3.htlc_transactions(told))
     survives(count, "changed transactions", read_transaction, transaction.bytes())
     survives(count, "changed plans", lambda it: assembling.make(read_plan(it)), plan)
-    survives(count, "changed partially signed transactions", read_whole, assembling.make(read_plan(plan)).bytes())
-    survives(count, "changed base64", lambda it: read_whole(partial.decoded(it)), assembling.make(read_plan(plan)).base64().encode())
-    survives(count, "changed revoked states", punishing.read_state, calls.revoked(calls.SEEN).encode())
-    survives(count, "changed commitments with payment base points", numbering.told, json.dumps({"transaction": calls.SEEN.stripped().hex(), **calls.PAYMENTS}).encode())
+    survives(count, "changed partially signed transactions", read_all_fields, assembling.make(read_plan(plan)).bytes())
+    survives(count, "changed base64", lambda it: read_all_fields(partial.decoded_bytes(it)), assembling.make(read_plan(plan)).base64().encode())
+    survives(count, "changed revoked states", punishing.read_state, calls.state_lines(calls.SEEN).encode())
+    survives(
+        count,
+        "changed commitments with payment base points",
+        numbering.commitment_numbers,
+        json.dumps({"transaction": calls.SEEN.stripped_bytes().hex(), **calls.PAYMENTS}).encode(),
+    )
 
 
-def encoded(r, s):
+def encoded_numbers(r, s):
     """Two numbers that are not negative in DER, with a hash type of ALL, by an encoder."""
     parts = [number.to_bytes(number.bit_length() // 8 + 1, "big") for number in (r, s)]
     body = b"".join(b"\x02" + bytes([len(it)]) + it for it in parts)
     return b"\x30" + bytes([len(body)]) + body + b"\x01"
 
 
-def numbers_read(item):
+def item_numbers(item):
     """The two numbers that stand where a signature in DER has them, whatever else stands there; None where they are cut."""
     try:
         first = item[4 : 4 + item[3]]
@@ -84,11 +89,11 @@ def strict_encodings(count):
     """An item is in strict DER exactly where an encoder writes it of the numbers that it has."""
     chance, strict = random.Random("strict"), 0
     for _ in range(MUTATIONS):
-        item = bytearray(encoded(chance.getrandbits(chance.choice((1, 8, 250, 256))), chance.getrandbits(chance.choice((7, 128, 255)))))
+        item = bytearray(encoded_numbers(chance.getrandbits(chance.choice((1, 8, 250, 256))), chance.getrandbits(chance.choice((7, 128, 255)))))
         for _ in range(chance.randrange(3)):
             item[chance.randrange(len(item) - 1)] = chance.choice((0, 1, 2, 0x30, 0x7F, 0x80, len(item) - 3, chance.randrange(256)))
-        numbers = numbers_read(item)
-        holds = numbers is not None and encoded(*numbers) == item and len(item) <= signatures.LONGEST
+        numbers = item_numbers(item)
+        holds = numbers is not None and encoded_numbers(*numbers) == item and len(item) <= signatures.LONGEST
         if signatures.is_strict_der(bytes(item)) != holds:
             count.check(False, f"strict DER of {item.hex()}")
         strict += holds
@@ -137,7 +142,7 @@ def drawn_script(chance, depth):
 
 
 def drawn_item(chance):
-    signature = encoded(chance.choice(KEYS)[1] << 240 | chance.getrandbits(200), 1 + chance.getrandbits(3))
+    signature = encoded_numbers(chance.choice(KEYS)[1] << 240 | chance.getrandbits(200), 1 + chance.getrandbits(3))
     return chance.choice((b"", b"", b"\x01", signature, signature, signature, PREIMAGE, chance.choice(KEYS), b"\x00", b"\x30\x06"))
 
 
@@ -158,7 +163,7 @@ def drawn_case(chance):
     return Transaction(2, inputs, [Output(1, b"\x51")], LOCK_TIME), [Output(5, b"\x00\x20" + sha256(it)) for it in scripts]
 
 
-def judge_drawn(count, trace):
+def judge_drawn_cases(count, trace):
     """The judge with tokens and a run by the rules of consensus with signatures agree, but for the rules that are stricter. Each kind of answer comes."""
     chance, seen = random.Random("drawn"), {}
     for _ in range(TRANSACTIONS):
@@ -173,9 +178,9 @@ def judge_drawn(count, trace):
     count.check(all(seen.get(it, 0) for it in wanted), f"answers of scripts at random: {seen}")
 
 
-def judge_bounded(count, trace):
+def judge_bounds(count, trace):
     """What is looked at is bounded over all inputs: two of them, and each alone is within the bound."""
-    signature, keys = encoded(1, 1), [bytes([2]) + place.to_bytes(32, "big") for place in range(1, 251)]
+    signature, keys = encoded_numbers(1, 1), [bytes([2]) + place.to_bytes(32, "big") for place in range(1, 251)]
     checked = [[signature] * 300 + keys + [b"\x51" + b"\x75" * place + b"\x51"] for place in (1, 2)]
     # seven branches have too many paths to be listed
     branched = [[(b"\x63" * 7 + b"\x68" * 7 + b"\x51" * place)] for place in (9_200, 9_201)]
@@ -199,7 +204,7 @@ def hashes(count):
 
 def all_of(count, trace):
     hashes(count)
-    judge_bounded(count, trace)
-    read_hostile(count)
+    judge_bounds(count, trace)
+    read_hostile_bytes(count)
     strict_encodings(count)
-    judge_drawn(count, trace)
+    judge_drawn_cases(count, trace)

@@ -194,7 +194,7 @@ def ways_of(case, listing):
     return [way_of(it) for it in listing.get("paths", []) if it["arity"] == len(case.items)]
 
 
-def signed_by(case, place, item, keys, curve):
+def signing_key(case, place, item, keys, curve):
     """The key for which an item is valid, if there is one."""
     valid = [it for it in keys if curve.verify(it, case.digest, item[:-1])]
     if len(valid) > 1:
@@ -202,7 +202,7 @@ def signed_by(case, place, item, keys, curve):
     return valid[0] if valid else None
 
 
-def find_formed(case):
+def find_formed_items(case):
     """Finds the items that have the form of a signature. A script with a push that is cut does not run."""
     if scripts.pushes(case.script) is None:
         return
@@ -220,7 +220,7 @@ def find_signatures(case, listing, curve, budget):
         raise Settled("TooManyChecks", f"the inputs have more than {MAX_CHECKS} signatures times keys together")
     for place in case.formed:
         item, slot = case.items[place], case.slot(place)
-        key = signed_by(case, place, item, keys, curve)
+        key = signing_key(case, place, item, keys, curve)
         if key is None and not all(slot in it.signatures for it in ways):
             raise Settled("AmbiguousItem", f"item {place} has the form of a signature, is valid for no key, and may be something else on a path")
         token = signatures.token(key, case.digest) if key else signatures.nobodys_token(item)
@@ -248,11 +248,11 @@ def prepare(transaction, spent, curve, trace, reasons):
     attempt(cases, find_script)
     own = [it for it in cases if it.settled is None and it.is_own_script()]
     attempt(own, within_budget, budget)
-    attempt(own, find_formed)
+    attempt(own, find_formed_items)
     own = [it for it in own if it.settled is None]
     digests = Digests(transaction)
     for case in own:
-        case.digest = digests.of(case.index, case.script, case.spent.value)
+        case.digest = digests.digest_of(case.index, case.script, case.spent.value)
     formed = [it for it in own if it.formed]
     for case, listing in zip(formed, trace.paths([it.script for it in formed])):
         attempt([case], find_signatures, listing, curve, budget)
@@ -275,7 +275,7 @@ def with_tokens(transaction, cases):
     return Transaction(transaction.version, inputs, transaction.outputs, transaction.lock_time)
 
 
-def relayed(case):
+def broken_relay_rules(case):
     """The rules of relay on the sizes of a witness that this one breaks."""
     if scripts.is_key_hash(case.spent.program):
         return set()
@@ -330,7 +330,7 @@ def answer(case, said, transaction, curve):
     end = consensus.end_of(spend, case.script, case.items)
     if not agree(said, end):
         raise conflict(case, said, transaction)
-    found, relay = {"signatures": told_signatures(case), "digest": said["digest"]}, sorted(end.relay | relayed(case))
+    found, relay = {"signatures": told_signatures(case), "digest": said["digest"]}, sorted(end.relay | broken_relay_rules(case))
     if "path" in said:
         return {"answer": "clean", "path": said["path"], "counted": said["counted"], "height": said["height"], **found, "relay": relay}
     stop = {"reason": said["stopped"], "opcode": said["opcode"], "op": said["op"], "byte": said["byte"], "says": says_of(said, case)}
@@ -347,7 +347,7 @@ def says_of(said, case):
     return said["says"]
 
 
-def told(case, said, transaction, curve):
+def input_answer(case, said, transaction, curve):
     try:
         if case.settled is not None:
             raise case.settled
@@ -364,4 +364,4 @@ def judge(transaction, spent, curve, trace, reasons=None):
     said = [None] * len(cases)
     if any(it.settled is None for it in cases):
         said = trace.witness(with_tokens(transaction, cases), [it.spent if it.settled is None else NOT_SPENT for it in cases])
-    return [{"input": it.index, "outpoint": it.given.shown_outpoint(), **told(it, line, transaction, curve)} for it, line in zip(cases, said)]
+    return [{"input": it.index, "outpoint": it.given.shown_outpoint(), **input_answer(it, line, transaction, curve)} for it, line in zip(cases, said)]

@@ -39,7 +39,7 @@ def told_path(path):
     return {**members, "facts": [told_fact(it) for it in path.facts]}
 
 
-def listed(enforce, script):
+def listing_of(enforce, script):
     """What is listed of a script, in the members of docs/TRACE.md that are looked at here."""
     try:
         return {"paths": [told_path(it) for it in enforce.paths(script)]}

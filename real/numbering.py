@@ -11,7 +11,7 @@ LAST = 2 ** (8 * NUMBER_SIZE) - 1
 def read_base(shape, name):
     found = shape.bytes(name, 33)
     if found[0] not in (2, 3):
-        raise shape.bad(name)
+        raise shape.refusal(name)
     return found
 
 
@@ -29,9 +29,9 @@ def number_of(transaction, mask):
     return (upper << HALF | lower) ^ mask
 
 
-def told(given):
+def commitment_numbers(given):
     """What is said of the transaction that a JSON text has: its number, and that of its per-commitment secret, which counts down from the last (BOLT 3, "Per-commitment Secret Requirements")."""
-    shape = read_object(given, "seen").only("transaction", "opener_payment", "other_payment")
+    shape = read_object(given, "seen").check_names("transaction", "opener_payment", "other_payment")
     transaction = read_transaction(shape.bytes("transaction"))
     number = number_of(transaction, mask_of(read_base(shape, "opener_payment"), read_base(shape, "other_payment")))
     return {"transaction": transaction.txid(), "commitment_number": number, "secret_index": LAST - number}

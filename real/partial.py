@@ -5,7 +5,7 @@ from dataclasses import dataclass
 from typing import Dict, List
 
 from errors import Refused, bytes_of
-from transaction import Output, Reader, Transaction, compact, read_output, read_transaction, text
+from transaction import Output, Reader, Transaction, compact_size, read_output, read_transaction, text
 
 MAGIC = b"psbt\xff"
 UNSIGNED_TX, VERSION = 0x00, 0xFB
@@ -27,18 +27,18 @@ class Partial:
     outputs: List[Dict[bytes, bytes]]
 
     def bytes(self):
-        return MAGIC + b"".join(map(written, [self.fields, *self.inputs, *self.outputs]))
+        return MAGIC + b"".join(map(map_bytes, [self.fields, *self.inputs, *self.outputs]))
 
     def base64(self):
         return base64.b64encode(self.bytes()).decode()
 
 
-def written(fields):
+def map_bytes(fields):
     return b"".join(text(key) + text(value) for key, value in sorted(fields.items())) + b"\x00"
 
 
 def key_of(kind, data=b""):
-    return compact(kind) + data
+    return compact_size(kind) + data
 
 
 def kind_of(key):
@@ -76,7 +76,7 @@ def version_of(fields):
     return int.from_bytes(given, "little")
 
 
-def check_alone(fields):
+def check_lone_fields(fields):
     for key in fields:
         kind, data = kind_of(key)
         if kind in ALONE and data:
@@ -109,11 +109,11 @@ def read(data):
     inputs, outputs = ([read_map(reader) for _ in found] for found in (transaction.inputs, transaction.outputs))
     reader.end()
     for it in inputs:
-        check_alone(it)
+        check_lone_fields(it)
     return Partial(transaction, fields, inputs, outputs)
 
 
-def decoded(given):
+def decoded_bytes(given):
     """The bytes of a partially signed transaction that is given as they are, in base64 or in hexadecimal."""
     if given[: len(MAGIC)] == MAGIC:
         return given
@@ -132,7 +132,7 @@ def is_partial(given):
     return start[:5] == MAGIC or start[:6] == b"cHNidP" or start.lower() == MAGIC.hex().encode()
 
 
-def whole(reader, found):
+def whole_field(reader, found):
     reader.end()
     return found
 
@@ -149,7 +149,7 @@ def spent_output(partial, index):
         found.append(before.outputs[place])
     if key_of(WITNESS_UTXO) in fields:
         reader = Reader(fields[key_of(WITNESS_UTXO)])
-        found.append(whole(reader, read_output(reader)))
+        found.append(whole_field(reader, read_output(reader)))
     if len(found) == 2 and found[0] != found[1]:
         raise Refused(f"OtherOutput {index}")
     return found[0] if found else None
@@ -161,7 +161,7 @@ def final_witness(fields):
     if given is None:
         return None
     reader = Reader(given)
-    return whole(reader, [reader.text() for _ in range(reader.count())])
+    return whole_field(reader, [reader.text() for _ in range(reader.count())])
 
 
 def output_field(output: Output):

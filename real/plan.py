@@ -60,14 +60,14 @@ class Shape:
         if not isinstance(value, dict):
             raise Refused(f"BadShape {place}")
 
-    def bad(self, name):
+    def refusal(self, name):
         return Refused(f"BadShape {self.place}.{name}".replace("plan.", ""))
 
-    def only(self, *names):
+    def check_names(self, *names):
         """The same; a member with another name is refused, since it may be one of these that is misspelled."""
         for name in self.value:
             if name not in names:
-                raise self.bad(name if NAME.fullmatch(name) else "?")
+                raise self.refusal(name if NAME.fullmatch(name) else "?")
         return self
 
     def member(self, name, kind, optional=False):
@@ -75,13 +75,13 @@ class Shape:
         if found is None and optional:
             return None
         if not isinstance(found, kind) or isinstance(found, bool):
-            raise self.bad(name)
+            raise self.refusal(name)
         return found
 
     def number(self, name, most, optional=False):
         found = self.member(name, int, optional)
         if found is not None and not 0 <= found <= most:
-            raise self.bad(name)
+            raise self.refusal(name)
         return found
 
     def bytes(self, name, size=None, optional=False):
@@ -89,9 +89,9 @@ class Shape:
         try:
             found = None if found is None else bytes_of(found)
         except Refused:
-            raise self.bad(name) from None
+            raise self.refusal(name) from None
         if found is not None and size not in (None, len(found)):
-            raise self.bad(name)
+            raise self.refusal(name)
         return found
 
     def objects(self, name, optional=False):
@@ -122,20 +122,20 @@ def read_path(text):
 def read_derivations(shape):
     found = {}
     for it in shape.objects("derivations", optional=True):
-        path = read_path(it.only("key", "fingerprint", "path").member("path", str))
+        path = read_path(it.check_names("key", "fingerprint", "path").member("path", str))
         if path is None:
-            raise it.bad("path")
+            raise it.refusal("path")
         found[it.bytes("key", KEY_SIZE)] = it.bytes("fingerprint", FINGERPRINT_SIZE) + path
     return found
 
 
 def read_wanted(shape, items):
-    shape.only("item", "key", "digest")
+    shape.check_names("item", "key", "digest")
     return Wanted(shape.number("item", items), shape.bytes("key", KEY_SIZE), shape.bytes("digest", 32))
 
 
 def read_input(shape):
-    shape.only("value", "program", "script", "path", "witness", "signatures", "previous", "derivations")
+    shape.check_names("value", "program", "script", "path", "witness", "signatures", "previous", "derivations")
     # who makes a plan may say which path its witness takes; nothing follows from it here
     shape.number("path", MAX_PATH, optional=True)
     output = Output(shape.number("value", MAX_MONEY), shape.bytes("program"))
@@ -153,7 +153,7 @@ def check_input(plan, index, digests):
         raise Refused(f"OtherWitness {index}")
     if sorted(each.item for each in it.wanted) != [at for at, item in enumerate(it.witness) if item is None]:
         raise Refused(f"OtherPlaces {index}")
-    digest = digests.of(index, it.script, it.output.value)
+    digest = digests.digest_of(index, it.script, it.output.value)
     if any(each.digest != digest for each in it.wanted):
         raise Refused(f"OtherDigest {index}")
 
@@ -182,7 +182,7 @@ def read_object(given, place):
 
 def read_plan(given):
     """The plan that a JSON text tells."""
-    shape = read_object(given, "plan").only("transaction", "fee", "weight", "inputs")
+    shape = read_object(given, "plan").check_names("transaction", "fee", "weight", "inputs")
     # who makes a plan may say by which weight its fee is; nothing follows from it here
     shape.number("weight", MAX_WEIGHT, optional=True)
     transaction = read_transaction(shape.bytes("transaction"), marked=False)

@@ -9,7 +9,7 @@ import signatures
 import whole
 from errors import Refused
 from plan import Shape, read_object
-from transaction import MAX_MONEY, Digests, Input, Output, Transaction, compact, read_transaction, text
+from transaction import MAX_MONEY, Digests, Input, Output, Transaction, compact_size, read_transaction, text
 
 VERSION, SEQUENCE = 2, 0
 # the longest signature that is made: DER with a low s, and the hash type
@@ -55,9 +55,9 @@ class Take:
 
 
 def read_htlc(shape):
-    direction = shape.only("direction", "hash", "expiry_height").member("direction", str)
+    direction = shape.check_names("direction", "hash", "expiry_height").member("direction", str)
     if direction not in ("offered", "received"):
-        raise shape.bad("direction")
+        raise shape.refusal("direction")
     return commitment.Htlc(direction == "offered", shape.bytes("hash", 32), shape.number("expiry_height", MAX_HEIGHT))
 
 
@@ -66,7 +66,7 @@ def read_channel_type(shape):
     if found is None:
         return commitment.STATIC_REMOTEKEY
     if found not in commitment.CHANNEL_TYPES:
-        raise shape.bad("channel_type")
+        raise shape.refusal("channel_type")
     return found
 
 
@@ -74,15 +74,15 @@ def read_funding_keys(shape):
     """Both keys, or none."""
     found = shape.member("funding_keys", list, optional=True) or []
     if len(found) not in (0, 2):
-        raise shape.bad("funding_keys")
+        raise shape.refusal("funding_keys")
     return [Shape({"key": it}, f"{shape.place}.funding_keys[{at}]").bytes("key", 33) for at, it in enumerate(found)]
 
 
 def read_state(given):
     """The state that a JSON text tells."""
-    shape = read_object(given, "state").only(*MEMBERS)
+    shape = read_object(given, "state").check_names(*MEMBERS)
     transaction = read_transaction(shape.bytes("transaction"))
-    bases = Shape(shape.member("bases", dict), "state.bases").only(*BASES)
+    bases = Shape(shape.member("bases", dict), "state.bases").check_names(*BASES)
     htlcs = [read_htlc(it) for it in shape.objects("htlcs")]
     if len(htlcs) > MAX_HTLCS:
         raise Refused("TooManyHtlcs")
@@ -100,9 +100,9 @@ def read_state(given):
         shape.number("confirmed_height", MAX_HEIGHT, optional=True),
     )
     if not scripts.is_address(found.destination):
-        raise shape.bad("destination")
+        raise shape.refusal("destination")
     if found.confirmed_height is not None and found.confirmed_height > found.height:
-        raise shape.bad("confirmed_height")
+        raise shape.refusal("confirmed_height")
     return found
 
 
@@ -119,12 +119,12 @@ def deadline_of(known, state):
     return max(0, first - 1 - state.height)
 
 
-def soonest(found):
+def least_deadline(found):
     """The least of deadlines; None where there is none."""
     return min((it for it in found if it is not None), default=None)
 
 
-def found_in(state, table):
+def split_outputs(state, table):
     """The outputs that are the commitment's, and the indices of the others."""
     takes, others = [], []
     for index, output in enumerate(state.transaction.outputs):
@@ -157,12 +157,12 @@ def witness_of(known, signature):
 def input_weight(known):
     """The greatest weight of the input that takes an output (BIP 141)."""
     items = witness_of(known, bytes(SIGNATURE_SIZE))
-    return 4 * INPUT_SIZE + len(compact(len(items))) + sum(len(text(it)) for it in items)
+    return 4 * INPUT_SIZE + len(compact_size(len(items))) + sum(len(text(it)) for it in items)
 
 
 def weight_of(takes, destination):
     """The greatest weight of a transaction that takes outputs."""
-    plain = BASE_SIZE + len(compact(len(takes))) + len(compact(1) + Output(0, destination).bytes())
+    plain = BASE_SIZE + len(compact_size(len(takes))) + len(compact_size(1) + Output(0, destination).bytes())
     return 4 * plain + MARKER_SIZE + sum(input_weight(it.known) for it in takes)
 
 
@@ -172,7 +172,7 @@ def dust_sat(program):
     return DUST_FEERATE_PER_KVB * (len(Output(0, program).bytes()) + spending) // 1000
 
 
-def unsigned(state, takes):
+def unsigned_transaction(state, takes):
     """The transaction that takes outputs, and its fee; None where too little is left to be passed on."""
     value = sum(it.output.value for it in takes)
     fee = -(-weight_of(takes, state.destination) * state.feerate_per_kw // 1000)
@@ -192,17 +192,17 @@ def is_joined(it, state, signing):
 def batches(takes, state, signing, is_one):
     """One transaction for each output. Or one for all that can be joined, unless they have too little together, and one for each other output."""
     joined = [it for it in takes if is_one and is_joined(it, state, signing)]
-    if unsigned(state, joined)[0] is None:
+    if unsigned_transaction(state, joined)[0] is None:
         joined = []
     places = {it.index for it in joined}
     return ([joined] if joined else []) + [[it] for it in takes if it.index not in places]
 
 
-def signed(transaction, takes, signing, curve):
+def signed_transaction(transaction, takes, signing, curve):
     """The same with a signature in each input, each verified."""
     digests = Digests(transaction)
     for index, it in enumerate(takes):
-        digest = digests.of(index, it.known.script, it.output.value)
+        digest = digests.digest_of(index, it.known.script, it.output.value)
         der = curve.sign(signing[it.known.key], digest)
         if not curve.verify(it.known.key, digest, der):
             raise Refused(f"BadSignature {it.index}")
@@ -210,10 +210,10 @@ def signed(transaction, takes, signing, curve):
     return transaction
 
 
-def judged(transaction, takes, curve, trace):
+def judge_transaction(transaction, takes, curve, trace):
     """Refuses a transaction that the judge does not find clean, or that consensus refuses as a whole."""
     spent = [it.output for it in takes]
-    faults = whole.told(transaction, spent)["faults"]
+    faults = whole.summary_of(transaction, spent)["faults"]
     if faults:
         raise Refused(f"NotClean {takes[0].index} {faults[0]}")
     for it, found in zip(takes, judging.judge(transaction, spent, curve, trace)):
@@ -221,17 +221,17 @@ def judged(transaction, takes, curve, trace):
             raise Refused(f"NotClean {it.index} {found.get('reason', 'another path')}")
 
 
-def told(takes, state, signing, curve, trace):
+def answer_of(takes, state, signing, curve, trace):
     """What is said of outputs: the transaction that takes them, after the judge found each of its inputs clean; or why there is none."""
-    transaction, fee = unsigned(state, takes)
-    value, deadline = sum(it.output.value for it in takes), soonest(deadline_of(it.known, state) for it in takes)
+    transaction, fee = unsigned_transaction(state, takes)
+    value, deadline = sum(it.output.value for it in takes), least_deadline(deadline_of(it.known, state) for it in takes)
     answer = {"outputs": [it.index for it in takes], "kinds": [it.known.kind for it in takes], "value": value, "fee": fee}
     missing = ["payment" if it.known.kind == "to_remote" else "revocation" for it in takes if it.known.key not in signing]
     if missing:
         return {**answer, "answer": NO_KEY, "deadline_blocks": deadline, "key": missing[0]}
     if transaction is None:
         return {**answer, "answer": TOO_LITTLE}
-    judged(signed(transaction, takes, signing, curve), takes, curve, trace)
+    judge_transaction(signed_transaction(transaction, takes, signing, curve), takes, curve, trace)
     return {**answer, "answer": TAKEN, "deadline_blocks": deadline, "txid": transaction.txid(), "transaction": transaction.bytes().hex()}
 
 
@@ -247,15 +247,15 @@ def penalties(state, privates, curve, trace, is_one=False, is_legacy=False):
             raise Refused(f"BadShape state.funding_keys[{at}]")
     if is_legacy and state.channel_type == commitment.ANCHORS:
         raise Refused("BadShape state.channel_type")
-    point = curve.public(state.secret)
+    point = curve.public_key(state.secret)
     keys = commitment.keys_of(curve, state.bases, point, is_legacy)
-    signing = commitment.privates_of(curve, state.bases, privates, state.secret, point, is_legacy)
-    takes, others = found_in(state, commitment.table_of(keys, state.delay_blocks, state.htlcs, state.channel_type))
+    signing = commitment.private_keys_of(curve, state.bases, privates, state.secret, point, is_legacy)
+    takes, others = split_outputs(state, commitment.table_of(keys, state.delay_blocks, state.htlcs, state.channel_type))
     # the judge lists all scripts by one call
     trace.paths([it.known.script for it in takes])
     found = {TAKEN: [], TOO_LITTLE: [], NO_KEY: []}
     for batch in batches(takes, state, signing, is_one):
-        answer = told(batch, state, signing, curve, trace)
+        answer = answer_of(batch, state, signing, curve, trace)
         found[answer["answer"]] += answer["outputs"]
         yield answer
     taken, too_little, no_key = map(sorted, found.values())

@@ -52,19 +52,19 @@ FUNDING_KEYS = ("local_funding_pubkey", "remote_funding_pubkey")
 REST_WEIGHT = 4 * (8 + 1 + 1 + 8 + 23) + 2
 
 
-def private(name):
+def private_key(name):
     return bytes([PRIVATES[name]]) * 32
 
 
 def check_derivation(count, curve):
-    base, point = curve.public(BASE_SECRET), curve.public(SECRET)
+    base, point = curve.public_key(BASE_SECRET), curve.public_key(SECRET)
     found = [
         base,
         point,
-        derivation.derived(curve, base, point),
-        derivation.derived_private(BASE_SECRET, base, point),
+        derivation.derived_key(curve, base, point),
+        derivation.derived_private_key(BASE_SECRET, base, point),
         derivation.revocation(curve, base, point),
-        derivation.revocation_private(BASE_SECRET, base, SECRET, point),
+        derivation.revocation_private_key(BASE_SECRET, base, SECRET, point),
     ]
     for name, it in zip((BASE, POINT, DERIVED, DERIVED_PRIVATE, REVOCATION, REVOCATION_PRIVATE), found):
         count.check(it.hex() == name, f"a key of BOLT 3's Appendix E: {name}")
@@ -77,7 +77,7 @@ def htlc(told, number):
 
 def state(told, case, curve, **changes):
     """A case of Appendix C as a revoked state, with members changed."""
-    bases = {name: curve.public(private(name)).hex() for name in PRIVATES}
+    bases = {name: curve.public_key(private_key(name)).hex() for name in PRIVATES}
     found = {
         "transaction": case["unsigned_tx_no_witness"],
         "secret": told["terms"]["per_commitment_secret"],
@@ -91,22 +91,22 @@ def state(told, case, curve, **changes):
     return {**found, **changes}
 
 
-def taken(given, curve, trace, privates=None, **options):
-    keys = [private("revocation"), private("payment")] if privates is None else privates
+def penalties_of(given, curve, trace, privates=None, **options):
+    keys = [private_key("revocation"), private_key("payment")] if privates is None else privates
     return list(punishing.penalties(punishing.read_state(json.dumps(given)), keys, curve, trace, **options))
 
 
 def check_case(count, told, case, curve, trace):
     """Each output of a case is taken on its own, in the order of outputs, with the value and the script of the appendix, its fee and its deadline."""
-    found = taken(state(told, case, curve), curve, trace)
+    found = penalties_of(state(told, case, curve), curve, trace)
     kinds, wanted = [it["kinds"] for it in found[:-1]], [[it["kind"]] for it in case["outputs"]]
     count.check(kinds == wanted, f"{case['name']}: {kinds}")
-    check_last(count, case["name"], found, range(len(wanted)))
+    check_last_line(count, case["name"], found, range(len(wanted)))
     for index, (it, output) in enumerate(zip(found, case["outputs"])):
         where = f"{case['name']}: output {index}"
         count.check(it["outputs"] == [index] and it["value"] == output["value_sat"], where)
         made = read_transaction(bytes.fromhex(it["transaction"]))
-        weight = 3 * len(made.stripped()) + len(made.bytes())
+        weight = 3 * len(made.stripped_bytes()) + len(made.bytes())
         count.check(253 * weight <= 1000 * it["fee"] < 253 * (weight + 3) + 1000, f"{where}: its fee")
         count.check(made.inputs[0].shown_outpoint() == f"{bytes.fromhex(case['txid_hash_order'])[::-1].hex()}:{index}", f"{where}: its outpoint")
         count.check(made.outputs[0].value == output["value_sat"] - it["fee"] and made.outputs[0].program.hex() == DESTINATION, f"{where}: what is paid")
@@ -120,7 +120,7 @@ def deadline_of(output):
     return {"to_local": 144, "to_remote": None, "received": 0, "offered": max(0, output.get("cltv_expiry", 0) - HEIGHT)}[output["kind"]]
 
 
-def check_last(count, name, found, taken=(), too_little=(), no_key=(), others=(), named=None):
+def check_last_line(count, name, found, taken=(), too_little=(), no_key=(), others=(), named=None):
     """What the last line says of all outputs, and that each of the lines before it has an answer that fits."""
     wanted = {"taken": [*taken], "too_little": [*too_little], "no_key": [*no_key], "others": [*others], **({} if named is None else {"named": named})}
     told = {it: value for it, value in found[-1].items() if it != "transaction"}
@@ -134,7 +134,7 @@ def check_last(count, name, found, taken=(), too_little=(), no_key=(), others=()
 
 def check_one(count, told, case, curve, trace):
     """What nobody else can take yet is taken together."""
-    found = taken(state(told, case, curve), curve, trace, is_one=True)
+    found = penalties_of(state(told, case, curve), curve, trace, is_one=True)
     free = [at for at, it in enumerate(case["outputs"]) if it["kind"] in ("to_local", "to_remote") or (it["kind"] == "offered" and it["cltv_expiry"] > HEIGHT)]
     count.check(found[0]["outputs"] == free, f"{case['name']}: together {found[0]['outputs']}")
     rest = [it["outputs"] for it in found[1:-1]]
@@ -148,18 +148,18 @@ def with_outputs(case, outputs):
     return found.bytes().hex()
 
 
-def check_shared(count, told, case, curve, trace):
+def check_shared_program(count, told, case, curve, trace):
     """Two offered HTLCs of one hash have one program: the deadline of both outputs is by the least expiry, in whatever order they are told."""
     transaction = with_outputs(case, SHARED)
     for numbers in (SHARED_HTLCS, SHARED_HTLCS[::-1]):
         for height, left in ((503, 2), (504, 1), (505, 0), (506, 0)):
             where = f"HTLCs {numbers} at {height}"
             given = state(told, case, curve, transaction=transaction, htlcs=[htlc(told, it) for it in (1, *numbers)], height=height, confirmed_height=503)
-            found = taken(given, curve, trace, is_one=True)
+            found = penalties_of(given, curve, trace, is_one=True)
             joined = [1, 2, 3, 4] if left else [3, 4]
-            check_last(count, where, found, range(5))
+            check_last_line(count, where, found, range(5))
             count.check([it["outputs"] for it in found[:-1]] == [joined, *([at] for at in range(5) if at not in joined)], f"{where}: together {found[0]['outputs']}")
-            alone = {it["outputs"][0]: it["deadline_blocks"] for it in taken(given, curve, trace)[:-1]}
+            alone = {it["outputs"][0]: it["deadline_blocks"] for it in penalties_of(given, curve, trace)[:-1]}
             count.check(alone == {0: 0, 1: left, 2: left, 3: None, 4: 503 + 143 - height}, f"{where}: deadlines {alone}")
 
 
@@ -168,12 +168,12 @@ def check_expiries(count, told, case, curve, trace):
     at = next(at for at, it in enumerate(case["outputs"]) if it.get("htlc") == 2)
     for expiries in ((2000, 502), (502, 2000)):
         htlcs = [{**htlc(told, 2), "expiry_height": it} for it in expiries]
-        found = taken(state(told, case, curve, htlcs=htlcs, height=505, confirmed_height=504), curve, trace, is_one=True)
+        found = penalties_of(state(told, case, curve, htlcs=htlcs, height=505, confirmed_height=504), curve, trace, is_one=True)
         count.check(at not in found[0]["outputs"], f"an HTLC of 502 and 2000, as {expiries}: together {found[0]['outputs']}")
         count.check([it["deadline_blocks"] for it in found[1:-1]] == [0] and found[1]["outputs"] == [at], f"an HTLC of 502 and 2000, as {expiries}: {found[1:]}")
 
 
-def check_joined(count, told, case, curve, trace):
+def check_joined_outputs(count, told, case, curve, trace):
     """A transaction of several leaves out an output that has less than what its input costs there, on both sides of that."""
     feerate = 5_000
     programs = {it["htlc"] if it["kind"] == "offered" else it["kind"]: it["script_pubkey"] for it in case["outputs"] if it["kind"] != "received"}
@@ -191,21 +191,21 @@ def check_joined(count, told, case, curve, trace):
     ]
     for values, kinds, together, little in rows:
         transaction = with_outputs(case, [(value, programs[it]) for value, it in zip(values, kinds)])
-        found = taken(state(told, case, curve, transaction=transaction, feerate_per_kw=feerate), curve, trace, is_one=True)
-        check_last(count, f"outputs of {values}", found, together or [], little)
+        found = penalties_of(state(told, case, curve, transaction=transaction, feerate_per_kw=feerate), curve, trace, is_one=True)
+        check_last_line(count, f"outputs of {values}", found, together or [], little)
         wanted = [*([together] if together else []), *([at] for at in little)]
         count.check([it["outputs"] for it in found[:-1]] == wanted, f"outputs of {values}: together {[it['outputs'] for it in found[:-1]]}")
 
 
-def check_missing(count, told, case, curve, trace):
+def check_missing_key(count, told, case, curve, trace):
     """With one private key what it takes is taken, and each other output is told with the name of the key that is missing."""
     outputs = case["outputs"]
     remote = [at for at, it in enumerate(outputs) if it["kind"] == "to_remote"]
     rest = [at for at in range(len(outputs)) if at not in remote]
     for name, missing, mine, lost in (("revocation", "payment", rest, remote), ("payment", "revocation", remote, rest)):
         for is_one in (False, True):
-            found = taken(state(told, case, curve), curve, trace, [private(name)], is_one=is_one)
-            check_last(count, f"the key of {name} alone", found, mine, no_key=lost)
+            found = penalties_of(state(told, case, curve), curve, trace, [private_key(name)], is_one=is_one)
+            check_last_line(count, f"the key of {name} alone", found, mine, no_key=lost)
             lines = [it for it in found[:-1] if it["answer"] == "no key"]
             count.check([it["outputs"] for it in lines] == [[at] for at in lost] and {it["key"] for it in lines} == {missing}, f"the key of {name} alone: {lines}")
             count.check([it["deadline_blocks"] for it in lines] == [deadline_of(outputs[at]) for at in lost], f"the key of {name} alone: deadlines {lines}")
@@ -213,15 +213,15 @@ def check_missing(count, told, case, curve, trace):
 
 def check_dust(count, told, case, curve):
     """The least value that is paid, by the kind of destination; and what is no destination."""
-    found, table = known(state(told, case, curve), curve)
-    takes, _ = punishing.found_in(found, table)
+    found, table = state_and_table(state(told, case, curve), curve)
+    takes, _ = punishing.split_outputs(found, table)
     found.feerate_per_kw = 0
     for destination, least in DUST_SAT.items():
         found.destination = punishing.read_state(json.dumps(state(told, case, curve, destination=destination))).destination
         paid = []
         for value in (least - 1, least):
             takes[0].output.value = value
-            made, _ = punishing.unsigned(found, takes[:1])
+            made, _ = punishing.unsigned_transaction(found, takes[:1])
             paid.append(made is not None and made.outputs[0].value == value)
         count.check(paid == [False, True], f"the least value of {destination}: {paid}")
     for destination in NO_ADDRESSES:
@@ -236,32 +236,32 @@ def check_numbers(count, told, curve):
     count.check(mask == int(terms["mask"], 16), f"what a commitment number is masked with: {mask:x}")
     for case in told["cases"]:
         raw = case["unsigned_tx_no_witness"]
-        found = numbering.told(json.dumps({"transaction": raw, **bases}))
+        found = numbering.commitment_numbers(json.dumps({"transaction": raw, **bases}))
         wanted = {"transaction": bytes.fromhex(case["txid_hash_order"])[::-1].hex(), "commitment_number": terms["commitment_number"], "secret_index": 2**48 - 1 - 42}
         count.check(found == wanted, f"{case['name']}: {found}")
         # an HTLC transaction, another first byte of the lock time and of the sequence, and two inputs
         others = [*(it["unsigned_tx_no_witness"] for it in case["htlc_transactions"]), raw[:-2] + "21", raw.replace("38b02b80", "38b02b81", 1), raw[:8] + "02" + raw[10:92] * 2 + raw[92:]]
         for it in others:
-            refuses(count, "NotCommitment", lambda it=it: numbering.told(json.dumps({"transaction": it, **bases})))
+            refuses(count, "NotCommitment", lambda it=it: numbering.commitment_numbers(json.dumps({"transaction": it, **bases})))
     good = {"transaction": told["cases"][0]["unsigned_tx_no_witness"], **bases}
     for name, given in (("seen.other_payment", {**good, "other_payment": "04" * 33}), ("seen.opener", {**good, "opener": "02" * 33}), ("seen.transaction", bases)):
-        refuses(count, f"BadShape {name}", lambda it=given: numbering.told(json.dumps(it)))
+        refuses(count, f"BadShape {name}", lambda it=given: numbering.commitment_numbers(json.dumps(it)))
 
 
 def check_second_stages(count, told, case, curve, trace):
     """The output of each HTLC transaction is taken by the same call; of its HTLCs, delay and base points it wants the delay and two base points."""
     for it in case["htlc_transactions"]:
         given = state(told, case, curve, transaction=it["unsigned_tx_no_witness"], htlcs=[])
-        found = taken(given, curve, trace)
+        found = penalties_of(given, curve, trace)
         where = f"{case['name']}: second stage of {it['htlc']}"
         count.check(found[0]["kinds"] == ["to_local"] and found[0]["value"] == it["output_value_sat"], where)
-        check_last(count, where, found, [0])
-        check_last(count, f"{where}, another delay", taken({**given, "delay_blocks": 143}, curve, trace), others=[0])
+        check_last_line(count, where, found, [0])
+        check_last_line(count, f"{where}, another delay", penalties_of({**given, "delay_blocks": 143}, curve, trace), others=[0])
 
 
 def check_changes(count, told, case, curve):
     """With one base point, the delay, the secret or a part of an HTLC changed, what no longer matches is named."""
-    other = curve.public(b"\x55" * 32).hex()
+    other = curve.public_key(b"\x55" * 32).hex()
     made_of = {
         "revocation": ("to_local", "offered", "received"),
         "payment": ("to_remote",),
@@ -280,14 +280,14 @@ def check_changes(count, told, case, curve):
             left = [other for other in htlcs if other != it] + instead
             rows.append(({"htlcs": left}, lambda it, number=number: it.get("htlc") == number))
     for changes, is_lost in rows:
-        found = punishing.found_in(*known(state(told, case, curve, **changes), curve))
+        found = punishing.split_outputs(*state_and_table(state(told, case, curve, **changes), curve))
         count.check(found[1] == [at for at, it in enumerate(outputs) if is_lost(it)], f"{case['name']}: {list(changes)}, {found[1]}")
 
 
-def known(given, curve):
+def state_and_table(given, curve):
     """A state, and what is known of its outputs."""
     found = punishing.read_state(json.dumps(given))
-    keys = commitment.keys_of(curve, found.bases, curve.public(found.secret), False)
+    keys = commitment.keys_of(curve, found.bases, curve.public_key(found.secret), False)
     return found, commitment.table_of(keys, found.delay_blocks, found.htlcs)
 
 
@@ -305,23 +305,23 @@ def check_deadlines(count, told, case, curve):
     expiry = case["outputs"][at["offered"]]["cltv_expiry"]
     rows += [("offered", {"height": expiry - 1}, 1), ("offered", {"height": expiry}, 0), ("offered", {"height": expiry + 9}, 0), ("received", {"height": 0}, 0), ("to_remote", {"height": 0}, None)]
     for kind, changes, wanted in rows:
-        found, table = known(state(told, case, curve), curve)
+        found, table = state_and_table(state(told, case, curve), curve)
         for name, value in changes.items():
             setattr(found, name, value)
-        takes, _ = punishing.found_in(found, table)
+        takes, _ = punishing.split_outputs(found, table)
         count.check(punishing.deadline_of(takes[at[kind]].known, found) == wanted, f"{case['name']}: the deadline of {kind} with {changes}")
 
 
-def check_legacy(count, told, case, curve, trace):
+def check_legacy_key(count, told, case, curve, trace):
     """Before static_remotekey the remote key is derived: the output to the derived key is taken, and the one to the base point is named."""
-    base = curve.public(private("payment"))
-    key = derivation.derived(curve, base, curve.public(bytes.fromhex(told["terms"]["per_commitment_secret"])))
+    base = curve.public_key(private_key("payment"))
+    key = derivation.derived_key(curve, base, curve.public_key(bytes.fromhex(told["terms"]["per_commitment_secret"])))
     at = next(at for at, it in enumerate(case["outputs"]) if it["kind"] == "to_remote")
     before, after = ((b"\x00\x14" + hash160(it)).hex() for it in (base, key))
     given = state(told, case, curve)
     given["transaction"] = given["transaction"].replace(before, after)
-    count.check(taken(given, curve, trace)[-1]["others"] == [at], f"{case['name']}: a derived remote key is not the base point")
-    found = taken(given, curve, trace, is_legacy=True)
+    count.check(penalties_of(given, curve, trace)[-1]["others"] == [at], f"{case['name']}: a derived remote key is not the base point")
+    found = penalties_of(given, curve, trace, is_legacy=True)
     count.check(found[-1]["others"] == [] and found[at]["kinds"] == ["to_remote"], f"{case['name']}: a derived remote key")
 
 
@@ -340,7 +340,7 @@ def with_anchors(told, case):
     return found
 
 
-def anchored(told, case, curve, outputs, **changes):
+def anchored_state(told, case, curve, outputs, **changes):
     """The state of a case's commitment with these outputs, in a channel with anchors."""
     transaction = with_outputs(case, [(value, "0020" + sha256(bytes.fromhex(script)).hex()) for _, value, script, _ in outputs])
     funding_keys = [told["terms"]["keys"][it] for it in FUNDING_KEYS]
@@ -356,9 +356,9 @@ def check_anchors(count, told, case, curve, trace):
     outputs = with_anchors(told, case)
     mine, rest = places_of(outputs, "to_local", "offered", "received"), places_of(outputs, "to_remote", "anchor")
     named = {"to_remote": places_of(outputs, "to_remote"), "anchor": [0, 1]}
-    given = anchored(told, case, curve, outputs)
-    found = taken(given, curve, trace)
-    check_last(count, "anchors", found, mine, others=rest, named=named)
+    given = anchored_state(told, case, curve, outputs)
+    found = penalties_of(given, curve, trace)
+    check_last_line(count, "anchors", found, mine, others=rest, named=named)
     for at, it in zip(mine, found):
         kind, value, script, _ = outputs[at]
         made = read_transaction(bytes.fromhex(it["transaction"]))
@@ -366,7 +366,7 @@ def check_anchors(count, told, case, curve, trace):
         count.check(it["outputs"] == [at] and it["kinds"] == [kind] and it["value"] == value, f"anchors: output {at}: {it}")
         count.check([each.hex() for each in made.inputs[0].witness[1:]] == [between, script], f"anchors: output {at}: its witness")
         count.check((made.inputs[0].sequence, made.lock_time) == (0, 0), f"anchors: output {at}: its locks")
-    together = taken(given, curve, trace, is_one=True)
+    together = penalties_of(given, curve, trace, is_one=True)
     count.check([it["outputs"] for it in together[:-1]] == [mine], f"anchors: together {together[:-1]}")
     check_waits(count, told, case, curve, trace, outputs)
     check_other_type(count, told, case, curve, trace, outputs)
@@ -377,7 +377,7 @@ def check_waits(count, told, case, curve, trace, outputs):
     mine = places_of(outputs, "to_local", "offered", "received")
     for height, confirmed_height, least in ((501, None, 1), (501, 501, 0), (502, None, 1), (502, 502, 0), (503, 500, 0), (499, None, 1)):
         changes = {"height": height, **({} if confirmed_height is None else {"confirmed_height": confirmed_height})}
-        found = taken(anchored(told, case, curve, outputs, **changes), curve, trace)
+        found = penalties_of(anchored_state(told, case, curve, outputs, **changes), curve, trace)
         since = height + 1 if confirmed_height is None else confirmed_height
         wanted = []
         for at in mine:
@@ -389,34 +389,41 @@ def check_waits(count, told, case, curve, trace, outputs):
 def check_other_type(count, told, case, curve, trace, outputs):
     """A commitment that is told as of the other type: its HTLCs match nothing, and are named. So are anchors with another value, and without their keys."""
     local, htlcs, rest = places_of(outputs, "to_local"), places_of(outputs, "offered", "received"), places_of(outputs, "to_remote", "anchor")
-    given = anchored(told, case, curve, outputs)
+    given = anchored_state(told, case, curve, outputs)
     plain = {name: it for name, it in given.items() if name not in ("channel_type", "funding_keys")}
-    check_last(count, "anchors, told as none", taken(plain, curve, trace), local, others=sorted([*htlcs, *rest]))
-    check_last(count, "anchors, told as static_remotekey", taken({**plain, "channel_type": "static_remotekey"}, curve, trace), local, others=sorted([*htlcs, *rest]))
+    check_last_line(count, "anchors, told as none", penalties_of(plain, curve, trace), local, others=sorted([*htlcs, *rest]))
+    check_last_line(count, "anchors, told as static_remotekey", penalties_of({**plain, "channel_type": "static_remotekey"}, curve, trace), local, others=sorted([*htlcs, *rest]))
     own = state(told, case, curve, channel_type="anchors")
     kinds = [it["kind"] for it in case["outputs"]]
-    check_last(count, "no anchors, told as anchors", taken(own, curve, trace), [at for at, it in enumerate(kinds) if it in ("to_local", "to_remote")], others=[at for at, it in enumerate(kinds) if it in ("offered", "received")], named={})
+    check_last_line(
+        count,
+        "no anchors, told as anchors",
+        penalties_of(own, curve, trace),
+        [at for at, it in enumerate(kinds) if it in ("to_local", "to_remote")],
+        others=[at for at, it in enumerate(kinds) if it in ("offered", "received")],
+        named={},
+    )
     without = {name: it for name, it in given.items() if name != "funding_keys"}
     mine = sorted([*local, *htlcs])
-    check_last(count, "anchors without their keys", taken(without, curve, trace), mine, others=rest, named={"to_remote": places_of(outputs, "to_remote")})
+    check_last_line(count, "anchors without their keys", penalties_of(without, curve, trace), mine, others=rest, named={"to_remote": places_of(outputs, "to_remote")})
     richer = [("anchor", 331, *outputs[0][2:]), *outputs[1:]]
-    found = punishing.found_in(*known_with_anchors(anchored(told, case, curve, richer), curve))
-    names = named_of(anchored(told, case, curve, richer), curve, found[1])
+    found = punishing.split_outputs(*anchored_state_and_table(anchored_state(told, case, curve, richer), curve))
+    names = output_names(anchored_state(told, case, curve, richer), curve, found[1])
     count.check(names == {"named": {"anchor": [1], "to_remote": places_of(outputs, "to_remote")}}, f"an anchor of 331 satoshis: {names}")
     second = case["htlc_transactions"][0]
-    check_last(count, "anchors: a second stage", taken({**given, "transaction": second["unsigned_tx_no_witness"]}, curve, trace), [0], named={})
+    check_last_line(count, "anchors: a second stage", penalties_of({**given, "transaction": second["unsigned_tx_no_witness"]}, curve, trace), [0], named={})
 
 
 def keys_at(found, curve):
-    return commitment.keys_of(curve, found.bases, curve.public(found.secret), False)
+    return commitment.keys_of(curve, found.bases, curve.public_key(found.secret), False)
 
 
-def known_with_anchors(given, curve):
+def anchored_state_and_table(given, curve):
     found = punishing.read_state(json.dumps(given))
     return found, commitment.table_of(keys_at(found, curve), found.delay_blocks, found.htlcs, found.channel_type)
 
 
-def named_of(given, curve, others):
+def output_names(given, curve, others):
     found = punishing.read_state(json.dumps(given))
     return punishing.names_of(found, keys_at(found, curve), others)
 
@@ -434,7 +441,7 @@ def check_refusals(count, told, case, curve, trace):
     good = state(told, case, curve)
     rows = [
         ("NoKey", good, []),
-        ("UnusedKey 2", good, [private("revocation"), private("payment"), b"\x07" * 32]),
+        ("UnusedKey 2", good, [private_key("revocation"), private_key("payment"), b"\x07" * 32]),
         ("BadKey 0", good, [bytes(32)]),
         ("BadSecret", {**good, "secret": "00" * 32}, None),
         ("BadShape state.bases.htlc", {**good, "bases": {**good["bases"], "htlc": "05" * 33}}, None),
@@ -456,8 +463,8 @@ def check_refusals(count, told, case, curve, trace):
         ("Trailing", {**good, "transaction": good["transaction"] + "00"}, None),
     ]
     for name, given, privates in rows:
-        refuses(count, name, lambda given=given, privates=privates: taken(given, curve, trace, privates))
-    refuses(count, "BadShape state.channel_type", lambda: taken({**good, "channel_type": "anchors"}, curve, trace, is_legacy=True))
+        refuses(count, name, lambda given=given, privates=privates: penalties_of(given, curve, trace, privates))
+    refuses(count, "BadShape state.channel_type", lambda: penalties_of({**good, "channel_type": "anchors"}, curve, trace, is_legacy=True))
 
 
 def all_of(count, curve, trace):
@@ -468,13 +475,13 @@ def all_of(count, curve, trace):
         check_one(count, told, case, curve, trace)
         check_second_stages(count, told, case, curve, trace)
         check_changes(count, told, case, curve)
-        check_legacy(count, told, case, curve, trace)
+        check_legacy_key(count, told, case, curve, trace)
     # the case with the most outputs
     case = told["cases"][1]
-    check_shared(count, told, case, curve, trace)
+    check_shared_program(count, told, case, curve, trace)
     check_expiries(count, told, case, curve, trace)
-    check_joined(count, told, case, curve, trace)
-    check_missing(count, told, case, curve, trace)
+    check_joined_outputs(count, told, case, curve, trace)
+    check_missing_key(count, told, case, curve, trace)
     check_dust(count, told, case, curve)
     check_numbers(count, told, curve)
     check_deadlines(count, told, case, curve)

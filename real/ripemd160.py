@@ -24,7 +24,7 @@ MIXES = (
 )
 
 
-def rotated(number, count):
+def rotated_word(number, count):
     return (number << count | number >> 32 - count) & MASK
 
 
@@ -35,8 +35,8 @@ def line(state, words, right):
     for turn in range(5):
         mix, constant = MIXES[4 - turn if right else turn], CONSTANTS[right][turn]
         for word in order:
-            new = rotated(a + mix(b, c, d) + words[word] + constant & MASK, ROTATIONS[turn][word]) + e & MASK
-            a, b, c, d, e = e, new, b, rotated(c, 10), d
+            new = rotated_word(a + mix(b, c, d) + words[word] + constant & MASK, ROTATIONS[turn][word]) + e & MASK
+            a, b, c, d, e = e, new, b, rotated_word(c, 10), d
         order = [STEP[it] for it in order]
     return a, b, c, d, e
 

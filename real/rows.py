@@ -10,7 +10,7 @@ from claims import Claim, Key
 from electrum import ecc, lnutil
 from electrum.crypto import hash_160, sha256d
 from electrum.transaction import PartialTransaction, PartialTxInput, TxOutpoint, TxOutput
-from faults import clean, not_judged, stops
+from faults import clean_answer, stops, unjudged_answer
 
 A, B = Key("first of a row"), Key("second of a row")
 ORDER = int("fffffffffffffffffffffffffffffffebaaedce6af48a03bbfd25e8cd0364141", 16)
@@ -28,7 +28,7 @@ def pay_to(key):
     return push(key.public) + b"\xac"
 
 
-def stricter(reason, opcode):
+def stricter_answer(reason, opcode):
     return {"answer": "stricter here", "reason": reason, "opcode": opcode}
 
 
@@ -48,7 +48,7 @@ def numbers_of(signature):
     return int.from_bytes(signature[4 : 4 + length], "big"), int.from_bytes(signature[6 + length : -1], "big")
 
 
-def invalid(seed):
+def invalid_signature(seed):
     """A signature of strict form that no key here has made."""
     r, s = (int.from_bytes(hashlib.sha256(f"{seed} {it}".encode()).digest(), "big") >> 2 for it in "rs")
     return der(r, s) + b"\x01"
@@ -70,8 +70,8 @@ class Spend:
         return self.unsigned_row(name, self.claim.witness(), answer)
 
     def unsigned_row(self, name, items, answer):
-        raw = built.serialized(self.transaction, [items])
-        return {"name": name, "transaction": raw, "spent": built.spent_of([self.claim]), "answers": [answer]}
+        raw = built.transaction_hex(self.transaction, [items])
+        return {"name": name, "transaction": raw, "spent": built.spent_outputs([self.claim]), "answers": [answer]}
 
 
 def hash_types():
@@ -79,12 +79,12 @@ def hash_types():
     for name, number in HASH_TYPES.items():
         spend = Spend(pay_to(A), [A], lambda it: it)
         spend.transaction.inputs()[0].sighash = number
-        yield spend.row(f"hash type {name}", not_judged("HashType"))
+        yield spend.row(f"hash type {name}", unjudged_answer("HashType"))
     for number in (0x00, 0x04, 0x41):
         spend = Spend(pay_to(A), [A], lambda it: it)
         built.sign(spend.transaction, [spend.claim])
         items = [spend.claim.signatures[0][:-1] + bytes([number]), spend.claim.script]
-        yield spend.unsigned_row(f"hash type {number:02x}, which nobody defines", items, not_judged("HashType"))
+        yield spend.unsigned_row(f"hash type {number:02x}, which nobody defines", items, unjudged_answer("HashType"))
 
 
 def high_s():
@@ -93,7 +93,7 @@ def high_s():
     built.sign(spend.transaction, [spend.claim])
     r, s = numbers_of(spend.claim.signatures[0])
     items = [der(r, ORDER - s) + b"\x01", spend.claim.script]
-    yield spend.unsigned_row("a high s", items, {**clean(0), "relay": ["LOW_S"]})
+    yield spend.unsigned_row("a high s", items, {**clean_answer(0), "relay": ["LOW_S"]})
 
 
 def two_keys():
@@ -104,22 +104,22 @@ def two_keys():
     text = r.to_bytes(32, "big") + s.to_bytes(32, "big")
     found = {ecc.ECPubkey.from_sig_string(text, it, spend.digest()).get_public_key_bytes(compressed=True) for it in (0, 1)}
     other = (found - {A.public}).pop()
-    yield spend.unsigned_row("a signature of two keys", [spend.claim.signatures[0], other, spend.claim.script], not_judged("TwoKeys"))
+    yield spend.unsigned_row("a signature of two keys", [spend.claim.signatures[0], other, spend.claim.script], unjudged_answer("TwoKeys"))
 
 
 def der_preimages():
     """A preimage of 32 bytes has the form of a signature, and is none."""
     preimage = bytes.fromhex("301d020c") + b"\x11" * 12 + bytes.fromhex("020d") + b"\x22" * 13 + b"\x01"
     script = lnutil.make_offered_htlc(B.public, A.public, B.public, hashlib.sha256(preimage).digest())
-    yield Spend(script, [A], lambda it: [it[0], preimage]).row("a preimage that looks like a signature", not_judged("AmbiguousItem"))
+    yield Spend(script, [A], lambda it: [it[0], preimage]).row("a preimage that looks like a signature", unjudged_answer("AmbiguousItem"))
     # a signature on path 0, and a preimage on path 1
     script = b"\x63" + pay_to(A) + b"\x67\xa9" + push(hash_160(preimage)) + b"\x87\x68"
     spend = Spend(script, [], lambda it: it)
-    yield spend.unsigned_row("a preimage that looks like a signature, where another path has one", [preimage, b"", script], not_judged("AmbiguousItem"))
-    yield Spend(script, [A], lambda it: [it[0], b"\x01"]).row("a signature where another path has a preimage", clean(0))
+    yield spend.unsigned_row("a preimage that looks like a signature, where another path has one", [preimage, b"", script], unjudged_answer("AmbiguousItem"))
+    yield Spend(script, [A], lambda it: [it[0], b"\x01"]).row("a signature where another path has a preimage", clean_answer(0))
     other = bytes(32)
     script = b"\x63" + pay_to(A) + b"\x67\xa9" + push(hash_160(other)) + b"\x87\x68"
-    yield Spend(script, [], lambda it: [other, b""]).row("a preimage where another path has a signature", clean(1))
+    yield Spend(script, [], lambda it: [other, b""]).row("a preimage where another path has a signature", clean_answer(1))
 
 
 def encodings():
@@ -155,27 +155,34 @@ def mixed_inputs():
     inputs[0].script_type, inputs[0].pubkeys = "p2wpkh", [public]
     transaction = PartialTransaction.from_io(inputs, [TxOutput(scriptpubkey=programs[0], value=250_000)], locktime=0, version=2, BIP69_sort=False)
     signed = bytes.fromhex(transaction.sign_txin(0, private))
-    made_up = invalid("mixed")
+    made_up = invalid_signature("mixed")
     scripts = [b"", push(made_up) + push(A.public), push(nested), b"", b"", push(made_up)]
     witnesses = [[signed, public], [], [made_up, A.public], [b"\x07" * 64], [b"\x01"], []]
-    answers = [clean(0), not_judged("LegacyInput"), not_judged("NestedInput"), not_judged("Taproot"), not_judged("OtherWitnessProgram"), not_judged("LegacyInput")]
+    answers = [
+        clean_answer(0),
+        unjudged_answer("LegacyInput"),
+        unjudged_answer("NestedInput"),
+        unjudged_answer("Taproot"),
+        unjudged_answer("OtherWitnessProgram"),
+        unjudged_answer("LegacyInput"),
+    ]
     spent = [[50_000, it.hex()] for it in programs]
-    yield {"name": "inputs of six kinds", "transaction": built.serialized(transaction, witnesses, scripts), "spent": spent, "answers": answers}
+    yield {"name": "inputs of six kinds", "transaction": built.transaction_hex(transaction, witnesses, scripts), "spent": spent, "answers": answers}
 
 
 def input_script():
     """A witness program of its own has no input script (BIP 141)."""
     spend = Spend(pay_to(A), [A], lambda it: it)
     built.sign(spend.transaction, [spend.claim])
-    raw = built.serialized(spend.transaction, [spend.claim.witness()], [b"\x51"])
-    yield {"name": "an input script beside a witness", "transaction": raw, "spent": built.spent_of([spend.claim]), "answers": [{"answer": "stops", "reason": "InputScript"}]}
+    raw = built.transaction_hex(spend.transaction, [spend.claim.witness()], [b"\x51"])
+    yield {"name": "an input script beside a witness", "transaction": raw, "spent": built.spent_outputs([spend.claim]), "answers": [{"answer": "stops", "reason": "InputScript"}]}
 
 
 def unknown_opcodes():
     """Opcodes that the machine does not know are named."""
     others = {"CHECKSIGVERIFY": push(A.public) + b"\xad\x51", "SHA256": b"\xa8" + push(hashlib.sha256(b"x").digest()) + b"\x87", "an anchor": pay_to(A) + b"\x73\x64\x60\xb2\x68"}
     for name, script in others.items():
-        yield Spend(script, [A], lambda it: it).row(f"an unknown opcode: {name}", not_judged("UnknownOpcode"))
+        yield Spend(script, [A], lambda it: it).row(f"an unknown opcode: {name}", unjudged_answer("UnknownOpcode"))
 
 
 def stricter_rules():
@@ -183,22 +190,22 @@ def stricter_rules():
     uncompressed = Key("uncompressed").private.get_public_key_bytes(compressed=False)
     script = push(uncompressed) + b"\xac"
     relay = {"relay": ["WITNESS_PUBKEYTYPE"]}
-    yield Spend(script, [Key("uncompressed")], lambda it: it).row("a key of 65 bytes", {**stricter("FailedCheck KeyForm", 1), **relay})
+    yield Spend(script, [Key("uncompressed")], lambda it: it).row("a key of 65 bytes", {**stricter_answer("FailedCheck KeyForm", 1), **relay})
     # 06 or 07 in place of 04 says whether y is even: consensus takes the right one, and 02 or 03 before 64 bytes is no key
     right = 6 + (uncompressed[-1] & 1)
-    for first, answer in ((right, {**stricter("FailedCheck KeyForm", 1), **relay}), (right ^ 1, stops("FailedCheck KeyForm", 1)), (2, stops("FailedCheck KeyForm", 1))):
+    for first, answer in ((right, {**stricter_answer("FailedCheck KeyForm", 1), **relay}), (right ^ 1, stops("FailedCheck KeyForm", 1)), (2, stops("FailedCheck KeyForm", 1))):
         script = push(bytes([first]) + uncompressed[1:]) + b"\xac"
         yield Spend(script, [Key("uncompressed")], lambda it: it).row(f"a key of 65 bytes that begins with {first:02x}", answer)
     yield from hash_of_long_key(uncompressed, relay)
     spend = Spend(bytes.fromhex("63006751670068"), [], lambda it: it)
-    yield spend.unsigned_row("a second ELSE", [b"", spend.claim.script], stricter("OpenBranch", 4))
+    yield spend.unsigned_row("a second ELSE", [b"", spend.claim.script], stricter_answer("OpenBranch", 4))
     spend = Spend(bytes.fromhex("020100b1"), [], lambda it: it, lock_time=1)
-    yield spend.unsigned_row("a lock that is not minimally encoded", [spend.claim.script], {**stricter("FailedCheck Number", 1), "relay": ["MINIMALDATA"]})
+    yield spend.unsigned_row("a lock that is not minimally encoded", [spend.claim.script], {**stricter_answer("FailedCheck Number", 1), "relay": ["MINIMALDATA"]})
     script = b"\x52" + push(A.public) + push(B.public) + bytes.fromhex("52ae6451670068")
     spend = Spend(script, [], lambda it: it)
-    answer = {**stricter("FailedCheck TokenForm", 4), "relay": ["NULLFAIL"]}
-    yield spend.unsigned_row("a signature of bad form that consensus never looks at", [b"", b"\x30", invalid("top"), script], answer)
-    yield spend.unsigned_row("a signature of bad form that consensus looks at", [b"", invalid("deep"), b"\x30", script], stops("FailedCheck TokenForm", 4))
+    answer = {**stricter_answer("FailedCheck TokenForm", 4), "relay": ["NULLFAIL"]}
+    yield spend.unsigned_row("a signature of bad form that consensus never looks at", [b"", b"\x30", invalid_signature("top"), script], answer)
+    yield spend.unsigned_row("a signature of bad form that consensus looks at", [b"", invalid_signature("deep"), b"\x30", script], stops("FailedCheck TokenForm", 4))
 
 
 def hash_of_long_key(key, relay):
@@ -209,33 +216,33 @@ def hash_of_long_key(key, relay):
     given.pubkeys = [key]
     transaction = PartialTransaction.from_io([given], [TxOutput(scriptpubkey=claim.program(), value=1_000)], locktime=0, version=2, BIP69_sort=False)
     built.sign(transaction, [claim])
-    raw, answer = built.serialized(transaction, [claim.witness()]), {**stricter("FailedCheck KeyForm", 4), **relay}
-    yield {"name": "the hash of a key of 65 bytes", "transaction": raw, "spent": built.spent_of([claim]), "answers": [answer]}
+    raw, answer = built.transaction_hex(transaction, [claim.witness()]), {**stricter_answer("FailedCheck KeyForm", 4), **relay}
+    yield {"name": "the hash of a key of 65 bytes", "transaction": raw, "spent": built.spent_outputs([claim]), "answers": [answer]}
 
 
 def relay_rules():
     """Clean by consensus, and not relayed."""
     script = pay_to(A) + b"\x64" + pay_to(B) + b"\x67\x00\x68"
-    spend = Spend(script, [B], lambda it: [it[0], invalid("first")])
+    spend = Spend(script, [B], lambda it: [it[0], invalid_signature("first")])
     # path 0 is the branch of the NOTIF, which stands first
-    yield spend.row("a failed signature that is not empty", {**clean(0), "relay": ["NULLFAIL"]})
-    yield Spend(script, [B], lambda it: [it[0], b""]).row("a failed signature that is empty", clean(0))
+    yield spend.row("a failed signature that is not empty", {**clean_answer(0), "relay": ["NULLFAIL"]})
+    yield Spend(script, [B], lambda it: [it[0], b""]).row("a failed signature that is empty", clean_answer(0))
     script = lnutil.make_commitment_output_to_local_witness_script(A.public, 144, B.public)
-    yield Spend(script, [A], lambda it: [it[0], b"\x02"]).row("a true item that is not 01", {**clean(0), "relay": ["MINIMALIF"]})
+    yield Spend(script, [A], lambda it: [it[0], b"\x02"]).row("a true item that is not 01", {**clean_answer(0), "relay": ["MINIMALIF"]})
     for item in (b"\x00", b"\x80", b"\x00\x80"):
-        answer = {**clean(1), "relay": ["MINIMALIF"]}
+        answer = {**clean_answer(1), "relay": ["MINIMALIF"]}
         yield Spend(script, [B], lambda it, item=item: [it[0], item], sequence=144).row(f"a false item {item.hex()}, which is not empty", answer)
     long, longer = b"\x07" * 80, b"\x07" * 81
     for item, relay in ((long, []), (longer, ["WITNESS_ITEM_SIZE"])):
         script = b"\xa9" + push(hash_160(item)) + b"\x88" + pay_to(A)
-        yield Spend(script, [A], lambda it, item=item: [it[0], item]).row(f"an item of {len(item)} bytes", {**clean(0), "relay": relay})
+        yield Spend(script, [A], lambda it, item=item: [it[0], item]).row(f"an item of {len(item)} bytes", {**clean_answer(0), "relay": relay})
     for count, relay in ((99, []), (100, ["WITNESS_ITEMS"])):
         script = b"\x75" * count + pay_to(A)
-        yield Spend(script, [A], lambda it, count=count: it + [b""] * count).row(f"{count + 1} items", {**clean(0), "relay": relay})
+        yield Spend(script, [A], lambda it, count=count: it + [b""] * count).row(f"{count + 1} items", {**clean_answer(0), "relay": relay})
     for count, relay in ((3565, []), (3566, ["WITNESS_SCRIPT_SIZE"])):
         script = bytes([0x4B]) + b"\x05" * 75 + b"\x75"
         script = script * (count // 77) + pushes_of(count % 77) + pay_to(A)
-        yield Spend(script, [A], lambda it: it).row(f"a script of {len(script)} bytes", {**clean(0), "relay": relay})
+        yield Spend(script, [A], lambda it: it).row(f"a script of {len(script)} bytes", {**clean_answer(0), "relay": relay})
 
 
 def pushes_of(count):
@@ -243,33 +250,33 @@ def pushes_of(count):
     return push(b"\x05" * (count - 2)) + b"\x75" if count else b""
 
 
-def measured():
+def measured_signatures():
     """Facts on a signature's own slot other than its size."""
     script = b"\x76\xa9" + push(b"\x09" * 20) + b"\x87\x64" + pay_to(A) + b"\x67\x00\x68"
-    yield Spend(script, [A], lambda it: it).row("a signature whose hash is asked for", not_judged("MeasuredSignature"))
+    yield Spend(script, [A], lambda it: it).row("a signature whose hash is asked for", unjudged_answer("MeasuredSignature"))
     # a signature that is data: its token has 66 bytes, and takes the other branch
     script = bytes.fromhex("8201428763") + b"\x75" + pay_to(A) + b"\x67\x75" + pay_to(A) + b"\x68"
-    yield Spend(script, [A], lambda it: [it[0], it[0]]).row("a signature as data, whose size is asked for", not_judged("MeasuredSignature"))
+    yield Spend(script, [A], lambda it: [it[0], it[0]]).row("a signature as data, whose size is asked for", unjudged_answer("MeasuredSignature"))
     script = b"\x76" + push(b"\x09" * 20) + b"\x87\x64" + pay_to(A) + b"\x67\x00\x68"
-    yield Spend(script, [A], lambda it: it).row("a signature that is compared", not_judged("MeasuredSignature"))
+    yield Spend(script, [A], lambda it: it).row("a signature that is compared", unjudged_answer("MeasuredSignature"))
     # on path 1 one item is the key and its own signature
     script = b"\x63" + pay_to(A) + b"\x67\x76\xac\x68"
-    yield Spend(script, [A], lambda it: [it[0], b"\x01"]).row("a signature that is a key on another path", not_judged("MeasuredSignature"))
+    yield Spend(script, [A], lambda it: [it[0], b"\x01"]).row("a signature that is a key on another path", unjudged_answer("MeasuredSignature"))
 
 
-def pushed():
+def pushed_items():
     """Scripts that push what looks like a signature or a token."""
     token = push(A.public + b"\x08" * 32 + b"\x01")
-    yield Spend(b"\x75" + token + b"\x75" + pay_to(A), [A], lambda it: [it[0], b""]).row("a token that the script pushes and drops", clean(0))
+    yield Spend(b"\x75" + token + b"\x75" + pay_to(A), [A], lambda it: [it[0], b""]).row("a token that the script pushes and drops", clean_answer(0))
     # consensus refuses its form, and the machine has it answer false
     spend = Spend(token + pay_to(B) + b"\x64\x51\x67\x00\x68", [], lambda it: it)
-    yield spend.unsigned_row("a token that the script pushes as a signature", [spend.claim.script], not_judged("PushedToken"))
+    yield spend.unsigned_row("a token that the script pushes as a signature", [spend.claim.script], unjudged_answer("PushedToken"))
     # a key can be made for a signature that stands in the script, since its digest has the script
     compact = A.private.sign(b"\x05" * 32)
     signature = der(int.from_bytes(compact[:32], "big"), int.from_bytes(compact[32:], "big")) + b"\x01"
     spend = Spend(push(signature) + b"\x7c\xac", [], lambda it: it)
     key = ecc.ECPubkey.from_sig_string(compact, 0, spend.digest()).get_public_key_bytes(compressed=True)
-    yield spend.unsigned_row("a signature that the script pushes", [key, spend.claim.script], {**stricter("FailedCheck TokenForm", 2), "relay": []})
+    yield spend.unsigned_row("a signature that the script pushes", [key, spend.claim.script], {**stricter_answer("FailedCheck TokenForm", 2), "relay": []})
 
 
 def keys_of_scripts():
@@ -277,9 +284,9 @@ def keys_of_scripts():
     script = push(b"\x02" + b"\xff" * 32) + b"\xac"
     yield Spend(script, [A], lambda it: it).row("a key that is no point", stops("FalseEnd", 2))
     script = b"\x52" + push(A.public) + push(A.public) + push(B.public) + b"\x53\xae"
-    yield Spend(script, [A], lambda it: [b"", it[0], it[0]]).row("one key twice", clean(0))
+    yield Spend(script, [A], lambda it: [b"", it[0], it[0]]).row("one key twice", clean_answer(0))
     script = b"\x52" + push(A.public) + push(B.public) + b"\x52\xae"
-    yield Spend(script, [A, B], lambda it: [b"", *it]).row("2 of 2", clean(0))
+    yield Spend(script, [A, B], lambda it: [b"", *it]).row("2 of 2", clean_answer(0))
     yield Spend(script, [A], lambda it: [b"", it[0], it[0]]).row("one signature twice", stops("FalseEnd", 5))
     yield Spend(script, [A, B], lambda it: [b"\x01", *it]).row("an extra item that is not empty", stops("FailedCheck Extra", 4))
     yield Spend(script, [A, B], lambda it: it).row("no extra item", stops("MissingOperand", 4))
@@ -290,18 +297,18 @@ def relative_locks():
     """BIPs 68 and 112: blocks and units of 512 seconds, what is off, and bits that nobody looks at."""
     stop = stops("FailedCheck Sequence", 1)
     rows = [
-        ("its own", "029000", 144, 2, clean(0)),
+        ("its own", "029000", 144, 2, clean_answer(0)),
         ("one block less", "029000", 143, 2, stop),
         ("version 1", "029000", 144, 1, stop),
-        ("version 80000000", "029000", 144, 1 << 31, clean(0)),
+        ("version 80000000", "029000", 144, 1 << 31, clean_answer(0)),
         ("a sequence that is off", "029000", OFF + 144, 2, stop),
         ("a final sequence", "029000", built.FINAL, 2, stop),
         ("blocks, where seconds are wanted", "03900040", 144, 2, stop),
         ("seconds, where blocks are wanted", "029000", SECONDS + 144, 2, stop),
-        ("seconds", "03900040", SECONDS + 145, 2, clean(0)),
-        ("bit 16, which nobody looks at", "03900001", 144, 2, clean(0)),
-        ("65,535 blocks", "03ffff00", 0xFFFF, 2, clean(0)),
-        ("a lock that is off", "050000008000", built.FINAL, 1, clean(0)),
+        ("seconds", "03900040", SECONDS + 145, 2, clean_answer(0)),
+        ("bit 16, which nobody looks at", "03900001", 144, 2, clean_answer(0)),
+        ("65,535 blocks", "03ffff00", 0xFFFF, 2, clean_answer(0)),
+        ("a lock that is off", "050000008000", built.FINAL, 1, clean_answer(0)),
         ("a negative lock", "029080", 144, 2, stop),
         ("a lock of 6 bytes", "06900000000001", 144, 2, stops("FailedCheck Number", 1)),
     ]
@@ -314,14 +321,14 @@ def absolute_locks():
     """BIP 65: heights and times, and a final input."""
     stop = stops("FailedCheck LockTime", 1)
     rows = [
-        ("its own", "02f401", 500, 0, clean(0)),
+        ("its own", "02f401", 500, 0, clean_answer(0)),
         ("one block less", "02f401", 499, 0, stop),
-        ("version 2 and a sequence that is off", "02f401", 500, OFF, clean(0)),
+        ("version 2 and a sequence that is off", "02f401", 500, OFF, clean_answer(0)),
         ("a final input", "02f401", 500, built.FINAL, stop),
         ("a time, where a height is wanted", "02f401", 500_000_000, 0, stop),
         ("a height, where a time is wanted", "040065cd1d", 499_999_999, 0, stop),
-        ("a time", "040065cd1d", 500_000_000, 0, clean(0)),
-        ("the last time, of 5 bytes", "05ffffffff00", 0xFFFFFFFF, 0, clean(0)),
+        ("a time", "040065cd1d", 500_000_000, 0, clean_answer(0)),
+        ("the last time, of 5 bytes", "05ffffffff00", 0xFFFFFFFF, 0, clean_answer(0)),
         ("a negative lock", "02f481", 500, 0, stop),
         ("a lock of 6 bytes", "06f40100000001", 500, 0, stops("FailedCheck Number", 1)),
     ]
@@ -332,30 +339,30 @@ def absolute_locks():
 
 def limits():
     """The limits of a run (BIP 141): 201 opcodes with the keys of CHECKMULTISIG, items of 520 bytes."""
-    for count, answer in ((200, {**clean(0), "relay": ["WITNESS_ITEMS"]}), (201, not_judged("NotListed"))):
+    for count, answer in ((200, {**clean_answer(0), "relay": ["WITNESS_ITEMS"]}), (201, unjudged_answer("NotListed"))):
         script = b"\x75" * count + pay_to(A)
         yield Spend(script, [A], lambda it, count=count: it + [b""] * count).row(f"{count + 1} opcodes", answer)
-    for count, answer in ((201, {**clean(0), "relay": ["WITNESS_ITEMS"]}), (202, stops("TooManyOps", 201))):
+    for count, answer in ((201, {**clean_answer(0), "relay": ["WITNESS_ITEMS"]}), (202, stops("TooManyOps", 201))):
         spend = Spend(b"\x75" * count + b"\x51", [], lambda it: it)
         yield spend.unsigned_row(f"{count} opcodes, and no signature", [b""] * count + [spend.claim.script], answer)
     # an extra item, no signature of 20 keys, and DROP: 22 of them; nine leave 3
     none = b"\x00\x00" + push(A.public) * 20 + b"\x01\x14\xae\x75"
     relay = {"relay": ["WITNESS_SCRIPT_SIZE"]}
-    for count, more, answer in ((9, 2, {**clean(0), **relay}), (9, 3, not_judged("NotListed"))):
+    for count, more, answer in ((9, 2, {**clean_answer(0), **relay}), (9, 3, unjudged_answer("NotListed"))):
         script = none * count + b"\x75" * more + pay_to(A)
         yield Spend(script, [A], lambda it, more=more: it + [b""] * more).row(f"{count} times 20 keys, and {more + 1} opcodes more", answer)
-    for count, more, answer in ((9, 3, {**clean(0), **relay}), (9, 4, stops("TooManyOps", 9 * 25 + 3)), (10, 0, stops("TooManyOps", 9 * 25 + 23))):
+    for count, more, answer in ((9, 3, {**clean_answer(0), **relay}), (9, 4, stops("TooManyOps", 9 * 25 + 3)), (10, 0, stops("TooManyOps", 9 * 25 + 23))):
         spend = Spend(none * count + b"\x75" * more + b"\x51", [], lambda it: it)
         yield spend.unsigned_row(f"{count} times 20 keys, {more} opcodes more and no signature", [b""] * more + [spend.claim.script], answer)
     long = b"\x07" * 520
     script = b"\xa9" + push(hash_160(long)) + b"\x88" + pay_to(A)
-    yield Spend(script, [A], lambda it: [it[0], long]).row("an item of 520 bytes", {**clean(0), "relay": ["WITNESS_ITEM_SIZE"]})
+    yield Spend(script, [A], lambda it: [it[0], long]).row("an item of 520 bytes", {**clean_answer(0), "relay": ["WITNESS_ITEM_SIZE"]})
 
 
 def ends():
     """What stands at the end."""
     for script, items, answer in (
-        (b"", [b"\x01"], clean(0)),
+        (b"", [b"\x01"], clean_answer(0)),
         (b"", [b"\x80"], stops("FalseEnd", 0)),
         (b"", [], stops("NotOneValue", 0)),
         (b"\x00", [], stops("FalseEnd", 1)),
@@ -372,8 +379,8 @@ def anchors():
     """The HTLC of a channel with anchors: the peer's signature of an HTLC transaction has another hash type, and one block has to pass on all paths but the penalty (BOLT 3)."""
     keys, preimage, expiry, plain = built.htlc(77, True)
     script, opcode = plain[:-1] + b"\x51\xb2\x75\x68", 29
-    yield Spend(script, [keys[0]], lambda it: [it[0], keys[0].public]).row("anchors: a penalty", clean(0))
-    yield Spend(script, [keys[1]], lambda it: [it[0], b""], sequence=1, lock_time=expiry).row("anchors: a direct timeout", clean(2))
+    yield Spend(script, [keys[0]], lambda it: [it[0], keys[0].public]).row("anchors: a penalty", clean_answer(0))
+    yield Spend(script, [keys[1]], lambda it: [it[0], b""], sequence=1, lock_time=expiry).row("anchors: a direct timeout", clean_answer(2))
     yield Spend(script, [keys[1]], lambda it: [it[0], b""], sequence=0, lock_time=expiry).row("anchors: a direct timeout in the same block", stops("FailedCheck Sequence", opcode))
     spend = Spend(script, [keys[1]], lambda it: it, sequence=1)
     spend.transaction.inputs()[0].sighash = HASH_TYPES["SINGLE|ANYONECANPAY"]
@@ -381,7 +388,7 @@ def anchors():
     peer = spend.claim.signatures[0]
     spend.transaction.inputs()[0].sighash = None
     spend.claim.signers, spend.claim.items = [keys[2]], lambda it: [b"", peer, it[0], preimage]
-    yield spend.row("anchors: an HTLC-success transaction", not_judged("HashType"))
+    yield spend.row("anchors: an HTLC-success transaction", unjudged_answer("HashType"))
 
 
 def witnesses():
@@ -396,14 +403,14 @@ def witnesses():
     yield {**spend.unsigned_row("a token over another digest", [forged, spend.claim.script], {}), "refused": "ForgedToken 0 0"}
     yield {**spend.unsigned_row("a token that nobody asks for", [signed, forged, spend.claim.script], {}), "refused": "ForgedToken 0 1"}
     script = b"\x88" + pay_to(A)
-    yield Spend(script, [A], lambda it: [it[0], b"\x05", b"\x05"]).row("a script whose paths are not listed", not_judged("NotListed"))
-    claim = built.placed([built.key_hash(12)], 12)[0]
+    yield Spend(script, [A], lambda it: [it[0], b"\x05", b"\x05"]).row("a script whose paths are not listed", unjudged_answer("NotListed"))
+    claim = built.place_claims([built.key_hash(12)], 12)[0]
     transaction = PartialTransaction.from_io([built.input_of(claim)], [TxOutput(scriptpubkey=claim.program(), value=1_000)], locktime=0, version=2, BIP69_sort=False)
     built.sign(transaction, [claim])
-    spent = built.spent_of([claim])
+    spent = built.spent_outputs([claim])
     raw = transaction.serialize_to_network(include_sigs=False)
-    yield {"name": "the hash of a key, and no witness", "transaction": raw, "spent": spent, "answers": [not_judged("NoWitness")]}
-    raw = built.serialized(transaction, [claim.signatures])
+    yield {"name": "the hash of a key, and no witness", "transaction": raw, "spent": spent, "answers": [unjudged_answer("NoWitness")]}
+    raw = built.transaction_hex(transaction, [claim.signatures])
     yield {"name": "the hash of a key, and one item", "transaction": raw, "spent": spent, "answers": [{"answer": "stops", "reason": "NotTwoItems"}]}
     spend = Spend(pay_to(A) + b"\x02\x07", [A], lambda it: it)
     yield spend.row("a push that is cut", {"answer": "stops", "reason": "Truncated 35"})
@@ -411,7 +418,7 @@ def witnesses():
 
 KINDS_OF_ROWS = (
     *(hash_types, high_s, two_keys, der_preimages, encodings, mixed_inputs, input_script, unknown_opcodes, stricter_rules, relay_rules),
-    *(measured, pushed, keys_of_scripts, relative_locks, absolute_locks, limits, ends, anchors, witnesses),
+    *(measured_signatures, pushed_items, keys_of_scripts, relative_locks, absolute_locks, limits, ends, anchors, witnesses),
 )
 
 

@@ -39,7 +39,7 @@ def sign_input(found, index, keys, digests, curve):
     if pushes is None:
         raise Refused(f"BadScript {index}")
     used = dict(keys[it] for it in pushes if it in keys)
-    digest = digests.of(index, script, output.value)
+    digest = digests.digest_of(index, script, output.value)
     for public, private in used.items():
         der = curve.sign(private, digest)
         if not curve.verify(public, digest, der):
@@ -53,7 +53,7 @@ def sign(found, privates, curve):
     for number, private in enumerate(privates):
         if not curve.is_private(private):
             raise Refused(f"BadKey {number}")
-    publics = [curve.public(it) for it in privates]
+    publics = [curve.public_key(it) for it in privates]
     # by what a script has of it: the key or its hash
     keys = {name: pair for pair in zip(publics, privates) for name in (pair[0], hash160(pair[0]))}
     digests = Digests(found.transaction)

@@ -11,7 +11,7 @@ from errors import Refused
 from plan import read_plan
 from ripemd160 import ripemd160
 from signing import sign
-from transaction import Input, Output, Transaction, compact, hash160, sha256, text
+from transaction import Input, Output, Transaction, compact_size, hash160, sha256, text
 
 # the order of the curve (SEC 2)
 ORDER = int("fffffffffffffffffffffffffffffffebaaedce6af48a03bbfd25e8cd0364141", 16)
@@ -27,19 +27,19 @@ def spend_again(count, curve, trace):
         for it in case["htlc_transactions"]:
             plan = json.dumps(bolt3.plan(told, case["name"], it["htlc"]))
             made = assembling.make(read_plan(plan)).base64()
-            signed = sign(partial.read(partial.decoded(made.encode())), privates, curve).base64()
-            finished = assembling.finish(read_plan(plan), partial.read(partial.decoded(signed.encode())), curve)
+            signed = sign(partial.read(partial.decoded_bytes(made.encode())), privates, curve).base64()
+            finished = assembling.finish(read_plan(plan), partial.read(partial.decoded_bytes(signed.encode())), curve)
             raw, spent = wanted[f"{case['name']}: HTLC {it['htlc']}"]
             count.check(finished.bytes() == raw, f"{case['name']}: HTLC {it['htlc']}, signed anew")
             count.check(judging.judge(finished, [spent], curve, trace)[0]["answer"] == "clean", f"{case['name']}: HTLC {it['htlc']}, judged")
             refuse_faults(count, plan, signed, privates, curve)
-            finish_final(count, plan, finished.inputs[0].witness, curve)
+            finish_final_witness(count, plan, finished.inputs[0].witness, curve)
             tell_preimage(count, told, it, made)
 
 
 def spend_key_hashes(count, privates, curve, trace):
     """An output to the hash of a key and one to a script, whose keys are in the witness and in the script, in one transaction."""
-    keys = [curve.public(it) for it in privates]
+    keys = [curve.public_key(it) for it in privates]
     program, script = b"\x00\x14" + hash160(keys[0]), push_of(keys[1]) + b"\xac"
     spent = [Output(7_000, program), Output(8_000, b"\x00\x20" + sha256(script))]
     transaction = Transaction(2, [Input(bytes([5 + it]) * 36, b"", 7) for it in range(2)], [Output(14_000, program)], 0)
@@ -47,7 +47,7 @@ def spend_key_hashes(count, privates, curve, trace):
     for index, (output, code, items) in enumerate(zip(spent, (scripts.key_script(program), script), ([None, keys[0].hex()], [None, script.hex()]))):
         wanted = {"item": 0, "key": keys[index].hex(), "digest": transaction.digest(index, code, output.value).hex()}
         inputs.append({"value": output.value, "program": output.program.hex(), "script": code.hex(), "witness": items, "signatures": [wanted]})
-    plan = json.dumps({"transaction": transaction.stripped().hex(), "inputs": inputs})
+    plan = json.dumps({"transaction": transaction.stripped_bytes().hex(), "inputs": inputs})
     made = assembling.make(read_plan(plan))
     count.check([partial.key_of(partial.WITNESS_SCRIPT) in it for it in made.inputs] == [False, True], "a witness script where there is one")
     signed = sign(made, privates, curve)
@@ -56,16 +56,16 @@ def spend_key_hashes(count, privates, curve, trace):
     count.check([it["answer"] for it in found] == ["clean", "clean"], f"the hash of a key, and a script: {found}")
 
 
-def spend_asked(count, curve, trace):
+def spend_request(count, curve, trace):
     """What the program `spend` makes is signed by the peer's key, finished and judged: an HTLC by its preimage, and one after its timeout."""
     told = bolt3.read()
-    plan, _ = asking.asked_of_spend(asking.line(next(asking.requests(told))[0]))
+    plan, _ = asking.spend_answer(asking.line(next(asking.requests(told))[0]))
     signed = sign(assembling.make(read_plan(plan)), [bytes.fromhex(told["terms"]["keys"]["remote_htlc_privkey"])], curve)
     finished = assembling.finish(read_plan(plan), signed, curve)
     spent = [it.output for it in read_plan(plan).inputs]
     found = judging.judge(finished, spent, curve, trace)
     count.check([(it["answer"], it.get("path")) for it in found] == [("clean", 2), ("clean", 2)], f"a spend of {len(spent)} outputs: {found}")
-    weight = 3 * len(finished.stripped()) + len(finished.bytes())
+    weight = 3 * len(finished.stripped_bytes()) + len(finished.bytes())
     count.check(weight <= json.loads(plan)["weight"] < weight + 8, f"a weight of {weight}")
 
 
@@ -73,26 +73,26 @@ def push_of(key):
     return bytes([len(key)]) + key
 
 
-def finish_final(count, plan, witness, curve):
+def finish_final_witness(count, plan, witness, curve):
     """A final witness in another order is put back into the order of the plan; one that lacks a signature is refused."""
     for items, holds in ((list(reversed(witness)), True), ([*witness[:1], *witness[2:]], False)):
         found = assembling.make(read_plan(plan))
-        found.inputs[0][partial.key_of(partial.FINAL_SCRIPTWITNESS)] = compact(len(items)) + b"".join(map(text, items))
+        found.inputs[0][partial.key_of(partial.FINAL_SCRIPTWITNESS)] = compact_size(len(items)) + b"".join(map(text, items))
         if holds:
             count.check(assembling.finish(read_plan(plan), found, curve).inputs[0].witness == witness, "a final witness in another order")
         else:
-            count.check(refused_as("MissingSignature 0", lambda found=found: assembling.finish(read_plan(plan), found, curve)), "a final witness without a signature")
+            count.check(is_refused_as("MissingSignature 0", lambda found=found: assembling.finish(read_plan(plan), found, curve)), "a final witness without a signature")
 
 
 def tell_preimage(count, told, htlc, made):
     """The preimage of an HTLC-success transaction stands beside the hash that the script has: RIPEMD-160 of the payment hash."""
-    found = partial.with_kind(partial.read(partial.decoded(made.encode())).inputs[0], partial.HASH160)
+    found = partial.with_kind(partial.read(partial.decoded_bytes(made.encode())).inputs[0], partial.HASH160)
     payment = next(it for it in told["htlcs"] if it["id"] == htlc["htlc"])
     pair = {ripemd160(bytes.fromhex(payment["payment_hash"])): bytes.fromhex(payment["preimage"])}
     count.check(found == (pair if htlc["kind"] == "success" else {}), "a preimage that is told")
 
 
-def refused_as(name, make):
+def is_refused_as(name, make):
     try:
         make()
     except Refused as why:
@@ -101,7 +101,7 @@ def refused_as(name, make):
 
 
 def with_signatures(signed, change):
-    found = partial.read(partial.decoded(signed.encode()))
+    found = partial.read(partial.decoded_bytes(signed.encode()))
     for fields in found.inputs:
         for key in [it for it in fields if partial.kind_of(it)[0] == partial.PARTIAL_SIG]:
             fields.update({key: change(fields.pop(key))})
@@ -132,4 +132,4 @@ def refuse_faults(count, plan, signed, privates, curve):
         ("UnusedKey 2", lambda: sign(assembling.make(read_plan(plan)), [*privates, b"\x07" * 32], curve)),
     ]
     for name, make in tried:
-        count.check(refused_as(name, make), f"a fault that is to be refused as {name}")
+        count.check(is_refused_as(name, make), f"a fault that is to be refused as {name}")

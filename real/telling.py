@@ -22,15 +22,15 @@ FAULTS = {
 }
 
 
-def many(count, word):
+def count_of(count, word):
     """A number of things."""
     return f"{count} {word}{'' if count == 1 else 's'}"
 
 
 def whole_page(it):
-    fee = "a fee that is not known" if it["fee"] is None else f"a fee of {many(it['fee'], 'satoshi')}"
+    fee = "a fee that is not known" if it["fee"] is None else f"a fee of {count_of(it['fee'], 'satoshi')}"
     faults = "".join(f"  fault   {each}: {FAULTS[each]}\n" for each in it["faults"])
-    return f"transaction {it['txid']}: {many(it['inputs'], 'input')}, {many(it['outputs'], 'output')}, {fee}\n{faults}"
+    return f"transaction {it['txid']}: {count_of(it['inputs'], 'input')}, {count_of(it['outputs'], 'output')}, {fee}\n{faults}"
 
 
 def head(it):
@@ -38,7 +38,7 @@ def head(it):
     if it["answer"] == "clean":
         on = "its paths are not listed" if it["path"] is None else f"path {it['path']}"
         entries = f"{it['height']} {'entry' if it['height'] == 1 else 'entries'}"
-        return f"{start} is clean: {on}; {many(it['counted'], 'opcode')} counted, {entries} at most\n"
+        return f"{start} is clean: {on}; {count_of(it['counted'], 'opcode')} counted, {entries} at most\n"
     why = f"{it['reason']}: {it['says']}\n"
     if it["answer"] == "not judged":
         return f"{start} is not judged: {why}"

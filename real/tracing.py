@@ -42,7 +42,7 @@ class Trace:
     def paths(self, scripts):
         """What is listed of each script. A script is asked about once."""
         new = [it for it in dict.fromkeys(scripts) if it not in self.listed]
-        self.listed.update(zip(new, [listing.listed(self.library, it) for it in new] if self.library else self.by_program(new)))
+        self.listed.update(zip(new, [listing.listing_of(self.library, it) for it in new] if self.library else self.by_program(new)))
         return [self.listed[it] for it in scripts]
 
     def by_program(self, scripts):
@@ -63,7 +63,7 @@ class Trace:
         return found
 
 
-def built():
+def built_program():
     """The program that ./trace runs now, without its look at the sources before each call. For tests, which call it often."""
     wrapper = os.path.join(TOP, "trace")
     try:

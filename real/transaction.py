@@ -26,12 +26,12 @@ def hash160(data):
         return ripemd160(sha256(data))
 
 
-def shown(txid):
+def shown_id(txid):
     """An id as explorers show it: the bytes of the hash from the last to the first."""
     return txid[::-1].hex()
 
 
-def compact(number):
+def compact_size(number):
     """A count or length (CompactSize)."""
     for limit, mark, size in ((0xFD, b"", 1), (1 << 16, b"\xfd", 2), (1 << 32, b"\xfe", 4)):
         if number < limit:
@@ -41,7 +41,7 @@ def compact(number):
 
 def text(data):
     """Bytes with their length before them."""
-    return compact(len(data)) + data
+    return compact_size(len(data)) + data
 
 
 class Reader:
@@ -64,7 +64,7 @@ class Reader:
         if first < 0xFD:
             return first
         found = self.number({0xFD: 2, 0xFE: 4, 0xFF: 8}[first])
-        if len(compact(found)) != {0xFD: 3, 0xFE: 5, 0xFF: 9}[first]:
+        if len(compact_size(found)) != {0xFD: 3, 0xFE: 5, 0xFF: 9}[first]:
             raise Refused("LongCount")
         return found
 
@@ -89,7 +89,7 @@ class Input:
     witness: List[bytes] = field(default_factory=list)
 
     def shown_outpoint(self):
-        return f"{shown(self.outpoint[:32])}:{int.from_bytes(self.outpoint[32:], 'little')}"
+        return f"{shown_id(self.outpoint[:32])}:{int.from_bytes(self.outpoint[32:], 'little')}"
 
     def bytes(self):
         return self.outpoint + text(self.script) + self.sequence.to_bytes(4, "little")
@@ -115,29 +115,29 @@ class Transaction:
     outputs: List[Output]
     lock_time: int
 
-    def stripped(self):
+    def stripped_bytes(self):
         """Its bytes without marker and witnesses, over which its id is taken."""
-        inputs = compact(len(self.inputs)) + b"".join(it.bytes() for it in self.inputs)
-        outputs = compact(len(self.outputs)) + b"".join(it.bytes() for it in self.outputs)
+        inputs = compact_size(len(self.inputs)) + b"".join(it.bytes() for it in self.inputs)
+        outputs = compact_size(len(self.outputs)) + b"".join(it.bytes() for it in self.outputs)
         return self.version.to_bytes(4, "little") + inputs + outputs + self.lock_time.to_bytes(4, "little")
 
     def bytes(self):
         """Its bytes, with marker and witnesses where one has an item."""
-        plain = self.stripped()
+        plain = self.stripped_bytes()
         if not any(it.witness for it in self.inputs):
             return plain
-        witnesses = b"".join(compact(len(it.witness)) + b"".join(map(text, it.witness)) for it in self.inputs)
+        witnesses = b"".join(compact_size(len(it.witness)) + b"".join(map(text, it.witness)) for it in self.inputs)
         return plain[:4] + b"\x00\x01" + plain[4:-4] + witnesses + plain[-4:]
 
     def txid(self):
-        return shown(sha256d(self.stripped()))
+        return shown_id(sha256d(self.stripped_bytes()))
 
     def wtxid(self):
-        return shown(sha256d(self.bytes()))
+        return shown_id(sha256d(self.bytes()))
 
     def digest(self, index, code, value):
         """What a signature of hash type ALL for this input is over (BIP 143)."""
-        return Digests(self).of(index, code, value)
+        return Digests(self).digest_of(index, code, value)
 
 
 class Digests:
@@ -149,7 +149,7 @@ class Digests:
         self.sequences = sha256d(b"".join(it.sequence.to_bytes(4, "little") for it in transaction.inputs))
         self.outputs = sha256d(b"".join(it.bytes() for it in transaction.outputs))
 
-    def of(self, index, code, value):
+    def digest_of(self, index, code, value):
         it = self.transaction.inputs[index]
         own = it.outpoint + text(code) + value.to_bytes(8, "little") + it.sequence.to_bytes(4, "little")
         ends = self.transaction.lock_time.to_bytes(4, "little") + HASH_TYPE_ALL.to_bytes(4, "little")

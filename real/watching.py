@@ -13,7 +13,7 @@ from electrum import ecc
 from electrum.crypto import sha256d
 from electrum.transaction import PartialTransaction, Transaction, TxOutput
 from errors import NotRun
-from tracing import Trace, built
+from tracing import Trace, built_program
 
 REVOKED = os.path.join(os.path.dirname(os.path.abspath(__file__)), "revoked")
 SECONDS = 900
@@ -30,7 +30,7 @@ class Once(Trace):
     """The judge, which is asked about each transaction once: what is changed leaves most of them as they are."""
 
     def __init__(self):
-        super().__init__(built())
+        super().__init__(built_program())
         self.told = {}
 
     def witness(self, transaction, spent):
@@ -58,7 +58,7 @@ class Tally:
         self.second += len(answers) * is_second
         self.little += sum(it["answer"] == TOO_LITTLE for it in answers)
 
-    def told(self):
+    def report(self):
         outputs = f"{self.outputs} outputs ({self.second} of HTLC transactions, {self.little} too little to be passed on)"
         print(f"towers: {self.channels} channels, {outputs}, {self.changes} changes by which {self.named} outputs no longer match, {self.differ} differ")
         return int(self.differ > 0)
@@ -72,7 +72,7 @@ def state_of(channel, raw):
         "secret": channel.secret.hex(),
         "delay_blocks": channel.delay_blocks,
         "htlcs": [{"direction": "received" if it.is_received else "offered", "hash": it.payment_hash.hex(), "expiry_height": it.expiry_height} for it in channel.htlcs],
-        "bases": {name: channels.public(it).hex() for name, it in channel.privates.items()},
+        "bases": {name: channels.public_key(it).hex() for name, it in channel.privates.items()},
         "destination": DESTINATION.hex(),
         "feerate_per_kw": FEERATES_PER_KW[channel.number % len(FEERATES_PER_KW)],
         "height": HEIGHT,
@@ -80,13 +80,13 @@ def state_of(channel, raw):
     }
 
 
-def privates_of(channel):
+def private_keys_of(channel):
     return [channel.privates[it] for it in ("payment", "revocation")]
 
 
 def by_program(channel, raw):
     """What the program answers, with its status."""
-    lines = [json.dumps(state_of(channel, raw)), *(it.hex() for it in privates_of(channel))]
+    lines = [json.dumps(state_of(channel, raw)), *(it.hex() for it in private_keys_of(channel))]
     words = [REVOKED, *(["--legacy"] if channel.is_legacy else [])]
     ran = subprocess.run(words, input="".join(f"{it}\n" for it in lines), stdout=subprocess.PIPE, stderr=subprocess.PIPE, text=True, timeout=SECONDS)
     if ran.returncode not in (0, 1):
@@ -97,7 +97,7 @@ def by_program(channel, raw):
 def by_call(channel, raw, curve, trace):
     """The same, without a process of its own."""
     state = punishing.read_state(json.dumps(state_of(channel, raw)))
-    found = list(punishing.penalties(state, privates_of(channel), curve, trace, is_legacy=channel.is_legacy))
+    found = list(punishing.penalties(state, private_keys_of(channel), curve, trace, is_legacy=channel.is_legacy))
     return found, int(bool(found[-1]["others"] or found[-1]["no_key"]))
 
 
@@ -119,7 +119,7 @@ def items_of(known):
     return {"to_local": [b"\x01"], "to_remote": []}.get(known.kind, [known.key])
 
 
-def blocks_left(known):
+def deadline_of(known):
     """The number of next blocks before the first one in which somebody else can take the output."""
     return None if known.first_height is None else max(0, known.first_height - (HEIGHT + 1))
 
@@ -131,7 +131,7 @@ def faults_of(answer, transaction, at, known):
     faults = {"outputs": answer["outputs"] != [at], "kinds": answer["kinds"] != [known.kind], "value": answer["value"] != output.value}
     faults["answer"] = answer["answer"] != (TOO_LITTLE if left_sat < DUST_SAT else "taken")
     if answer["answer"] == "taken":
-        faults["deadline_blocks"] = answer["deadline_blocks"] != blocks_left(known)
+        faults["deadline_blocks"] = answer["deadline_blocks"] != deadline_of(known)
         made = Transaction(answer["transaction"])
         made.deserialize()
         witness = made.inputs()[0].witness_elements()
@@ -160,7 +160,7 @@ def compare(tally, name, known, transaction, answered):
     return answers, others
 
 
-def spoiled(answer, known):
+def spoiled_answers(answer, known):
     """The answer for an output that is taken, with one thing wrong each, and which."""
     yield "outputs", {**answer, "outputs": [answer["outputs"][0] + 1]}
     yield "kinds", {**answer, "kinds": ["another"]}
@@ -181,7 +181,7 @@ def check_itself(tally, answered, transaction, known):
     (*answers, last), status = answered
     answer = next(it for it in answers if it["answer"] == "taken")
     at = answer["outputs"][0]
-    for name, it in spoiled(answer, known[transaction.outputs()[at].scriptpubkey]):
+    for name, it in spoiled_answers(answer, known[transaction.outputs()[at].scriptpubkey]):
         found = faults_of(it, transaction, at, known[transaction.outputs()[at].scriptpubkey])
         tally.check(found == [name], f"the comparison itself: {found}, and not {name}")
     wrong = {**last, "taken": last["taken"][1:], "others": last["taken"][:1]}
@@ -193,28 +193,28 @@ def check_itself(tally, answered, transaction, known):
         tally.check(quiet.differ, "the comparison itself")
 
 
-def another(channel, name):
+def other_bytes(channel, name):
     return hashlib.sha256(f"another {name} of channel {channel.number}".encode()).digest()
 
 
 def changed_parts(channel):
     """The channel with one base point, the delay or the secret changed. The private key of a base point is changed with it."""
     for name in channels.BASES:
-        yield name, dataclasses.replace(channel, privates={**channel.privates, name: another(channel, name)})
+        yield name, dataclasses.replace(channel, privates={**channel.privates, name: other_bytes(channel, name)})
     yield "delay", dataclasses.replace(channel, delay_blocks=(channel.delay_blocks + 1) % 65_536)
-    yield "secret", dataclasses.replace(channel, secret=another(channel, "secret"))
+    yield "secret", dataclasses.replace(channel, secret=other_bytes(channel, "secret"))
 
 
 def changed_htlc(channel):
     """The channel without one of its HTLCs, and with another direction, hash or expiry of it."""
-    seen = channel.untrimmed() or channel.htlcs
+    seen = channel.untrimmed_htlcs() or channel.htlcs
     if not seen:
         return
     it = seen[channel.number % len(seen)]
     instead = {
         "no HTLC": [],
         "direction": [dataclasses.replace(it, is_received=not it.is_received)],
-        "hash": [dataclasses.replace(it, payment_hash=another(channel, "hash"))],
+        "hash": [dataclasses.replace(it, payment_hash=other_bytes(channel, "hash"))],
         "expiry": [dataclasses.replace(it, expiry_height=it.expiry_height - 1)],
     }
     place = next(place for place, other in enumerate(channel.htlcs) if other is it)
@@ -222,15 +222,15 @@ def changed_htlc(channel):
         yield name, dataclasses.replace(channel, htlcs=[*channel.htlcs[:place], *htlcs, *channel.htlcs[place + 1 :]])
 
 
-def watch_changed(tally, name, channel, transaction, raw, curve, trace):
+def watch_changes(tally, name, channel, transaction, raw, curve, trace):
     """With one part changed: what of the transaction still has a program that Electrum makes of the rest is taken, and what has none is named."""
     for part, changed in (*changed_parts(channel), *changed_htlc(channel)):
-        _, others = compare(tally, f"{name}, another {part}", channels.known(changed), transaction, by_call(changed, raw, curve, trace))
+        _, others = compare(tally, f"{name}, another {part}", channels.outputs_by_program(changed), transaction, by_call(changed, raw, curve, trace))
         tally.changes, tally.named = tally.changes + 1, tally.named + len(others)
         tally.seen |= {part} if others else set()
 
 
-def raw_of(transaction, number):
+def hex_of(transaction, number):
     """Its bytes: in each second four channels without witnesses."""
     return transaction.serialize_to_network(include_sigs=number // 4 % 2 == 0)
 
@@ -238,15 +238,15 @@ def raw_of(transaction, number):
 def check_number(tally, name, channel, raw):
     """The number that the commitment has is the channel's."""
     opener, other = channels.payment_bases(channel)
-    found = numbering.told(json.dumps({"transaction": raw, "opener_payment": opener.hex(), "other_payment": other.hex()}))
+    found = numbering.commitment_numbers(json.dumps({"transaction": raw, "opener_payment": opener.hex(), "other_payment": other.hex()}))
     tally.check(found["commitment_number"] == channel.commitment_number, f"{name}: commitment number {found['commitment_number']}")
 
 
 def watch(tally, number, curve, trace):
     """All that is asked of one channel: its commitment by the program, and with each part changed; its number; each of its HTLC transactions, and the first with each part changed."""
-    channel = channels.drawn(number)
-    commitment, known, name = channels.commitment_of(channel), channels.known(channel), f"channel {number}"
-    raw = raw_of(commitment, number)
+    channel = channels.drawn_channel(number)
+    commitment, known, name = channels.commitment_of(channel), channels.outputs_by_program(channel), f"channel {number}"
+    raw = hex_of(commitment, number)
     tally.channels += 1
     answered = by_program(channel, raw)
     answers, others = compare(tally, name, known, commitment, answered)
@@ -255,12 +255,12 @@ def watch(tally, number, curve, trace):
     tally.check(not others, f"{name}: Electrum does not know its own outputs {others}")
     tally.add(answers, False)
     check_number(tally, name, channel, raw)
-    watch_changed(tally, name, channel, commitment, raw, curve, trace)
-    for place, it in enumerate(channel.untrimmed()):
+    watch_changes(tally, name, channel, commitment, raw, curve, trace)
+    for place, it in enumerate(channel.untrimmed_htlcs()):
         second, where = channels.second_stage_of(channel, commitment, it), f"{name}, HTLC transaction {place}"
-        raw = raw_of(second, number)
+        raw = hex_of(second, number)
         answers, others = compare(tally, where, known, second, by_call(channel, raw, curve, trace) if place else by_program(channel, raw))
         tally.check(not others, f"{where}: Electrum does not know its output")
         tally.add(answers, True)
         if place == 0:
-            watch_changed(tally, where, channel, second, raw, curve, trace)
+            watch_changes(tally, where, channel, second, raw, curve, trace)

@@ -48,7 +48,7 @@ def cost(transaction, spent):
     return found
 
 
-def told(transaction, spent):
+def summary_of(transaction, spent):
     """The ids of a transaction, its fee where all spent outputs are known, and what consensus refuses of it. A spent output that is not known is None."""
     paid, known = sum(it.value for it in transaction.outputs), None not in spent
     fee = sum(it.value for it in spent) - paid if known else None
@@ -59,7 +59,7 @@ def told(transaction, spent):
         "NoOutpoint": NO_OUTPOINT in outpoints,
         "TooMuch": max(paid, paid + (fee or 0)) > MAX_MONEY,
         "OutputsExceed": known and fee < 0,
-        "TooHeavy": (SCALE - 1) * len(transaction.stripped()) + len(transaction.bytes()) > MAX_WEIGHT,
+        "TooHeavy": (SCALE - 1) * len(transaction.stripped_bytes()) + len(transaction.bytes()) > MAX_WEIGHT,
         "TooManySigops": cost(transaction, spent) > MAX_SIGOPS,
     }
     found = {"txid": transaction.txid(), "wtxid": transaction.wtxid(), "inputs": len(transaction.inputs), "outputs": len(transaction.outputs), "fee": fee}

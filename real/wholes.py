@@ -17,7 +17,7 @@ def transaction(outputs, witness=(b"\x51",), count=1, script=b""):
     return Transaction(2, inputs, [Output(value, program) for value, program in outputs], 0)
 
 
-def spent_by(it, value=5):
+def spent_outputs(it, value=5):
     """Outputs to the scripts at the end of the inputs' witnesses."""
     return [Output(value, b"\x00\x20" + sha256(each.witness[-1])) for each in it.inputs]
 
@@ -25,12 +25,12 @@ def spent_by(it, value=5):
 def of_weight(weight):
     """A transaction of this weight: its outputs' programs have the bytes that are missing, and its witness the units."""
     plain = transaction([(1, bytes(9_999))] * 99 + [(1, bytes(1_000))])
-    missing = weight - 3 * len(plain.stripped()) - len(plain.bytes())
+    missing = weight - 3 * len(plain.stripped_bytes()) - len(plain.bytes())
     return transaction([(1, bytes(9_999))] * 99 + [(1, bytes(1_000 + missing // 4))], (b"\x51" + b"\x07" * (missing % 4),))
 
 
 def faults(it, spent):
-    found = whole.told(it, spent)["faults"]
+    found = whole.summary_of(it, spent)["faults"]
     SEEN.update(found)
     return found
 
@@ -38,8 +38,8 @@ def faults(it, spent):
 def check_weight(count):
     for weight, wanted in ((4_000_000, []), (4_000_001, ["TooHeavy"])):
         it = of_weight(weight)
-        count.check(3 * len(it.stripped()) + len(it.bytes()) == weight, f"a transaction of weight {weight}")
-        count.check(faults(it, spent_by(it, 100)) == wanted, f"faults of weight {weight}")
+        count.check(3 * len(it.stripped_bytes()) + len(it.bytes()) == weight, f"a transaction of weight {weight}")
+        count.check(faults(it, spent_outputs(it, 100)) == wanted, f"faults of weight {weight}")
 
 
 def check_sums(count):
@@ -52,10 +52,10 @@ def check_sums(count):
         ([(MAX_MONEY, b""), (1, b"")], MAX_MONEY, ["TooMuch", "OutputsExceed"]),
     ):
         it = transaction(outputs)
-        count.check(faults(it, spent_by(it, value)) == wanted, f"faults of {outputs} of {value}")
+        count.check(faults(it, spent_outputs(it, value)) == wanted, f"faults of {outputs} of {value}")
     two = transaction([(5, b"")], count=2)
     count.check(faults(two, [Output(MAX_MONEY, KEY_HASH), Output(1, KEY_HASH)]) == ["TooMuch"], "inputs of too much")
-    told = whole.told(two, [None, Output(1, KEY_HASH)])
+    told = whole.summary_of(two, [None, Output(1, KEY_HASH)])
     count.check((told["fee"], told["faults"]) == (None, []), "a spent output that is not known")
 
 
@@ -63,10 +63,10 @@ def check_outpoints(count):
     for outpoint, wanted in ((bytes(32) + b"\xff" * 4, ["NoOutpoint"]), (bytes(36), []), (b"\x01" + bytes(31) + b"\xff" * 4, [])):
         it = transaction([(5, b"")])
         it.inputs[0].outpoint = outpoint
-        count.check(faults(it, spent_by(it)) == wanted, f"faults of the outpoint {outpoint.hex()}")
+        count.check(faults(it, spent_outputs(it)) == wanted, f"faults of the outpoint {outpoint.hex()}")
     same = transaction([(5, b"")], count=2)
     same.inputs[1].outpoint = same.inputs[0].outpoint
-    count.check(faults(same, spent_by(same)) == ["SameOutpoint"], "one outpoint twice")
+    count.check(faults(same, spent_outputs(same)) == ["SameOutpoint"], "one outpoint twice")
 
 
 def check_sigops(count):
@@ -81,13 +81,13 @@ def check_sigops(count):
         ([], b"", PUSHED + b"\x4e\x01\x00\x00\x00\xac" + CHECK + b"\x4d\x01", 1),
     ):
         it = transaction([(1, each) for each in outputs], (CHECK, witness), script=script)
-        count.check(whole.cost(it, spent_by(it)) == wanted, f"the cost of {[it.hex() for it in outputs]}, {script.hex()} and {witness.hex()}")
+        count.check(whole.cost(it, spent_outputs(it)) == wanted, f"the cost of {[it.hex() for it in outputs]}, {script.hex()} and {witness.hex()}")
     it = transaction([(1, CHECK)], (b"", CHECKS))
     count.check(whole.cost(it, [Output(5, KEY_HASH)]) == 5, "the cost of the hash of a key")
     count.check([whole.cost(it, [each]) for each in (None, Output(5, b"\x51"))] == [4, 4], "the cost of what is not known, and of another kind")
     for more, wanted in (([], []), ([(1, CHECK)], ["TooManySigops"])):
         it = transaction([(1, CHECKS), (1, CHECKS), *more])
-        count.check(faults(it, spent_by(it)) == wanted, "faults of signature checks")
+        count.check(faults(it, spent_outputs(it)) == wanted, "faults of signature checks")
 
 
 def all_of(count):

@@ -19,7 +19,7 @@ def secret_of(label):
     return (int.from_bytes(digest_of(label), "big") % (ORDER - 1) + 1).to_bytes(32, "big")
 
 
-def public(secret):
+def public_key(secret):
     """Its compressed public key."""
     return ecc.ECPrivkey(secret).get_public_key_bytes(compressed=True)
 
@@ -40,7 +40,7 @@ class Claim:
     def __init__(self, way, outpoint, value, script, shape, secrets, sequence, expiry=0, delay=0, previous=None):
         self.way, self.outpoint, self.value, self.script, self.shape = way, outpoint, value, script, shape
         self.secrets, self.sequence, self.expiry, self.delay, self.previous = secrets, sequence, expiry, delay, previous
-        self.keys = [public(secret) for secret in secrets]
+        self.keys = [public_key(secret) for secret in secrets]
 
     def is_key_hash(self):
         """P2WPKH."""
@@ -50,13 +50,13 @@ class Claim:
         """The program of its output."""
         return key_program(self.keys[0]) if self.is_key_hash() else program_of(self.script)
 
-    def changed(self, **members):
+    def changed_copy(self, **members):
         """Another one, with these members."""
         other = Claim(self.way, self.outpoint, self.value, self.script, list(self.shape), list(self.secrets), self.sequence, self.expiry, self.delay,
                       self.previous)
         for name, value in members.items():
             setattr(other, name, value)
-        other.keys = [public(secret) for secret in other.secrets]
+        other.keys = [public_key(secret) for secret in other.secrets]
         return other
 
 
@@ -102,7 +102,7 @@ class Spend:
             self.witnesses.append(items + ([] if claim.is_key_hash() else [claim.script]))
         return self
 
-    def signed(self):
+    def signed_transaction(self):
         """Electrum's transaction with these witnesses."""
         tx = self.electrum()
         for txin, items in zip(tx.inputs(), self.witnesses):
@@ -111,16 +111,16 @@ class Spend:
 
     def text(self):
         """What real/judge reads: the transaction, and of each input the value and program that it spends."""
-        return [self.signed().serialize_to_network()] + [f"{claim.value} {claim.program().hex()}" for claim in self.claims]
+        return [self.signed_transaction().serialize_to_network()] + [f"{claim.value} {claim.program().hex()}" for claim in self.claims]
 
-    def packed(self):
+    def partial_base64(self):
         """The same as a partially signed transaction in base64."""
-        tx = self.signed()
+        tx = self.signed_transaction()
         for txin, claim in zip(tx.inputs(), self.claims):
             txin.witness_utxo = transaction.TxOutput(scriptpubkey=claim.program(), value=claim.value)
         return base64.b64encode(tx.serialize_as_bytes(force_psbt=True)).decode("ascii")
 
-    def changed(self, **members):
+    def changed_copy(self, **members):
         """Another one, with these members, signed anew."""
         other = Spend(list(self.claims), list(self.outputs), self.version, self.lock_time, self.main)
         for name, value in members.items():
@@ -130,15 +130,15 @@ class Spend:
     def with_main(self, **members):
         """The same with another claim in the main place, signed anew."""
         claims = list(self.claims)
-        claims[self.main] = claims[self.main].changed(**members)
-        return self.changed(claims=claims)
+        claims[self.main] = claims[self.main].changed_copy(**members)
+        return self.changed_copy(claims=claims)
 
     def fee(self):
         """What it pays."""
         return sum(claim.value for claim in self.claims) - sum(value for _, value in self.outputs)
 
 
-def assembled(*items):
+def assembled_script(*items):
     """A script by Electrum."""
     return bytes.fromhex(bitcoin.construct_script(items))
 
@@ -154,49 +154,49 @@ class Channel:
     def __init__(self, number, delay, expiry):
         self.number, self.delay, self.expiry, self.name = number, delay, expiry, f"channel {number}"
         point_secret = secret_of(self.name + " commitment")
-        point = public(point_secret)
+        point = public_key(point_secret)
         revocation, delayed = secret_of(self.name + " revocation"), secret_of(self.name + " delayed")
         self.revocation = lnutil.derive_blinded_privkey(revocation, point_secret)
         self.delayed = lnutil.derive_privkey(int.from_bytes(delayed, "big"), point).to_bytes(32, "big")
         self.local, self.remote, self.payment = (secret_of(f"{self.name} {of}") for of in ("local", "remote", "payment"))
-        self.funding = sorted((secret_of(f"{self.name} funding {side}") for side in "ab"), key=public)
+        self.funding = sorted((secret_of(f"{self.name} funding {side}") for side in "ab"), key=public_key)
         self.funding_txid, self.funding_index = digest_of(self.name + " outpoint").hex(), (0, 1, 7, 255, 65536)[number % 5]
         self.capacity = 1_000_000 + 7_777 * number
         self.preimages = {side: digest_of(f"{self.name} preimage {side}") for side in ("offered", "received")}
         self._scripts()
 
     def _scripts(self):
-        keys = [public(secret) for secret in (self.revocation, self.remote, self.local)]
-        self.to_local = lnutil.make_commitment_output_to_local_witness_script(public(self.revocation), self.delay, public(self.delayed))
+        keys = [public_key(secret) for secret in (self.revocation, self.remote, self.local)]
+        self.to_local = lnutil.make_commitment_output_to_local_witness_script(public_key(self.revocation), self.delay, public_key(self.delayed))
         hashes = {side: hashlib.sha256(preimage).digest() for side, preimage in self.preimages.items()}
         self.offered = lnutil.make_offered_htlc(*keys, hashes["offered"])
         self.received = lnutil.make_received_htlc(*keys, hashes["received"], self.expiry)
 
     def commitment(self):
         """The commitment's spend of the funding output."""
-        one, other = public(secret_of(self.name + " base")), public(self.payment)
+        one, other = public_key(secret_of(self.name + " base")), public_key(self.payment)
         obscured = lnutil.get_obscured_ctn(40 + self.number, one, other)
         outputs = [(program_of(self.offered), 11_000 + self.number), (program_of(self.received), 12_500 + self.number),
-                   (key_program(public(self.payment)), 300_000 + 3 * self.number)]
+                   (key_program(public_key(self.payment)), 300_000 + 3 * self.number)]
         outputs.append((program_of(self.to_local), self.capacity - 1_200 - sum(value for _, value in outputs)))
-        claim = Claim("funding", (self.funding_txid, self.funding_index), self.capacity, multisig(2, [public(s) for s in self.funding]),
+        claim = Claim("funding", (self.funding_txid, self.funding_index), self.capacity, multisig(2, [public_key(s) for s in self.funding]),
                       [b"", None, None], self.funding, (0x80 << 24) + (obscured >> 24))
         return Spend([claim], outputs, 2, (0x20 << 24) + (obscured & 0xffffff)).sign()
 
     def close(self):
         """A mutual close."""
-        claim = self.commitment().claims[0].changed(way="close", sequence=0xffffffff)
-        outputs = [(key_program(public(self.payment)), 400_000), (key_program(public(self.delayed)), self.capacity - 400_000 - 333)]
+        claim = self.commitment().claims[0].changed_copy(way="close", sequence=0xffffffff)
+        outputs = [(key_program(public_key(self.payment)), 400_000), (key_program(public_key(self.delayed)), self.capacity - 400_000 - 333)]
         return Spend([claim], outputs, 2, 0).sign()
 
     def output(self, index):
         """Where an output of the commitment stands, and its value."""
         tx = self.commitment()
-        return (tx.signed().txid(), index), tx.outputs[index][1]
+        return (tx.signed_transaction().txid(), index), tx.outputs[index][1]
 
     def claim(self, way, sequence):
         """The claim of an output of the commitment by a way."""
-        revocation = public(self.revocation)
+        revocation = public_key(self.revocation)
         by = {
             "offered by revocation": (0, self.offered, [None, revocation], [self.revocation]),
             "offered by preimage": (0, self.offered, [None, self.preimages["offered"]], [self.remote]),
@@ -204,7 +204,7 @@ class Channel:
             "received by revocation": (1, self.received, [None, revocation], [self.revocation]),
             "received by success": (1, self.received, [b"", None, None, self.preimages["received"]], [self.remote, self.local]),
             "received by timeout": (1, self.received, [None, b""], [self.remote]),
-            "to_remote": (2, None, [None, public(self.payment)], [self.payment]),
+            "to_remote": (2, None, [None, public_key(self.payment)], [self.payment]),
             "to_local by delay": (3, self.to_local, [None, b""], [self.delayed]),
             "to_local by revocation": (3, self.to_local, [None, b"\x01"], [self.revocation]),
         }
@@ -215,7 +215,7 @@ class Channel:
     def htlc_transaction(self, way):
         """HTLC-timeout or HTLC-success (BOLT 3)."""
         claim = self.claim(way, 0)
-        _, output = lnutil.make_htlc_tx_output(claim.value * 1000, 253 + 40 * self.number, public(self.revocation), public(self.delayed),
+        _, output = lnutil.make_htlc_tx_output(claim.value * 1000, 253 + 40 * self.number, public_key(self.revocation), public_key(self.delayed),
                                                way.endswith("success"), self.delay)
         lock_time = self.expiry if way.endswith("timeout") else 0
         return Spend([claim], [(output.scriptpubkey, output.value)], 2, lock_time).sign()
@@ -224,4 +224,4 @@ class Channel:
         """The claim of an HTLC transaction's output."""
         parent = self.htlc_transaction("offered by timeout" if self.number % 2 else "received by success")
         first = self.claim("to_local" + way[len("second stage"):], sequence)
-        return first.changed(way=way, outpoint=(parent.signed().txid(), 0), value=parent.outputs[0][1])
+        return first.changed_copy(way=way, outpoint=(parent.signed_transaction().txid(), 0), value=parent.outputs[0][1])

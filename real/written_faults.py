@@ -3,8 +3,8 @@
 A fault is a name, an edit (or a transaction that was signed anew), and the answers: None is that of the transaction without the fault. Tested, not proved."""
 
 import written_ways as ways
-from written_electrum import ORDER, assembled, crypto, digest_of, opcodes, public, secret_of
-from written_ways import clean, false_end, stops
+from written_electrum import ORDER, assembled_script, crypto, digest_of, opcodes, public_key, secret_of
+from written_ways import clean_answer, false_end, stops
 
 KINDS = ("signature", "order", "extra item", "amount", "sequence", "lock time", "forged token", "measured signature")
 
@@ -16,23 +16,23 @@ def of_main(spend, answer):
     return answers
 
 
-def void(claim, version, lock_time, sequence, keys=None):
+def void_answer(claim, version, lock_time, sequence, keys=None):
     """An input whose signatures are over another digest (or, with keys, are good): a lock of its script may stop it before."""
     keys = ways.void_keys(claim.way) if keys is None else keys
     if ways.FAMILY[claim.way] == "to_local by delay" and not ways.age_passes(version, sequence, claim.delay):
-        return ways.early(keys)
+        return ways.sequence_stop(keys)
     if claim.way == "received by timeout" and not ways.height_passes(lock_time, sequence, claim.expiry):
-        return ways.locked(keys)
+        return ways.lock_time_stop(keys)
     return false_end(claim.way, keys)
 
 
-def all_void(spend, lock_time=None, sequence=None):
+def void_answers(spend, lock_time=None, sequence=None):
     """The answers where all signatures are over another digest."""
     lock_time = spend.lock_time if lock_time is None else lock_time
     answers = []
     for number, claim in enumerate(spend.claims):
         own = sequence if sequence is not None and number == spend.main else claim.sequence
-        answers.append(void(claim, spend.version, lock_time, own))
+        answers.append(void_answer(claim, spend.version, lock_time, own))
     return answers
 
 
@@ -72,7 +72,7 @@ def signature_fault(spend, variant, pick):
         ("a bit of s is flipped", given[:-2] + bytes([given[-2] ^ 1, 1]), false_end(way, keys | {item: None})),
         ("by another key", spend.signature(main, secret_of(f"stranger {pick}")), false_end(way, keys | {item: None})),
         ("empty", b"", false_end(way, keys)),
-        ("a high s", der(r, ORDER - s) + b"\x01", clean(way, ["LOW_S"])),
+        ("a high s", der(r, ORDER - s) + b"\x01", clean_answer(way, ["LOW_S"])),
         ("another hash type", spend.signature(main, spend.claims[main].secrets[pick % len(places)], types[pick % 5]), ["not judged", "HashType"]),
         ("a zero before r", longer, ways.bad_form(way, item)),
         ("the hash type is missing", given[:-1], ways.bad_form(way, item)),
@@ -100,7 +100,7 @@ def order_fault(spend, variant, _pick):
     """Two items of the witness are exchanged, or two keys of the script."""
     claim = spend.claims[spend.main]
     passes = ways.height_passes(spend.lock_time, claim.sequence, claim.expiry)
-    table = ways.exchanged(claim.way, passes)
+    table = ways.exchange_answers(claim.way, passes)
     choice = variant % (len(table) + 1)
     script = other_script(spend)
     if choice == len(table) and script:
@@ -114,12 +114,12 @@ def extra_fault(spend, variant, pick):
     main, way = spend.main, spend.claims[spend.main].way
     claim = spend.claims[main]
     if variant % 3 == 0:
-        given = ("", "01", "55" * 32, public(secret_of("nobody")).hex())[pick % 4]
-        return "an item too many, the first", [["insert", main, 0, given]], of_main(spend, ways.beneath(way))
+        given = ("", "01", "55" * 32, public_key(secret_of("nobody")).hex())[pick % 4]
+        return "an item too many, the first", [["insert", main, 0, given]], of_main(spend, ways.bottom_item_answer(way))
     if variant % 3 == 1 and ways.FAMILY[way] in ways.PAIRED:
         answer = stops("FailedCheck Extra", ways.WAYS[way].check, ways.WAYS[way].stack, dict(ways.WAYS[way].keys))
         return "the extra item is not empty", [["item", main, 0, ("00", "01", "55" * 32)[pick % 3]]], of_main(spend, answer)
-    table = ways.above(way, ways.height_passes(spend.lock_time, claim.sequence, claim.expiry))
+    table = ways.top_item_answers(way, ways.height_passes(spend.lock_time, claim.sequence, claim.expiry))
     given, answer = table[pick % len(table)]
     return "an item too many, before the script", [["insert", main, len(claim.shape), given]], of_main(spend, answer)
 
@@ -128,27 +128,27 @@ def amount_fault(spend, variant, pick):
     """A spent output has another value than was signed, or a made one; or the outputs exceed what is spent."""
     main = spend.main
     claim = spend.claims[main]
-    answer = of_main(spend, void(claim, spend.version, spend.lock_time, claim.sequence))
+    answer = of_main(spend, void_answer(claim, spend.version, spend.lock_time, claim.sequence))
     if variant % 4 == 0:
         return "the spent output has a satoshi more", [["line", main, claim.value + 1]], answer
     if variant % 4 == 1:
         return "the spent output has a satoshi less", [["line", main, claim.value - 1]], answer
     if variant % 4 == 2:
         last = max(k for k, (_, value) in enumerate(spend.outputs) if value)
-        return "an output is changed once it is signed", [["output", last, spend.outputs[last][1] - 1 - pick]], all_void(spend)
+        return "an output is changed once it is signed", [["output", last, spend.outputs[last][1] - 1 - pick]], void_answers(spend)
     rest = sum(value for _, value in spend.outputs[:-1])
     outputs = spend.outputs[:-1] + [(spend.outputs[-1][0], sum(c.value for c in spend.claims) - rest + 1 + pick)]
-    return "the outputs exceed what is spent", spend.changed(outputs=outputs), [clean(c.way) for c in spend.claims]
+    return "the outputs exceed what is spent", spend.changed_copy(outputs=outputs), [clean_answer(c.way) for c in spend.claims]
 
 
-def signed_anew(spend, name, keys, **members):
+def signed_fault(spend, name, keys, **members):
     """A fault that was signed."""
     lock_time, sequence = members.get("lock_time", spend.lock_time), members.get("sequence", spend.claims[spend.main].sequence)
     version = members.get("version", spend.version)
     changed = spend.with_main(sequence=sequence)
-    changed = changed.changed(lock_time=lock_time, version=version)
-    answers = [clean(claim.way) for claim in spend.claims]
-    answers[spend.main] = void(spend.claims[spend.main], version, lock_time, sequence, keys)
+    changed = changed.changed_copy(lock_time=lock_time, version=version)
+    answers = [clean_answer(claim.way) for claim in spend.claims]
+    answers[spend.main] = void_answer(spend.claims[spend.main], version, lock_time, sequence, keys)
     return name, changed, answers
 
 
@@ -159,12 +159,13 @@ def delay_fault(spend, variant):
     keys, delay = dict(ways.WAYS[claim.way].keys), claim.delay
     alone = len(spend.claims) == 1
     table = [
-        lambda: ("lower once it is signed", [["sequence", main, delay - 1]], all_void(spend, sequence=delay - 1)),
-        lambda: signed_anew(spend, "one block too early", keys, sequence=delay - 1),
-        lambda: signed_anew(spend, "disabled", keys, sequence=0x80000000 | delay),
-        lambda: signed_anew(spend, "in units of time", keys, sequence=0x00400000 | delay),
-        lambda: ("another bit once it is signed", [["sequence", main, claim.sequence ^ 0x00010000]], all_void(spend, sequence=claim.sequence ^ 0x00010000)),
-        lambda: signed_anew(spend, "version 1", keys, version=1) if alone else signed_anew(spend, "disabled, final", keys, sequence=0xffffffff),
+        lambda: ("lower once it is signed", [["sequence", main, delay - 1]], void_answers(spend, sequence=delay - 1)),
+        lambda: signed_fault(spend, "one block too early", keys, sequence=delay - 1),
+        lambda: signed_fault(spend, "disabled", keys, sequence=0x80000000 | delay),
+        lambda: signed_fault(spend, "in units of time", keys, sequence=0x00400000 | delay),
+        lambda: ("another bit once it is signed", [["sequence", main, claim.sequence ^ 0x00010000]],
+                 void_answers(spend, sequence=claim.sequence ^ 0x00010000)),
+        lambda: signed_fault(spend, "version 1", keys, version=1) if alone else signed_fault(spend, "disabled, final", keys, sequence=0xffffffff),
     ]
     return table[variant % len(table)]()
 
@@ -176,10 +177,10 @@ def sequence_fault(spend, variant, pick):
     if ways.FAMILY[claim.way] == "to_local by delay":
         return delay_fault(spend, variant)
     if claim.way == "received by timeout" and variant % 2 == 0:
-        return signed_anew(spend, "final", dict(ways.WAYS[claim.way].keys), sequence=0xffffffff)
+        return signed_fault(spend, "final", dict(ways.WAYS[claim.way].keys), sequence=0xffffffff)
     new = (claim.sequence ^ 1, 0xffffffff, 144 + pick, claim.sequence ^ 0x80000000)[variant % 4]
     new = 0xfffffffc if new == claim.sequence else new
-    return "changed once it is signed", [["sequence", main, new]], all_void(spend, sequence=new)
+    return "changed once it is signed", [["sequence", main, new]], void_answers(spend, sequence=new)
 
 
 def lock_fault(spend, variant, pick):
@@ -188,13 +189,13 @@ def lock_fault(spend, variant, pick):
     claim = spend.claims[main]
     if claim.way == "received by timeout":
         keys = dict(ways.WAYS[claim.way].keys)
-        table = [lambda: ("below the expiry once it is signed", [["lock", claim.expiry - 1]], all_void(spend, claim.expiry - 1)),
-                 lambda: signed_anew(spend, "one block too early", keys, lock_time=claim.expiry - 1),
-                 lambda: signed_anew(spend, "a time", keys, lock_time=500000000 + pick),
-                 lambda: ("higher once it is signed", [["lock", spend.lock_time + 1]], all_void(spend, spend.lock_time + 1))]
+        table = [lambda: ("below the expiry once it is signed", [["lock", claim.expiry - 1]], void_answers(spend, claim.expiry - 1)),
+                 lambda: signed_fault(spend, "one block too early", keys, lock_time=claim.expiry - 1),
+                 lambda: signed_fault(spend, "a time", keys, lock_time=500000000 + pick),
+                 lambda: ("higher once it is signed", [["lock", spend.lock_time + 1]], void_answers(spend, spend.lock_time + 1))]
         return table[variant % 4]()
     new = (spend.lock_time + 1, spend.lock_time + 700000 + pick, 500000000 + pick)[variant % 3]
-    return "changed once it is signed", [["lock", new]], all_void(spend, new)
+    return "changed once it is signed", [["lock", new]], void_answers(spend, new)
 
 
 def forged_fault(spend, variant, pick):
@@ -203,7 +204,7 @@ def forged_fault(spend, variant, pick):
     claim = spend.claims[main]
     places = signature_places(spend)
     item = places[pick % len(places)]
-    token = public(claim.secrets[pick % len(places)]) + spend.digest(main) + b"\x01"
+    token = public_key(claim.secrets[pick % len(places)]) + spend.digest(main) + b"\x01"
     other = 0 if ways.FAMILY[claim.way] in ways.PAIRED else 1
     refused = {"refused": f"ForgedToken {main} {item}"}
     bad = of_main(spend, ways.bad_form(claim.way, item))
@@ -232,10 +233,10 @@ def pieces(script):
 def question(variant, pick):
     """What a script asks of the signature that stands on top: its size, its hash or its bytes."""
     if variant == 0:
-        return assembled(opcodes.OP_SIZE, 71 if pick % 3 else 70, opcodes.OP_EQUALVERIFY)
+        return assembled_script(opcodes.OP_SIZE, 71 if pick % 3 else 70, opcodes.OP_EQUALVERIFY)
     if variant == 1:
-        return assembled(opcodes.OP_DUP, opcodes.OP_HASH160, crypto.hash_160(digest_of(f"hash {pick}")), opcodes.OP_EQUALVERIFY)
-    return assembled(opcodes.OP_DUP, digest_of(f"bytes {pick}") * 2 + b"\x30" * 7, opcodes.OP_EQUALVERIFY)
+        return assembled_script(opcodes.OP_DUP, opcodes.OP_HASH160, crypto.hash_160(digest_of(f"hash {pick}")), opcodes.OP_EQUALVERIFY)
+    return assembled_script(opcodes.OP_DUP, digest_of(f"bytes {pick}") * 2 + b"\x30" * 7, opcodes.OP_EQUALVERIFY)
 
 
 def measured_fault(spend, variant, pick):
@@ -248,11 +249,11 @@ def measured_fault(spend, variant, pick):
     at, swapped = table[family]
     asked = question(variant % 4 if variant % 4 < 3 else 0, pick)
     if swapped:
-        asked = assembled(opcodes.OP_SWAP) + asked + assembled(opcodes.OP_SWAP)
+        asked = assembled_script(opcodes.OP_SWAP) + asked + assembled_script(opcodes.OP_SWAP)
     parts = pieces(claim.script)
     script = b"".join(parts[:at]) + asked + b"".join(parts[at:])
     name = "on another path" if table is ways.OTHER_QUESTIONS else ("its size", "its hash", "its bytes", "its size")[variant % 4]
-    answers = [clean(c.way) for c in spend.claims]
+    answers = [clean_answer(c.way) for c in spend.claims]
     answers[spend.main] = ["not judged", "MeasuredSignature"]
     return name, spend.with_main(script=script), answers
 

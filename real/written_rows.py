@@ -6,7 +6,7 @@ import written_faults as faults
 import written_specials
 import written_spends
 import written_ways as ways
-from written_ways import corrected
+from written_ways import corrected_row
 
 LOCKED = ("to_local by delay", "received by timeout")  # these have faults of locks in more variants
 
@@ -30,7 +30,7 @@ def fee_of(spend, edit):
     return fee
 
 
-def planted(name, spend, kind, variant, pick):
+def fault_row(name, spend, kind, variant, pick):
     """The row of a fault; None where it has no meaning for this way to spend."""
     fault = faults.FAULTS[kind](spend, variant, pick)
     if fault is None:
@@ -40,8 +40,8 @@ def planted(name, spend, kind, variant, pick):
     if not isinstance(change, list):
         return row_of(title, change, answers, name)
     if change[0][0] == "output" and change[0][1] < len(spend.outputs) - 1:
-        return corrected({"name": title, "of": name, "edit": change, "wanted": {"fee": fee_of(spend, change), "faults": [], "inputs": answers}},
-                         "the last output, which has no satoshis", "an output of less than none can not be made")
+        return corrected_row({"name": title, "of": name, "edit": change, "wanted": {"fee": fee_of(spend, change), "faults": [], "inputs": answers}},
+                             "the last output, which has no satoshis", "an output of less than none can not be made")
     if isinstance(answers, dict):
         return {"name": title, "of": name, "edit": change, "wanted": answers}
     return {"name": title, "of": name, "edit": change, "wanted": {"fee": fee_of(spend, change), "faults": [], "inputs": answers}}
@@ -52,12 +52,12 @@ def rows():
     uses, order = {}, list(dict.fromkeys(ways.FAMILY.values()))
     begun = {}
     for name, spend in written_spends.spends():
-        yield row_of(name, spend, [ways.clean(claim.way) for claim in spend.claims])
+        yield row_of(name, spend, [ways.clean_answer(claim.way) for claim in spend.claims])
         family = ways.FAMILY[spend.claims[spend.main].way]
         kind, left = begun.get(family, order.index(family)) % 8, 5 if family in LOCKED else 3
         while left:
             variant = uses.get((family, kind), 0)
-            row = planted(name, spend, kind, variant + order.index(family), variant + order.index(family))
+            row = fault_row(name, spend, kind, variant + order.index(family), variant + order.index(family))
             if row is not None:
                 uses[family, kind] = variant + 1
                 left -= 1

@@ -1,7 +1,7 @@
 """The 208 transactions without a fault: thirteen of each way to spend, over delays, expiries, sequences, lock times and neighbours that differ. Tested, not proved."""
 
 import written_ways as ways
-from written_electrum import Channel, Claim, Spend, assembled, crypto, digest_of, multisig, opcodes, public, secret_of
+from written_electrum import Channel, Claim, Spend, assembled_script, crypto, digest_of, multisig, opcodes, public_key, secret_of
 
 DELAYS = (1, 16, 17, 127, 128, 144, 255, 256, 1008, 2016, 32767, 32768, 65535)
 EXPIRIES = (1, 16, 17, 127, 128, 32767, 32768, 700123, 8388607, 8388608, 16777216, 499999998, 499999999)
@@ -61,11 +61,11 @@ def wallet_claim(way, name, sequence, value):
     """A claim of a wallet: a key's hash in either form, or two of three keys."""
     outpoint = (digest_of(name + " outpoint").hex(), len(name) % 4)
     secrets = [secret_of(f"{name} {k}") for k in range(3)]
-    keys = [public(secret) for secret in secrets]
+    keys = [public_key(secret) for secret in secrets]
     if way == "wallet key":
         return Claim(way, outpoint, value, None, [None, keys[0]], secrets[:1], sequence)
     if way == "key hash":
-        script = assembled(opcodes.OP_DUP, opcodes.OP_HASH160, crypto.hash_160(keys[0]), opcodes.OP_EQUALVERIFY, opcodes.OP_CHECKSIG)
+        script = assembled_script(opcodes.OP_DUP, opcodes.OP_HASH160, crypto.hash_160(keys[0]), opcodes.OP_EQUALVERIFY, opcodes.OP_CHECKSIG)
         return Claim(way, outpoint, value, script, [None, keys[0]], secrets[:1], sequence)
     signing = {"first and second of three": (0, 1), "first and third of three": (0, 2), "second and third of three": (1, 2)}[way]
     return Claim(way, outpoint, value, multisig(2, keys), [b"", None, None], [secrets[k] for k in signing], sequence)

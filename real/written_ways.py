@@ -57,12 +57,12 @@ OTHER_QUESTIONS = {
     "received by revocation": (26, "swapped"), "received by timeout": (5, "swapped")}
 
 
-def corrected(row, was, why):
+def corrected_row(row, was, why):
     """A row whose answer was another one at first, and why that was wrong."""
     return {**row, "was": was, "why": why}
 
 
-def clean(way, relay=()):
+def clean_answer(way, relay=()):
     """A clean input. Its answer: path, counted opcodes, height, of each signature its key, and the rules of relay that it breaks."""
     of = WAYS[way]
     return ["clean", of.path, of.counted, of.height, dict(of.keys), list(relay)]
@@ -89,12 +89,12 @@ def bad_form(way, item):
     return stops("FailedCheck TokenForm", WAYS[way].check, WAYS[way].stack, keys)
 
 
-def early(keys):
+def sequence_stop(keys):
     """CHECKSEQUENCEVERIFY of to_local."""
     return stops("FailedCheck Sequence", 4, ["push 3", "item 0"], keys)
 
 
-def locked(keys, rest=("item 0",)):
+def lock_time_stop(keys, rest=("item 0",)):
     """CHECKLOCKTIMEVERIFY of a received HTLC."""
     return stops("FailedCheck LockTime", 24, ["push 23", "push 7"] + list(rest), keys)
 
@@ -109,7 +109,7 @@ def height_passes(lock_time, sequence, expiry_height):
     return lock_time < 500000000 and expiry_height <= lock_time and sequence != 0xffffffff
 
 
-def shifted(keys):
+def shifted_keys(keys):
     """The keys where one more item stands before all others."""
     moved = {}
     for item, key in keys.items():
@@ -118,7 +118,7 @@ def shifted(keys):
     return moved
 
 
-def exchanged(way, lock_passes):
+def exchange_answers(way, lock_passes):
     """Of each way: two items of the witness, and the answer where they are exchanged."""
     keys = WAYS[way].keys
     table = {
@@ -133,10 +133,10 @@ def exchanged(way, lock_passes):
             (2, 3, stops("FalseEnd", 26, ["-"], {1: "push 7", 3: "push 16"})),
             (0, 1, stops("FailedCheck Extra", 18, OFFERED_PAIR + PAIR, {0: "push 7", 2: "push 16"}))],
         "received by revocation": [
-            (0, 1, stops("FailedCheck TokenForm", 26, ["push 7", "item 0"], {1: "item 0"}) if lock_passes else locked({1: "item 0"}))],
+            (0, 1, stops("FailedCheck TokenForm", 26, ["push 7", "item 0"], {1: "item 0"}) if lock_passes else lock_time_stop({1: "item 0"}))],
         "received by success": [
             (1, 2, stops("FalseEnd", 29, ["-"], {1: "push 18", 2: "push 7"})),
-            (2, 3, locked({1: "push 7", 3: "push 18"}, PAIR)),
+            (2, 3, lock_time_stop({1: "push 7", 3: "push 18"}, PAIR)),
             (0, 1, stops("FailedCheck Extra", 20, RECEIVED_PAIR + PAIR, {0: "push 7", 2: "push 18"}))],
         "received by timeout": [(0, 1, stops("FalseEnd", 29, ["-"], {1: "push 7"}))],
     }
@@ -148,14 +148,14 @@ def exchanged(way, lock_passes):
             (0, 2, stops("FailedCheck Extra", check, taken, {0: keys[2], 1: keys[1]}))]
 
 
-def beneath(way):
+def bottom_item_answer(way):
     """The answer where one more item stands before all others."""
     if FAMILY[way] == "to_remote":
         return ["stops", "NotTwoItems"]
-    return stops("NotOneValue", WAYS[way].end, ["01", "item 0"], shifted(WAYS[way].keys))
+    return stops("NotOneValue", WAYS[way].end, ["01", "item 0"], shifted_keys(WAYS[way].keys))
 
 
-def above(way, lock_passes):
+def top_item_answers(way, lock_passes):
     """Of each way: one more item right before the script, and the answer. The 20 and the 32 bytes are unlike all hashes."""
     keys = dict(WAYS[way].keys)
     table = {
@@ -170,8 +170,9 @@ def above(way, lock_passes):
             ("", stops("FailedCheck Extra", 18, OFFERED_PAIR + ["item 3"] + PAIR, keys)),
             ("55" * 32, stops("FailedCheck Verify", 22, ["push 21", "hash 4", "push 7", "item 3"] + PAIR, keys))],
         "received by revocation": [
-            ("", stops("FailedCheck TokenForm", 26, ["push 7", "item 1", "item 0"], keys) if lock_passes else locked(keys, ["item 1", "item 0"]))],
-        "received by success": [("", locked(keys, ["item 3"] + PAIR)),
+            ("", stops("FailedCheck TokenForm", 26, ["push 7", "item 1", "item 0"], keys) if lock_passes
+             else lock_time_stop(keys, ["item 1", "item 0"]))],
+        "received by success": [("", lock_time_stop(keys, ["item 3"] + PAIR)),
                                 ("55" * 32, stops("FailedCheck Verify", 15, ["push 14", "hash 4", "push 7", "item 3"] + PAIR, keys))],
         "received by timeout": [("", stops("NotOneValue", 29, ["-", "item 0"], keys))],
     }
