@@ -37,7 +37,7 @@ def stop(what):
     raise SystemExit(f"library: {what}")
 
 
-def said(doc):
+def doc_line(doc):
     """A doc comment as one line of text."""
     return " ".join(line.strip().removeprefix("///").strip() for line in doc.splitlines())
 
@@ -76,18 +76,18 @@ class Declared:
             stop(f"of {exports} exports {len(self.exports)} were read")
 
     def read(self, name, text):
-        found = [(it[2], int(it[3], 0), said(it[1])) for it in CONSTANT.finditer(text)]
+        found = [(it[2], int(it[3], 0), doc_line(it[1])) for it in CONSTANT.finditer(text)]
         if found:
             self.constants[name] = found
         for it in STRUCT.finditer(text):
-            fields = [(field[2], field[3], said(field[1])) for field in FIELD.finditer(it[3])]
+            fields = [(field[2], field[3], doc_line(field[1])) for field in FIELD.finditer(it[3])]
             if len(fields) != len(re.findall(r"^    pub ", it[3], re.M)):
                 stop(f"not all fields of {it[2]} were read")
-            self.structs.append((it[2], said(it[1]), fields))
+            self.structs.append((it[2], doc_line(it[1]), fields))
         for it in EXPORT.finditer(text):
             params = [tuple(part.strip().split(": ", 1)) for part in it[3].split(",\n") for part in part.split(", ") if part.strip().strip(",")]
             params = [(param.strip(), kind.strip().rstrip(",")) for param, kind in params]
-            self.exports.append((it[2], [it2 for it2 in params if it2[1] != "Global"], it[4], said(it[1]), clause(it[5])))
+            self.exports.append((it[2], [it2 for it2 in params if it2[1] != "Global"], it[4], doc_line(it[1]), clause(it[5])))
 
     def layout(self, fields):
         """The size of a struct and the offset of each field, by the rules of C."""
@@ -279,7 +279,7 @@ def python(told):
     return "\n".join(lines)
 
 
-def drawn():
+def file_texts():
     """The text of each file."""
     told = Declared()
     return {file: globals()[maker](told) for file, maker in FILES.items()}

@@ -72,7 +72,7 @@ def total(right, wrong):
     return f"refused allocations: {right} right, {wrong} wrong"
 
 
-def tried(library, name, program, is_short):
+def refuse_allocations(library, name, program, is_short):
     """Refuses the allocations of a program of PROGRAMS, or those of a short round. Returns how many runs were right, and how many were not.
 
     Where one of the calls that are tried is refused, the program goes on, and prints what it prints without a refusal: the call changed nothing. Where it is any other,

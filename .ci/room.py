@@ -48,7 +48,7 @@ def graph(root=TOP):
     return found
 
 
-def below(uses, names):
+def crates_below(uses, names):
     """The crates that these stand on, lowest first."""
     wanted = set()
     for name in reversed(uses):
@@ -57,7 +57,7 @@ def below(uses, names):
     return [it for it in uses if it in wanted]
 
 
-def at_once():
+def job_count():
     """The number of checks that run side by side: RT_JOBS where it is set, or else at most one for each processor, and one for each 5 GiB."""
     jobs = os.environ.get("RT_JOBS", "")
     if jobs.isdigit() and int(jobs) > 0:
@@ -85,7 +85,7 @@ def build(folder):
     return stamp(folder), sums
 
 
-def linked(given, place):
+def link_file(given, place):
     """Takes a file of a finished library over, which no one writes to: all libraries together are 5 GB. So it is a second name of the file, where both are in one file system."""
     try:
         os.link(given, place)
@@ -93,7 +93,7 @@ def linked(given, place):
         shutil.copy2(given, place)
 
 
-def refreshed(room):
+def refresh_room(room):
     """Copies the sources of the repository into the room, in place of those of an earlier call, and its finished libraries."""
     for place in glob.glob(f"{room}/crates/*/*"):
         if not place.endswith("/out"):
@@ -112,10 +112,10 @@ def refreshed(room):
         others.add(name)
         shutil.rmtree(f"{place}/out/rlib", ignore_errors=True)
         if is_given:
-            shutil.copytree(f"{given}/out/rlib", f"{place}/out/rlib", copy_function=linked)
+            shutil.copytree(f"{given}/out/rlib", f"{place}/out/rlib", copy_function=link_file)
 
 
-def entered():
+def enter_room():
     """The room, locked until this process ends."""
     own = hashlib.sha256(TOP.encode()).hexdigest()[:16]
     room = os.path.abspath(os.environ.get("ROOM") or f"{tempfile.gettempdir()}/enforce-{own}")
@@ -124,16 +124,16 @@ def entered():
     os.makedirs(f"{room}/.git", exist_ok=True)
     lock = os.open(f"{room}/.git", os.O_RDONLY)
     fcntl.flock(lock, fcntl.LOCK_EX)
-    refreshed(room)
+    refresh_room(room)
     return room
 
 
-def beside(room):
+def parallel_rooms(room):
     """The room and others like it, one for each check that runs at once: a check keeps others out of the crates that it stands on. What is proved in one room is taken over by the others."""
-    rooms = [room, *(f"{room}-{number}" for number in range(2, at_once() + 1))]
+    rooms = [room, *(f"{room}-{number}" for number in range(2, job_count() + 1))]
     for other in rooms[1:]:
         os.makedirs(f"{other}/.git", exist_ok=True)
-        refreshed(other)
+        refresh_room(other)
     return rooms
 
 

@@ -9,7 +9,7 @@ The other way round a round says nothing. What it does not settle is tried alone
   body others may see through a constant, a function of a named cycle of calls, whose proof is that of all, or a body that has items of its own;
 - an edit whose functions have no goal and no answer of their own that failed (`failures`): they are proved, or not proved for what they call alone, or their proofs name
   what the edit took away, or are taken away themselves;
-- an edit in whose function the check cannot read something (`unread`): its round is checked again without it;
+- an edit in whose function the check cannot read something (`unread_functions`): its round is checked again without it;
 - the edits of a round that comes to no verdict, once its halves have come to none either.
 """
 import collections
@@ -53,7 +53,7 @@ def code(token):
     return token.text if token.kind == "Code" else ""
 
 
-def past(row, at):
+def end_of(row, at):
     """The place behind a token, or behind all that stands in the bracket or the clause that it opens."""
     if row[at].kind == "Head" and row[at].text == "{":
         while row[at].kind != "End":
@@ -81,23 +81,23 @@ def owner(head):
     return "".join(reversed(names))
 
 
-def plain(row, at, end, path):
+def plain_functions(row, at, end, path):
     """The plain functions among the items between these places, each with the places of its body."""
     while at < end:
         first, head, attributes = at, [], []
         while at < end and code(row[at]) == "#":
-            close = past(row, at + 2 if code(row[at + 1]) == "!" else at + 1)
+            close = end_of(row, at + 2 if code(row[at + 1]) == "!" else at + 1)
             attributes += map(code, row[at:close])
             at = close
         while at < end and code(row[at]) not in ("{", ";"):
             head.append(code(row[at]))
-            at = past(row, at)
+            at = end_of(row, at)
         if at >= end:
             return
-        close, is_block = past(row, at), code(row[at]) == "{"
+        close, is_block = end_of(row, at), code(row[at]) == "{"
         head = [it for it in head if it not in ("pub", "(", "")]
         if is_block and head[:1] in (["mod"], ["impl"]):
-            yield from plain(row, at + 1, close - 1, (*path, head[1] if head[0] == "mod" else owner(head[1:])))
+            yield from plain_functions(row, at + 1, close - 1, (*path, head[1] if head[0] == "mod" else owner(head[1:])))
         elif is_block and head[:1] == ["fn"] and "cycle" not in attributes and not ITEMS & {*map(code, row[at:close])}:
             body = [(it.kind, it.text) for it in row[at:close]]
             yield at, close, Function((*path, head[1]), body, row[at].start, row[close - 1].end, row[first].line, row[close - 1].line)
@@ -108,7 +108,7 @@ def plain(row, at, end, path):
 def read(text, file):
     """The plain functions of a source by their paths, and all else that stands there."""
     row, module = tokens(text), tuple(file.removeprefix("src/").removesuffix(".rt").removesuffix("/mod").split("/"))
-    found = list(plain(row, 0, len(row), () if module in (("lib",), ("main",)) else module))
+    found = list(plain_functions(row, 0, len(row), () if module in (("lib",), ("main",)) else module))
     # two impls of one trait for one type can have one path
     counts = collections.Counter(it.path for _, _, it in found)
     functions, rest, at = {}, [], 0
@@ -156,7 +156,7 @@ def rounds_of(changed):
     return rounds
 
 
-def together(folder, changed):
+def combined_sources(folder, changed):
     """The sources of the crate there with these bodies."""
     texts = {}
     for file in {file for file, _ in changed}:
@@ -179,10 +179,10 @@ class Place:
         for name in ("crates.txt", "HANDLES"):
             shutil.copyfile(f"{room}/{name}", f"{self.top}/{name}")
         uses = rooms.graph(room)
-        libraries = rooms.below(uses, {crate})
+        libraries = rooms.crates_below(uses, {crate})
         for name in uses:
             left = shutil.ignore_patterns("must-fail", "incremental" if name in libraries else "out")
-            shutil.copytree(f"{room}/crates/{name}", f"{self.top}/crates/{name}", ignore=left, copy_function=rooms.linked)
+            shutil.copytree(f"{room}/crates/{name}", f"{self.top}/crates/{name}", ignore=left, copy_function=rooms.link_file)
         self.was = self.listing()
 
     def listing(self):
@@ -196,7 +196,7 @@ class Place:
             shutil.rmtree(f"{self.folder}/{part}", ignore_errors=True)
         shutil.copytree(f"{self.given}/src", f"{self.folder}/src")
         # a check replaces a file with a proof, and writes into none: so a second name of it is enough
-        shutil.copytree(self.kept, f"{self.folder}/out/incremental", copy_function=lambda it, to: (rooms.linked if it.endswith(".oantt") else shutil.copy2)(it, to))
+        shutil.copytree(self.kept, f"{self.folder}/out/incremental", copy_function=lambda it, to: (rooms.link_file if it.endswith(".oantt") else shutil.copy2)(it, to))
         for file, text in texts.items():
             with open(f"{self.folder}/{file}", "w", encoding="utf-8") as opened:
                 opened.write(text)
@@ -206,7 +206,7 @@ class Place:
         shutil.rmtree(self.top, ignore_errors=True)
 
 
-def unread(lines, functions):
+def unread_functions(lines, functions):
     """Of these functions, by file and path, those in which the check cannot read something, and whether there is anything else that it cannot."""
     found, is_else = set(), False
     for line in lines:
@@ -235,13 +235,13 @@ def failures(lines, crate, functions):
     return found
 
 
-def tried(place, edits, changed, again=AGAIN):
+def try_round(place, edits, changed, again=AGAIN):
     """What a round says of each edit that it settles: a function, and a goal or an answer there that is not proved."""
     of = {key: edit for edit in edits for key in changed[edit]}
-    texts = together(place.given, {key: changed[edit][key] for key, edit in of.items()})
+    texts = combined_sources(place.given, {key: changed[edit][key] for key, edit in of.items()})
     functions = {(file, path): read(texts[file], file)[0][path] for file, path in of}
     status, lines = place.check(texts)
-    wrong, is_else = unread(lines, functions)
+    wrong, is_else = unread_functions(lines, functions)
     if status == 1 and not wrong and not is_else and any(it.startswith("logic=not-proved") for it in lines):
         settled = {}
         for key, line in failures(lines, place.crate, functions).items():
@@ -250,4 +250,4 @@ def tried(place, edits, changed, again=AGAIN):
     readable = [it for it in edits if it not in {of[key] for key in wrong}]
     half = len(readable) // 2
     parts = [readable] if wrong else [readable[:half], readable[half:]] if half and status != 0 else []
-    return {edit: it for part in parts if part and again for edit, it in tried(place, part, changed, again - 1).items()}
+    return {edit: it for part in parts if part and again for edit, it in try_round(place, part, changed, again - 1).items()}

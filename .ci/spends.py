@@ -56,7 +56,7 @@ class Claim:
         txid, index = self.outpoint[:32].hex(), int.from_bytes(self.outpoint[32:], "little")
         return "/".join(map(str, (digits(self.script), digits(self.program), txid, index, self.value, self.path, ",".join(self.slots) or "-")))
 
-    def changed(self, **values):
+    def changed_copy(self, **values):
         found = copy.copy(self)
         found.__dict__.update(values)
         return found
@@ -108,7 +108,7 @@ def from_electrum():
                 yield kinds.split()[1].split("+"), read_transaction(bytes.fromhex(row["transaction"])), spent, [it["path"] for it in row["answers"]]
 
 
-def taken_apart(curve):
+def signed_inputs(curve):
     """The inputs of each signed transaction, with the transaction."""
     for kinds, transaction, spent, paths in [*from_bolt3(curve), *from_electrum()]:
         digests, found = Digests(transaction), []
@@ -120,7 +120,7 @@ def taken_apart(curve):
         yield transaction, found
 
 
-def unsigned(transaction, inputs):
+def unsigned_transaction(transaction, inputs):
     """The transaction before anybody signs, and the lines of the signatures that it lacks: by input, the top of the stack first."""
     asked = [needs(it.kind, it, transaction.lock_time) for it in inputs]
     made = [Input(it.given.outpoint, b"", sequence, it.blanks()) for it, (_, sequence) in zip(inputs, asked)]
@@ -141,11 +141,11 @@ def spend(claims, outputs, preimages):
     return f"spend {';'.join(it.text() for it in claims) or '-'} {shown or '-'} {','.join(preimages) or '-'}"
 
 
-def taken():
+def signed_spends():
     """The claims and the spends of what was signed."""
     found, first = {}, {}
-    for transaction, inputs in taken_apart(Recorded.read(RECORD)):
-        _, told = unsigned(transaction, inputs)
+    for transaction, inputs in signed_inputs(Recorded.read(RECORD)):
+        _, told = unsigned_transaction(transaction, inputs)
         preimages = [preimage for it in inputs for preimage in it.preimages()]
         found[spend([it.claim for it in inputs], transaction.outputs, preimages)] = told
         for it in inputs:
@@ -164,7 +164,7 @@ def shown_plans():
                     yield plans.read_plan(line), [it["path"] for it in json.loads(line)["inputs"]]
 
 
-def planned(plan, paths):
+def planned_claims(plan, paths):
     """The claims of a plan, and what is made of them before anybody signs."""
     whole, claims, lines = copy.deepcopy(plan.transaction), [], []
     for index, (given, it, path) in enumerate(zip(whole.inputs, plan.inputs, paths)):
@@ -181,7 +181,7 @@ def from_pages():
     """The spends of the plans that the pages show, their claims, and those of dumps."""
     found = {}
     for plan, paths in shown_plans():
-        claims, told = planned(plan, paths)
+        claims, told = planned_claims(plan, paths)
         found[spend(claims, plan.transaction.outputs, [item.hex() for it in plan.inputs for item in it.preimages()])] = told
         for claim, given, it in zip(claims, plan.transaction.inputs, plan.inputs):
             # of an HTLC's claims that by a preimage waits for no height
@@ -207,7 +207,7 @@ def claim_of(told):
     return Claim(bytes.fromhex(told["script"]), bytes.fromhex(told["program"]), bytes.fromhex(txid) + int(index).to_bytes(4, "little"), told["value"], told["path"], slots)
 
 
-def changed(slots, at, slot):
+def changed_slots(slots, at, slot):
     return [*slots[:at], slot, *slots[at + 1 :]]
 
 
@@ -226,13 +226,13 @@ def refused_claims(first):
         ({"program": b""}, "WrongProgram"),
         ({"program": b"\x00\x14" + good.program[2:22]}, "WrongProgram"),
         ({"path": 0}, "Unmet"),
-        ({"slots": changed(slots, 1, f"s={KEY}")}, "Unmet"),
-        ({"slots": changed(slots, 1, "e=-")}, "Unmet"),
-        ({"slots": changed(slots, 1, f"p={32 * '00'}")}, "Unmet"),
-        ({"slots": changed(slots, 1, f"e={520 * '00'}")}, "Unmet"),
-        ({"slots": changed(slots, 1, f"e={521 * '00'}")}, "ItemTooLong"),
-        ({"slots": changed(slots, 1, f"s=04{KEY[2:]}")}, "NotAKey"),
-        ({"slots": changed(changed(slots, 0, f"e={521 * '00'}"), 1, f"s=04{KEY[2:]}")}, "ItemTooLong"),
+        ({"slots": changed_slots(slots, 1, f"s={KEY}")}, "Unmet"),
+        ({"slots": changed_slots(slots, 1, "e=-")}, "Unmet"),
+        ({"slots": changed_slots(slots, 1, f"p={32 * '00'}")}, "Unmet"),
+        ({"slots": changed_slots(slots, 1, f"e={520 * '00'}")}, "Unmet"),
+        ({"slots": changed_slots(slots, 1, f"e={521 * '00'}")}, "ItemTooLong"),
+        ({"slots": changed_slots(slots, 1, f"s=04{KEY[2:]}")}, "NotAKey"),
+        ({"slots": changed_slots(changed_slots(slots, 0, f"e={521 * '00'}"), 1, f"s=04{KEY[2:]}")}, "ItemTooLong"),
         ({"slots": [f"s=01{KEY[2:]}"], "script": b"\xff"}, "NotAKey"),
         ({"script": b"\xff"}, "BadOpcode 0"),
         ({"script": b"\x51\x02\x00", "path": 7}, "Truncated 1"),
@@ -241,10 +241,10 @@ def refused_claims(first):
         # DUP IF IF 1 ELSE 1 ENDIF ELSE DROP 1 ENDIF: the second path asks for a true and a false slot 0
         ({"script": bytes.fromhex("7663635167516867755168"), "program": b"\x00\x20" + sha256(bytes.fromhex("7663635167516867755168")), "path": 1, "slots": ["e=01"]}, "Contradiction"),
     ]
-    return {f"claim {good.changed(**values).text()}": f"refused {word}\n" for values, word in faults}
+    return {f"claim {good.changed_copy(**values).text()}": f"refused {word}\n" for values, word in faults}
 
 
-def lone(script, slots, path=0, value=1_000):
+def lone_claim(script, slots, path=0, value=1_000):
     """A claim on an output with this script."""
     script = bytes.fromhex(script)
     return Claim(script, b"\x00\x20" + sha256(script), bytes(32) + (7).to_bytes(4, "little"), value, path, slots)
@@ -254,9 +254,9 @@ def refused_spends(first):
     """Spends that are refused for the first of their faults, and those on the other side of each bound."""
     signed, transaction = first["success"]
     claim, outputs, preimages = signed.claim, transaction.outputs, signed.preimages()
-    other = claim.changed(outpoint=bytes(36))
+    other = claim.changed_copy(outpoint=bytes(36))
     # SIZE 66 EQUALVERIFY KEY CHECKSIG measures the signature
-    measured = lone(f"8201428821{KEY}ac", [f"s={KEY}"])
+    measured = lone_claim(f"8201428821{KEY}ac", [f"s={KEY}"])
     program = outputs[0].program
     most, over = Output(claim.value, program), Output(claim.value + 1, program)
     faults = [
@@ -276,14 +276,14 @@ def refused_spends(first):
         ([claim], [Output(MAX_MONEY + 1, bytes(10_001))], preimages, "ValueTooLarge"),
         ([claim], [Output(MAX_MONEY, bytes(10_001))], preimages, "OverLimit"),
         ([claim], [Output(MAX_MONEY, bytes(10_000))], preimages, "OutputsExceed"),
-        ([claim.changed(path=64)], [Output(MAX_MONEY + 1, program)], preimages, "ValueTooLarge"),
-        ([claim, other.changed(path=64)], [over], preimages, "NoSuchPath"),
-        ([claim.changed(slots=[]), other.changed(path=64)], outputs, preimages, "WrongArity"),
+        ([claim.changed_copy(path=64)], [Output(MAX_MONEY + 1, program)], preimages, "ValueTooLarge"),
+        ([claim, other.changed_copy(path=64)], [over], preimages, "NoSuchPath"),
+        ([claim.changed_copy(slots=[]), other.changed_copy(path=64)], outputs, preimages, "WrongArity"),
     ]
     return {spend(claims, given, shown): f"refused {word}\n" for claims, given, shown, word in faults}
 
 
-def asked():
+def wanted_answers():
     """Each line that callers read, with what they must print."""
-    found, first = taken()
+    found, first = signed_spends()
     return {**found, **from_pages(), **refused_claims(first), **refused_spends(first)}

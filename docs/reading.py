@@ -78,7 +78,7 @@ def lines_in(lines):
     return sum(-(-len(line.rstrip()) // COLUMNS) for line in lines if line.strip() and not line.lstrip().startswith("#["))
 
 
-def bare(text):
+def bare_text(text):
     return re.sub(r"--.*", "", text)
 
 
@@ -88,7 +88,7 @@ class Definition:
     def __init__(self, name, kind, above, lines, module):
         self.name, self.kind, self.module = name, kind, module
         self.lines = lines_in(above + lines)
-        self.text = bare("\n".join(lines))
+        self.text = bare_text("\n".join(lines))
         self.comments = self.lines - lines_in(self.text.split("\n"))
 
     def is_relation(self):
@@ -104,7 +104,7 @@ class Definition:
         """The fields of a record."""
         return re.findall(r"^ +pub (\w+) :", self.text, re.M) if self.kind == "record" else []
 
-    def inside(self):
+    def constructors(self):
         """The constructors of data."""
         return re.findall(r"^ +(?:pub )?([\w?']+) :", self.text, re.M) if self.kind == "data" else []
 
@@ -203,9 +203,9 @@ class Walk:
         known = definitions(file)
         if word in known:
             return file, word
-        return next(((file, it.name) for it in known.values() if word in it.inside()), None)
+        return next(((file, it.name) for it in known.values() if word in it.constructors()), None)
 
-    def named(self, path, word):
+    def imported_definition(self, path, word):
         """The same for an imported word, which must be there."""
         at = self.of_path(path, word)
         if at is None and path.split(".")[0] == "Rattle" and os.path.isdir(f"{TOP}/crates/{path.split('.')[1]}"):
@@ -225,13 +225,13 @@ class Walk:
         for at, chain in sorted(places):
             first, _, rest = chain.partition(".")
             if rest and first in modules:
-                found.append(self.named(modules[first], rest.split(".")[0]))
+                found.append(self.imported_definition(modules[first], rest.split(".")[0]))
             elif re.match(r"\s=\s", text[at + len(chain) :]) and re.search(r"[{;]\s*$", text[:at]):
                 continue
             elif first in hidden:
                 continue
             elif first in words:
-                found.append(self.named(*words[first]))
+                found.append(self.imported_definition(*words[first]))
             elif own.endswith(".antt"):
                 found.append(self.in_file(own, first))
         return [it for it in found if it]
@@ -244,7 +244,7 @@ class Walk:
                 path, word = scope[0][it]
                 at = self.of_path(path, word)
                 return at is None or at[1] != word
-            return any(it in other.inside() for other in definitions(file).values())
+            return any(it in other.constructors() for other in definitions(file).values())
 
         parameters = variables(definition.module, "", is_constructor)
         found = self.words_in(definition.module, scope, parameters)
@@ -344,7 +344,7 @@ class Fact:
         end = at + 1
         while end < len(lines) and (not lines[end].strip() or lines[end].startswith((head[1] + " ", head[1] + head[2] + " ", head[1] + "unfolding "))) and not lines[end].lstrip().startswith("--"):
             end += 1
-        self.text = bare("\n".join(lines[at:end]))
+        self.text = bare_text("\n".join(lines[at:end]))
         self.type = re.split(rf"^{head[1]}(?:unfolding|{re.escape(head[2])}) (?!:)", self.text[head.end() :], flags=re.M)[0].strip()
 
 
@@ -462,7 +462,7 @@ def without_strings(text):
     return re.sub(r"//[^\n]*|b?\"(?:\\.|[^\"\\])*\"|b?'(?:\\.[^']*|[^'\\\n])'", lambda it: " " * len(it[0]), text, flags=re.S)
 
 
-def closing(text, at):
+def bracket_end(text, at):
     """The position after the bracket that closes the one at a position."""
     text, depth = without_strings(text), 0
     for n in range(at, len(text)):
@@ -481,7 +481,7 @@ def item_text(file, name):
     if item[1] in ("const", "type"):
         stop = text.index(";", item.end()) + 1
     else:
-        stop = closing(text, end.start()) if end[0] != ";" else end.end()
+        stop = bracket_end(text, end.start()) if end[0] != ";" else end.end()
     lines = text[: item.start()].split("\n")[:-1]
     top = len(lines)
     while top and lines[top - 1].startswith(("//", "#[")) and not lines[top - 1].startswith("//!"):
@@ -496,7 +496,7 @@ def model_of(crate, name):
         text = text_of(file)
         it = re.search(rf"^impl(?:<[^{{]*?>)? Model for {name}\b[^{{]*\{{", text, re.M)
         if it:
-            body = text[it.end() - 1 : closing(text, it.end() - 1)]
+            body = text[it.end() - 1 : bracket_end(text, it.end() - 1)]
             value = re.search(r"ghost Value = (\{.*?\});", body, re.S)
             if value:
                 return value[1], imports_of(heads_of(text) + without_indent(body)), file
@@ -518,7 +518,7 @@ def functions(file):
     for it in re.finditer(r"^(?:pub )?(?:impl|trait)\b[^{;]*\{", text, re.M):
         head = re.sub(r"<[^<>]*(?:<[^<>]*>[^<>]*)*>", "", it[0])
         kind = re.search(r"(?:\bfor\s+|impl\s+|trait\s+)(?:\w+::)*(\w+)[^{]*\{$", head)
-        blocks.append((it.start(), closing(text, it.end() - 1), kind[1] if kind else ""))
+        blocks.append((it.start(), bracket_end(text, it.end() - 1), kind[1] if kind else ""))
     for it in re.finditer(r"^ *(?:pub(?:\([a-z]+\))? )?(?:const )?(?:extern \"C\" )?fn (\w+)", text, re.M):
         kind, ghost = "", heads_of(text)
         for start, stop, name in blocks:
@@ -533,12 +533,12 @@ def clauses_of(file, name, kind):
     text = text_of(file)
     start, ghost = next((at, ghost) for it, fn, at, ghost in functions(file) if (it, fn) == (kind, name))
     clause = re.compile(r"\s*(?://[^\n]*\s*)*(?:requires|ensures)(?: \w+)? (?=\{)")
-    at = closing(text, text.index("(", start))
+    at = bracket_end(text, text.index("(", start))
     more = re.compile(r"(?:\[[^\]]*\]|[^{;])*?(?=\n\s*(?:requires|ensures)\b|\s*\{|;)", re.S).match(text, at)
     signature, at = text[start : more.end()], more.end()
     clauses = []
     while it := clause.match(text, at):
-        at = closing(text, it.end())
+        at = bracket_end(text, it.end())
         clauses.append(text[it.start() : at].strip())
     return clauses, signature, ghost
 
@@ -560,7 +560,7 @@ def found_function(word):
     return found, name
 
 
-def walked(word, walk):
+def walk_from(word, walk):
     """Walks from a word, and returns where it stands."""
     if "::" in word:
         found, name = found_function(word)
@@ -599,10 +599,10 @@ def main(words):
         return 0 if words in (["-h"], ["--help"]) else 2
     walk, known = Walk(), Walk()
     if asked == "--facts":
-        return report_facts(walk, [walked(it, walk) for word in words for it in each_of(word)])
+        return report_facts(walk, [walk_from(it, walk) for word in words for it in each_of(word)])
     for word in words[:-1]:
-        walked(word, known)
-    report(walk, walked(words[-1], walk), known)
+        walk_from(word, known)
+    report(walk, walk_from(words[-1], walk), known)
     return 0
 
 

@@ -79,7 +79,7 @@ def _number(value: int, bits: int, name: str) -> int:
     return value
 
 
-def _given(data: bytes):
+def _buffer(data: bytes):
     return (ctypes.c_uint8 * len(data)).from_buffer_copy(data)
 
 
@@ -116,7 +116,7 @@ def paths(script: bytes) -> List[Path]:
 
     Proved of enforce_script_list: whatever meets a listed path runs clean, and whatever runs clean meets a listed path. Raises Refused.
     """
-    answer, given = raw.Answer(), _given(script)
+    answer, given = raw.Answer(), _buffer(script)
     room = 64, 128, 1024
     while True:
         rows = _Rows(*room)
@@ -130,7 +130,7 @@ def paths(script: bytes) -> List[Path]:
 
 def text(script: bytes) -> str:
     """The text of `enforce paths` on this script, without notes. Raises Refused. Proved of enforce_script_text: the text of the listing, or the stated refusal."""
-    answer, given, size = raw.Answer(), _given(script), 4096
+    answer, given, size = raw.Answer(), _buffer(script), 4096
     while True:
         room = (ctypes.c_uint8 * size)()
         status = _library.enforce_script_text(given, len(script), room, size, ctypes.byref(answer))
@@ -144,7 +144,7 @@ def text(script: bytes) -> str:
 def program(script: bytes) -> bytes:
     """The program that an output with this script has (BIP 141, P2WSH): 00, 20 and the script's SHA-256. Proved of enforce_script_program."""
     made = (ctypes.c_uint8 * 34)()
-    _library.enforce_script_program(_given(script), len(script), ctypes.byref(made))
+    _library.enforce_script_program(_buffer(script), len(script), ctypes.byref(made))
     return bytes(made)
 
 
@@ -276,7 +276,7 @@ class _Given:
 
     def rows(self):
         """The rows of slots and the bytes, as two pairs of a call's arguments."""
-        return _rows(raw.SlotRow, self.slots) + (_given(bytes(self.bytes)), len(self.bytes))
+        return _rows(raw.SlotRow, self.slots) + (_buffer(bytes(self.bytes)), len(self.bytes))
 
 
 def _rows(kind, rows):

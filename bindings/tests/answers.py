@@ -8,7 +8,7 @@ def key(source):
     return f"slot {source}" if isinstance(source, int) else source.hex()
 
 
-def stated(fact):
+def fact_text(fact):
     holds = "yes" if fact.holds else "no"
     said = {
         "hash": lambda: f"{fact.constant.hex()} {holds}",
@@ -33,7 +33,7 @@ def listing(script):
     lines = [f"paths {len(paths)}"]
     for k, it in enumerate(paths):
         lines.append(f"path {k} arity {it.arity} counted {it.counted} height {it.height} lock {or_dash(it.lock)} age {or_dash(it.age)}")
-        lines += [f"  {stated(fact)}" for fact in it.facts]
+        lines += [f"  {fact_text(fact)}" for fact in it.facts]
     return "\n".join(lines)
 
 
@@ -65,14 +65,14 @@ def spend(claims, outputs, preimages):
     return "\n".join([f"tx {found.tx.hex()}", *(f"sign {it.input} {it.item} {it.key.hex()} {it.digest.hex()}" for it in found.signatures)])
 
 
-def due(text):
+def due_line(text):
     found = enforce.accept(claim(text))
     return f"due {found.height} {found.sequence}"
 
 
 def answer(name, *words):
     if name == "claim":
-        return due(*words)
+        return due_line(*words)
     if name == "spend":
         return spend(*words)
     if name == "form":
