@@ -48,9 +48,9 @@ abbrev pub entry : ℕ → Call → Entry
 entry seat call = record { seat = seat; call = call }
 
 -- an accepted call
-taken : (history new : List Entry) (seat : ℕ) (call : Call) (reply no_memory : Reply) → reply_of peer_tokens history call ≡ reply → is_accepted reply ≡ true
-    → new ≡ history ++ entry seat call ∷ [] → IsCall no_memory reply history new seat call
-taken history new seat call reply no_memory answer ok is = inr (sym answer, is ∙ ap (λ b. extended b history seat call) (sym (ap is_accepted answer ∙ ok)))
+taken : (history new : List Entry) (seat : ℕ) (call : Call) (reply : Reply) → reply_of peer_tokens history call ≡ reply → is_accepted reply ≡ true
+    → new ≡ history ++ entry seat call ∷ [] → IsCall reply history new seat call
+taken history new seat call reply answer ok is = inr (sym answer, is ∙ ap (λ b. extended b history seat call) (sym (ap is_accepted answer ∙ ok)))
 
 -- the claims of one more call are whole
 whole_grown : (history : List Entry) (e : Entry) → AreWhole history → AllByRecursion IsWhole (claims_by e.call) → AreWhole (history ++ e ∷ [])
@@ -131,73 +131,73 @@ one_fits n room more = omega (arith, more)
 pub filed : {A : Type 0} (items before history : List A) (e f : A) → items ≡ before ++ e ∷ [] → before ≡ history → e ≡ f → items ≡ history ++ f ∷ []
 filed items before history e f is same named = is ∙ ap (λ es. es ++ e ∷ []) same ∙ ap (λ g. history ++ g ∷ []) named
 
-pub record IsDone (no_memory reply : Reply) (history new : List Entry) (channels' : List (OutPoint × ChannelBook)) (seat : ℕ) (call : Call) : Type 0 where
-  pub called : IsCall no_memory reply history new seat call
+pub record IsDone (reply : Reply) (history new : List Entry) (channels' : List (OutPoint × ChannelBook)) (seat : ℕ) (call : Call) : Type 0 where
+  pub called : IsCall reply history new seat call
   pub keeps : AreLeft new channels'
 
-pub step_done : (history new : List Entry) (channels : List (OutPoint × ChannelBook)) (seat c : ℕ) (x y : ChannelBook) (step : Step) (m : Option Message) (no_memory : Reply) → AreLeft history channels
+pub step_done : (history new : List Entry) (channels : List (OutPoint × ChannelBook)) (seat c : ℕ) (x y : ChannelBook) (step : Step) (m : Option Message) → AreLeft history channels
     → slice_get (values_of channels) c ≡ Some x → book_step_refusal peer_tokens x step ≡ None → cons_option m [] ≡ messages_of x.state step → y ≡ with_state (state_stepped step) x
-    → new ≡ history ++ entry seat (Stepping c step) ∷ [] → IsDone no_memory (stepped (Ok (cons_option m []))) history new (set_value_at channels c y) seat (Stepping c step)
-step_done history new channels seat c x y step m no_memory k found none message written_as is =
+    → new ≡ history ++ entry seat (Stepping c step) ∷ [] → IsDone (stepped (Ok (cons_option m []))) history new (set_value_at channels c y) seat (Stepping c step)
+step_done history new channels seat c x y step m k found none message written_as is =
     let answer = step_answer (replay history) c x step m (stands history channels k c x found) none message in
     record {
-      called = taken history new seat (Stepping c step) (stepped (Ok (cons_option m []))) no_memory answer refl is;
+      called = taken history new seat (Stepping c step) (stepped (Ok (cons_option m []))) answer refl is;
       keeps = keeping_at (with_state (state_stepped step)) (step_leaves_terms step) history new channels seat (Stepping c step) (stepped (Ok (cons_option m []))) c x y refl k answer refl is found written_as tt;
     }
 
-pub revoke_done : (history new : List Entry) (channels : List (OutPoint × ChannelBook)) (seat c : ℕ) (x y : ChannelBook) (secret : List ℕ) (next_point : Key) (n : ℕ) (no_memory : Reply) → AreLeft history channels
+pub revoke_done : (history new : List Entry) (channels : List (OutPoint × ChannelBook)) (seat c : ℕ) (x y : ChannelBook) (secret : List ℕ) (next_point : Key) (n : ℕ) → AreLeft history channels
     → slice_get (values_of channels) c ≡ Some x → receive_refusal peer_tokens x.state (RevokeAndAck (record { secret = secret; next_point = next_point })) ≡ None → n ≡ length x.state.secrets → y ≡ with_state (λ s. after s (RevokeAndAck (record { secret = secret; next_point = next_point }))) x
-    → new ≡ history ++ entry seat (Revoke c (record { secret = secret; next_point = next_point })) ∷ [] → IsDone no_memory (revoked (Ok n)) history new (set_value_at channels c y) seat (Revoke c (record { secret = secret; next_point = next_point }))
-revoke_done history new channels seat c x y secret next_point n no_memory k found none number written_as is =
+    → new ≡ history ++ entry seat (Revoke c (record { secret = secret; next_point = next_point })) ∷ [] → IsDone (revoked (Ok n)) history new (set_value_at channels c y) seat (Revoke c (record { secret = secret; next_point = next_point }))
+revoke_done history new channels seat c x y secret next_point n k found none number written_as is =
     let answer = revoke_answer (replay history) c x secret next_point n (stands history channels k c x found) none number in
     record {
-      called = taken history new seat (Revoke c (record { secret = secret; next_point = next_point })) (revoked (Ok n)) no_memory answer refl is;
+      called = taken history new seat (Revoke c (record { secret = secret; next_point = next_point })) (revoked (Ok n)) answer refl is;
       keeps = keeping_at (with_state (λ s. after s (RevokeAndAck (record { secret = secret; next_point = next_point })))) (λ ch. refl) history new channels seat (Revoke c (record { secret = secret; next_point = next_point })) (revoked (Ok n)) c x y refl k answer refl is found written_as tt;
     }
 
-pub sign_done : (history new : List Entry) (channels : List (OutPoint × ChannelBook)) (seat c : ℕ) (x y : ChannelBook) (m : Message) (no_memory : Reply) → AreLeft history channels
+pub sign_done : (history new : List Entry) (channels : List (OutPoint × ChannelBook)) (seat c : ℕ) (x y : ChannelBook) (m : Message) → AreLeft history channels
     → slice_get (values_of channels) c ≡ Some x → sign_refusal x ≡ None → m ≡ signature_message peer_tokens x.state → y ≡ with_state after_sign x
-    → new ≡ history ++ entry seat (Sign c) ∷ [] → IsDone no_memory (signed (Ok m)) history new (set_value_at channels c y) seat (Sign c)
-sign_done history new channels seat c x y m no_memory k found none message written_as is =
+    → new ≡ history ++ entry seat (Sign c) ∷ [] → IsDone (signed (Ok m)) history new (set_value_at channels c y) seat (Sign c)
+sign_done history new channels seat c x y m k found none message written_as is =
     let answer = sign_answer (replay history) c x m (stands history channels k c x found) none message in
     record {
-      called = taken history new seat (Sign c) (signed (Ok m)) no_memory answer refl is;
+      called = taken history new seat (Sign c) (signed (Ok m)) answer refl is;
       keeps = keeping_at (with_state after_sign) (λ ch. refl) history new channels seat (Sign c) (signed (Ok m)) c x y refl k answer refl is found written_as tt;
     }
 
-pub open_done : (history new : List Entry) (channels channels' : List (OutPoint × ChannelBook)) (seat n : ℕ) (o : Opening) (no_memory : Reply) → AreLeft history channels
+pub open_done : (history new : List Entry) (channels channels' : List (OutPoint × ChannelBook)) (seat n : ℕ) (o : Opening) → AreLeft history channels
     → nat_le MAX_CHANNELS (length channels) ≡ false → is_some (lookup (same_outpoint o.terms.funding) channels) ≡ false → token_refusal o ≡ None → n ≡ length channels
-    → channels' ≡ channels ++ (o.terms.funding, opened_by o) ∷ [] → new ≡ history ++ entry seat (Open o) ∷ [] → IsDone no_memory (opened (Ok n)) history new channels' seat (Open o)
-open_done history new channels channels' seat n o no_memory k room absent token index more is =
+    → channels' ≡ channels ++ (o.terms.funding, opened_by o) ∷ [] → new ≡ history ++ entry seat (Open o) ∷ [] → IsDone (opened (Ok n)) history new channels' seat (Open o)
+open_done history new channels channels' seat n o k room absent token index more is =
     let many = as_many history channels k in
     let other = sym (funds history channels k o.terms.funding) ∙ absent in
     let answer = open_answer (replay history) o n (ap (nat_le MAX_CHANNELS) (sym many) ∙ room) other token (index ∙ many) in
     record {
-      called = taken history new seat (Open o) (opened (Ok n)) no_memory answer refl is;
+      called = taken history new seat (Open o) (opened (Ok n)) answer refl is;
       keeps = keeping history new channels channels' seat (Open o) (opened (Ok n)) k answer refl is (more ∙ joined history channels k (opened_by o)) tt;
     }
 
-pub close_done : (history new : List Entry) (channels : List (OutPoint × ChannelBook)) (seat c : ℕ) (x y : ChannelBook) (n : ℕ) (no_memory : Reply) → AreLeft history channels
+pub close_done : (history new : List Entry) (channels : List (OutPoint × ChannelBook)) (seat c : ℕ) (x y : ChannelBook) (n : ℕ) → AreLeft history channels
     → slice_get (values_of channels) c ≡ Some x → n ≡ x.state.number → y ≡ with_closed x
-    → new ≡ history ++ entry seat (Close c) ∷ [] → IsDone no_memory (closed (Ok n)) history new (set_value_at channels c y) seat (Close c)
-close_done history new channels seat c x y n no_memory k found number written_as is =
+    → new ≡ history ++ entry seat (Close c) ∷ [] → IsDone (closed (Ok n)) history new (set_value_at channels c y) seat (Close c)
+close_done history new channels seat c x y n k found number written_as is =
     let answer = close_answer (replay history) c x n (stands history channels k c x found) number in
     record {
-      called = taken history new seat (Close c) (closed (Ok n)) no_memory answer refl is;
+      called = taken history new seat (Close c) (closed (Ok n)) answer refl is;
       keeps = keeping_at with_closed (λ ch. refl) history new channels seat (Close c) (closed (Ok n)) c x y refl k answer refl is found written_as tt;
     }
 
 -- ---- refused calls
 
-refused : (history : List Entry) (seat : ℕ) (call : Call) (reply no_memory : Reply) → reply_of peer_tokens history call ≡ reply → is_accepted reply ≡ false
-    → IsCall no_memory reply history history seat call
-refused history seat call reply no_memory answer rejected = inr (sym answer, ap (λ b. extended b history seat call) (sym (ap is_accepted answer ∙ rejected)))
+refused : (history : List Entry) (seat : ℕ) (call : Call) (reply : Reply) → reply_of peer_tokens history call ≡ reply → is_accepted reply ≡ false
+    → IsCall reply history history seat call
+refused history seat call reply answer rejected = inr (sym answer, ap (λ b. extended b history seat call) (sym (ap is_accepted answer ∙ rejected)))
 
 -- a call of a channel that is not there
-pub not_there : (history : List Entry) (channels : List (OutPoint × ChannelBook)) (seat c : ℕ) (call : Call) (reply no_memory : Reply) → AreLeft history channels → length channels ≤ c
-    → ((chs : Channels) → slice_get chs c ≡ None → answer_of peer_tokens chs call ≡ reply) → is_accepted reply ≡ false → IsCall no_memory reply history history seat call
-not_there history channels seat c call reply no_memory k past answer rejected =
-    refused history seat call reply no_memory (answer (replay history) (slice_get_past (replay history) c (subst (λ n. n ≤ c) (as_many history channels k) past))) rejected
+pub not_there : (history : List Entry) (channels : List (OutPoint × ChannelBook)) (seat c : ℕ) (call : Call) (reply : Reply) → AreLeft history channels → length channels ≤ c
+    → ((chs : Channels) → slice_get chs c ≡ None → answer_of peer_tokens chs call ≡ reply) → is_accepted reply ≡ false → IsCall reply history history seat call
+not_there history channels seat c call reply k past answer rejected =
+    refused history seat call reply (answer (replay history) (slice_get_past (replay history) c (subst (λ n. n ≤ c) (as_many history channels k) past))) rejected
 
 pub none_to_keep : (c n : ℕ) (claims : List ClaimParts) (chs : Channels) → slice_get chs c ≡ None → answer_of peer_tokens chs (Keep c n claims) ≡ kept (Err NoChannelToKeep)
 none_to_keep c n claims chs none = rw none refl
@@ -224,15 +224,15 @@ is_none (Some x) e = absurd cc
 pub no_room : (m n : ℕ) → n < m → nat_le m n ≡ false
 no_room m n less = grind (arith, nat_tests)
 
-pub same_funding : (history : List Entry) (channels : List (OutPoint × ChannelBook)) (seat : ℕ) (o : Opening) (no_memory : Reply) → AreLeft history channels
-    → nat_le MAX_CHANNELS (length channels) ≡ false → is_some (lookup (same_outpoint o.terms.funding) channels) ≡ true → IsCall no_memory (opened (Err SameFunding)) history history seat (Open o)
-same_funding history channels seat o no_memory k room there =
+pub same_funding : (history : List Entry) (channels : List (OutPoint × ChannelBook)) (seat : ℕ) (o : Opening) → AreLeft history channels
+    → nat_le MAX_CHANNELS (length channels) ≡ false → is_some (lookup (same_outpoint o.terms.funding) channels) ≡ true → IsCall (opened (Err SameFunding)) history history seat (Open o)
+same_funding history channels seat o k room there =
     let room_left = ap (nat_le MAX_CHANNELS) (sym (as_many history channels k)) ∙ room in
-    refused history seat (Open o) (opened (Err SameFunding)) no_memory (funding_answer (replay history) o room_left (sym (funds history channels k o.terms.funding) ∙ there)) refl
+    refused history seat (Open o) (opened (Err SameFunding)) (funding_answer (replay history) o room_left (sym (funds history channels k o.terms.funding) ∙ there)) refl
 
 pub no_token : (history : List Entry) (channels : List (OutPoint × ChannelBook)) (seat : ℕ) (o : Opening) (e : OpenError) → AreLeft history channels
     → nat_le MAX_CHANNELS (length channels) ≡ false → is_some (lookup (same_outpoint o.terms.funding) channels) ≡ false → IsOpenRefusal (token_refusal o) e
-    → IsCall (opened (Err out_of_memory)) (opened (Err e)) history history seat (Open o)
+    → IsCall (opened (Err e)) history history seat (Open o)
 no_token history channels seat o e k room absent h = by e h
   where
     room_left : nat_le MAX_CHANNELS (length (replay history)) ≡ false
@@ -241,31 +241,31 @@ no_token history channels seat o e k room absent h = by e h
     other : is_funding (replay history) o.terms.funding ≡ false
     other = sym (funds history channels k o.terms.funding) ∙ absent
 
-    first : (r : OpenError) → token_refusal o ≡ Some r → IsCall (opened (Err out_of_memory)) (opened (Err r)) history history seat (Open o)
-    first r is = refused history seat (Open o) (opened (Err r)) (opened (Err out_of_memory)) (token_answer (replay history) o r room_left other is) refl
+    first : (r : OpenError) → token_refusal o ≡ Some r → IsCall (opened (Err r)) history history seat (Open o)
+    first r is = refused history seat (Open o) (opened (Err r)) (token_answer (replay history) o r room_left other is) refl
 
-    by : (r : OpenError) → IsOpenRefusal (token_refusal o) r → IsCall (opened (Err out_of_memory)) (opened (Err r)) history history seat (Open o)
+    by : (r : OpenError) → IsOpenRefusal (token_refusal o) r → IsCall (opened (Err r)) history history seat (Open o)
     by out_of_memory is = inl (refl, refl)
     by BookFull is = first BookFull is
     by SameFunding is = first SameFunding is
     by BadSignature is = first BadSignature is
 
-pub release_done : (history new : List Entry) (channels : List (OutPoint × ChannelBook)) (seat c : ℕ) (x : ChannelBook) (b : Batch) (f : Filling) (no_memory : Reply) → AreLeft history channels
+pub release_done : (history new : List Entry) (channels : List (OutPoint × ChannelBook)) (seat c : ℕ) (x : ChannelBook) (b : Batch) (f : Filling) → AreLeft history channels
     → slice_get (values_of channels) c ≡ Some x → fill_refusal b.claims b.outputs (rights_of x.state) b.preimages ≡ None → f ≡ filling_by b
-    → new ≡ history ++ entry seat (Release c b) ∷ [] → AllByRecursion IsWhole b.claims → IsDone no_memory (released (Ok f)) history new channels seat (Release c b)
-release_done history new channels seat c x b f no_memory k found none filled is whole =
+    → new ≡ history ++ entry seat (Release c b) ∷ [] → AllByRecursion IsWhole b.claims → IsDone (released (Ok f)) history new channels seat (Release c b)
+release_done history new channels seat c x b f k found none filled is whole =
     let answer = release_answer (replay history) c x b f (stands history channels k c x found) none filled in
     record {
-      called = taken history new seat (Release c b) (released (Ok f)) no_memory answer refl is;
+      called = taken history new seat (Release c b) (released (Ok f)) answer refl is;
       keeps = keeping history new channels channels seat (Release c b) (released (Ok f)) k answer refl is k.left whole;
     }
 
-pub keep_done : (history new : List Entry) (channels : List (OutPoint × ChannelBook)) (seat c n : ℕ) (x y : ChannelBook) (claims : List ClaimParts) (no_memory : Reply) → AreLeft history channels
+pub keep_done : (history new : List Entry) (channels : List (OutPoint × ChannelBook)) (seat c n : ℕ) (x y : ChannelBook) (claims : List ClaimParts) → AreLeft history channels
     → slice_get (values_of channels) c ≡ Some x → keep_refusal x n claims ≡ None → y ≡ with_kept n x
-    → new ≡ history ++ entry seat (Keep c n claims) ∷ [] → AllByRecursion IsWhole claims → IsDone no_memory (kept (Ok tt)) history new (set_value_at channels c y) seat (Keep c n claims)
-keep_done history new channels seat c n x y claims no_memory k found none written_as is whole =
+    → new ≡ history ++ entry seat (Keep c n claims) ∷ [] → AllByRecursion IsWhole claims → IsDone (kept (Ok tt)) history new (set_value_at channels c y) seat (Keep c n claims)
+keep_done history new channels seat c n x y claims k found none written_as is whole =
     let answer = keep_answer (replay history) c n x claims (stands history channels k c x found) none in
     record {
-      called = taken history new seat (Keep c n claims) (kept (Ok tt)) no_memory answer refl is;
+      called = taken history new seat (Keep c n claims) (kept (Ok tt)) answer refl is;
       keeps = keeping_at (with_kept n) (λ ch. refl) history new channels seat (Keep c n claims) (kept (Ok tt)) c x y refl k answer refl is found written_as whole;
     }

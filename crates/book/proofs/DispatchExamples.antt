@@ -20,7 +20,8 @@ use Rattle.book.specs.declared.errors.ReleaseError.TheVariants as releases
 use Rattle.book.specs.declared.errors.CloseError.TheVariants as closes
 use Rattle.book.specs.Refusals.{open_error_number, step_error_number, sign_error_number, keep_error_number, release_error_number, close_error_number}
 use Rattle.book.specs.Replies.{Reply, opened, stepped, signed, revoked, kept, released, closed, is_accepted}
-use Rattle.book.specs.Dispatch.{reply_form, no_memory_of}
+use Rattle.book.specs.Calling.{no_memory_of}
+use Rattle.book.specs.Dispatch.{reply_form}
 
 -- the names of the calls
 data Name : Type 0 where

@@ -1,5 +1,5 @@
 -- Kept sets are exact: accepted claims on all that the peer's revoked commitment lets this side claim, whatever comes later.
-use Rattle.std.proofs.Common.{◌≡◌, ℕ, zero, suc, ◌≤◌, ◌||◌, ⊎_elim, Bool, true, false, true≢false, List, [], ◌∷◌, ◌++◌, length, reverse, Option, Some, None, Ok, Err, refl, sym, ap, ◌∙◌, subst, arith, Contains, inl, inr}
+use Rattle.std.proofs.Common.{◌≡◌, ℕ, zero, suc, ◌≤◌, ◌||◌, ⊎_elim, Bool, true, false, true≢false, List, [], ◌∷◌, ◌++◌, length, reverse, Option, Some, None, Ok, refl, sym, ap, ◌∙◌, subst, arith, Contains, inl, inr}
 use Rattle.std.specs.Prelude.{slice_get, nat_le}
 use Rattle.std.specs.List.{AllByRecursion}
 use Rattle.std.proofs.lemmas.Bool.{and_parts, and_from}
@@ -33,7 +33,6 @@ use Rattle.book.specs.declared.calls.Call.{Call}
 use Rattle.book.specs.declared.calls.Call.TheVariants.{Open, Step as Stepping, Sign, Revoke, Keep, Release, Close}
 use Rattle.book.specs.declared.calls.Entry.{Entry}
 use Rattle.book.specs.declared.errors.SignError.TheVariants.{AwaitingRevocation, NoUpdates}
-use Rattle.book.specs.declared.errors.KeepError.TheVariants.{NoMemory}
 use Rattle.book.specs.Penalties.{revoked_contents, claimable_in, claimable_at, is_penalty_set, IsChecked}
 use Rattle.book.specs.Books.{ChannelBook, Channels, at_index, stepped, opened_by, with_state, with_kept, with_closed, first_missing, channels_after, replayed}
 use Rattle.book.specs.Replies.{kept, is_accepted, answer_of, if_so, if_missing, step_refusal, sign_refusal}
@@ -229,7 +228,7 @@ kept_are_exact numbers tokens_of history seat c n claims ok whole there =
 
 -- a set is kept by a call that does not run out of memory
 pub kept_by_call : SidesNumber → (old new : List Entry) (seat c n : ℕ) (claims : List ClaimParts) → all_accepted peer_tokens old ≡ true → AllByRecursion IsWhole claims
-    → IsCall (kept (Err NoMemory)) (kept (Ok tt)) old new seat (Keep c n claims) → ArePenaltiesIn c n (replayed (reverse old)) claims
+    → IsCall (kept (Ok tt)) old new seat (Keep c n claims) → ArePenaltiesIn c n (replayed (reverse old)) claims
 kept_by_call numbers old new seat c n claims ok whole (inl out) = absurd (true≢false (ap is_accepted out.0))
 kept_by_call numbers old new seat c n claims ok whole (inr is) = at_once numbers peer_tokens c n claims (reverse old) ok (ap is_accepted (sym is.0)) whole
 

@@ -30,7 +30,7 @@ use Rattle.book.specs.Signers.{fill_refusal}
 use Rattle.book.specs.Books.{ChannelBook, Channels, replay}
 use Rattle.book.specs.Replies.{Reply, stepped, signed, revoked, kept, released, is_accepted, answer_of, reply_of, extended, book_step_refusal, sign_refusal, keep_refusal}
 use Rattle.book.specs.Kept.{AreLeft}
-use Rattle.book.specs.Calling.{IsCall, IsStepRefusal, IsSignRefusal, IsKeepRefusal, IsFillRefusal}
+use Rattle.book.specs.Calling.{no_memory_of, IsCall, IsStepRefusal, IsSignRefusal, IsKeepRefusal, IsFillRefusal}
 use Rattle.book.proofs.Fundings.{stands}
 
 -- memory ran out, or a refusal is the first that applies
@@ -122,37 +122,37 @@ release_answer chs c ch b e found is = rw (found, is) refl
 -- ---- refused calls as a whole
 
 module _ (history new : List Entry) (channels : List (OutPoint × ChannelBook)) (k : AreLeft history channels) (same : new ≡ history) (seat c : ℕ) (x : ChannelBook) (found : slice_get (values_of channels) c ≡ Some x) where
-  by_first : {E : Type 0} (call : Call) (wrap : E → Reply) (none e : E) (first : Option E) → ((r : E) → is_accepted (wrap r) ≡ false)
-      → (first ≡ Some e → answer_of peer_tokens (replay history) call ≡ wrap e) → (e ≡ none) ⊎ (first ≡ Some e) → IsCall (wrap none) (wrap e) history new seat call
-  by_first call wrap none e first rejected answer (inl is) = inl (ap wrap is, same)
-  by_first call wrap none e first rejected answer (inr is) =
+  by_first : {E : Type 0} (call : Call) (wrap : E → Reply) (none e : E) (first : Option E) → wrap none ≡ no_memory_of call → ((r : E) → is_accepted (wrap r) ≡ false)
+      → (first ≡ Some e → answer_of peer_tokens (replay history) call ≡ wrap e) → (e ≡ none) ⊎ (first ≡ Some e) → IsCall (wrap e) history new seat call
+  by_first call wrap none e first out rejected answer (inl is) = inl (ap wrap is ∙ out, same)
+  by_first call wrap none e first out rejected answer (inr is) =
       let reply : reply_of peer_tokens history call ≡ wrap e = answer is in
       inr (sym reply, same ∙ ap (λ b. extended b history seat call) (sym (ap is_accepted reply ∙ rejected e)))
 
   there : slice_get (replay history) c ≡ Some x
   there = stands history channels k c x found
 
-  pub step_refused : (step : Step) (e : StepError) → IsStepRefusal (book_step_refusal peer_tokens x step) e → IsCall (stepped (Err (Refused refuses.NoMemory))) (stepped (Err e)) history new seat (Stepping c step)
+  pub step_refused : (step : Step) (e : StepError) → IsStepRefusal (book_step_refusal peer_tokens x step) e → IsCall (stepped (Err e)) history new seat (Stepping c step)
   step_refused step e is =
       let first = book_step_refusal peer_tokens x step in
-      by_first (Stepping c step) (λ r. stepped (Err r)) (Refused refuses.NoMemory) e first (λ r. refl) (step_answer (replay history) c x step e there) (to_step first e is)
+      by_first (Stepping c step) (λ r. stepped (Err r)) (Refused refuses.NoMemory) e first refl (λ r. refl) (step_answer (replay history) c x step e there) (to_step first e is)
 
   pub revoke_refused : (secret : List ℕ) (next_point : Key) (r : ChannelError) → IsRefusal (receive_refusal peer_tokens x.state (RevokeAndAck (record { secret = secret; next_point = next_point }))) r
-      → IsCall (revoked (Err (Refused refuses.NoMemory))) (revoked (Err (Refused r))) history new seat (Revoke c (record { secret = secret; next_point = next_point }))
+      → IsCall (revoked (Err (Refused r))) history new seat (Revoke c (record { secret = secret; next_point = next_point }))
   revoke_refused secret next_point r is =
       let first = receive_refusal peer_tokens x.state (RevokeAndAck (record { secret = secret; next_point = next_point })) in
-      by_first (Revoke c (record { secret = secret; next_point = next_point })) (λ e. revoked (Err (Refused e))) refuses.NoMemory r first (λ e. refl) (revoke_answer (replay history) c x secret next_point r there) (to_take first r is)
+      by_first (Revoke c (record { secret = secret; next_point = next_point })) (λ e. revoked (Err (Refused e))) refuses.NoMemory r first refl (λ e. refl) (revoke_answer (replay history) c x secret next_point r there) (to_take first r is)
 
-  pub sign_refused : (e : SignError) → IsSignRefusal (sign_refusal x) e → IsCall (signed (Err signs.NoMemory)) (signed (Err e)) history new seat (Sign c)
-  sign_refused e is = by_first (Sign c) (λ r. signed (Err r)) signs.NoMemory e (sign_refusal x) (λ r. refl) (sign_answer (replay history) c x e there) (to_sign (sign_refusal x) e is)
+  pub sign_refused : (e : SignError) → IsSignRefusal (sign_refusal x) e → IsCall (signed (Err e)) history new seat (Sign c)
+  sign_refused e is = by_first (Sign c) (λ r. signed (Err r)) signs.NoMemory e (sign_refusal x) refl (λ r. refl) (sign_answer (replay history) c x e there) (to_sign (sign_refusal x) e is)
 
-  pub keep_refused : (n : ℕ) (claims : List ClaimParts) (e : KeepError) → IsKeepRefusal (keep_refusal x n claims) e → IsCall (kept (Err keeps.NoMemory)) (kept (Err e)) history new seat (Keep c n claims)
+  pub keep_refused : (n : ℕ) (claims : List ClaimParts) (e : KeepError) → IsKeepRefusal (keep_refusal x n claims) e → IsCall (kept (Err e)) history new seat (Keep c n claims)
   keep_refused n claims e is =
       let first = keep_refusal x n claims in
-      by_first (Keep c n claims) (λ r. kept (Err r)) keeps.NoMemory e first (λ r. refl) (keep_answer (replay history) c n x claims e there) (to_keep first e is)
+      by_first (Keep c n claims) (λ r. kept (Err r)) keeps.NoMemory e first refl (λ r. refl) (keep_answer (replay history) c n x claims e there) (to_keep first e is)
 
   pub release_refused : (b : Batch) (e : FillError) → IsFillRefusal (fill_refusal b.claims b.outputs (rights_of x.state) b.preimages) e
-      → IsCall (released (Err (Unfilled fills.NoMemory))) (released (Err (Unfilled e))) history new seat (Release c b)
+      → IsCall (released (Err (Unfilled e))) history new seat (Release c b)
   release_refused b e is =
       let first = fill_refusal b.claims b.outputs (rights_of x.state) b.preimages in
-      by_first (Release c b) (λ r. released (Err (Unfilled r))) fills.NoMemory e first (λ r. refl) (release_answer (replay history) c x b e there) (to_fill first e is)
+      by_first (Release c b) (λ r. released (Err (Unfilled r))) fills.NoMemory e first refl (λ r. refl) (release_answer (replay history) c x b e there) (to_fill first e is)

@@ -1,5 +1,5 @@
 -- What is left of a release where other transactions spent some of its outputs, and how it is released again.
-use Rattle.std.proofs.Common.{◌≡◌, ℕ, suc, ◌+◌, ◌<◌, ◌≤◌, Bool, true, false, not, cond, List, [], ◌∷◌, ◌++◌, length, drop, get_or, Option, Some, None, Result, Ok, Err, refl, sym, ap, ◌∙◌, subst, arith, inl, inr, append_assoc, append-nil}
+use Rattle.std.proofs.Common.{◌≡◌, ℕ, suc, ◌+◌, ◌<◌, ◌≤◌, Bool, true, false, not, cond, List, [], ◌∷◌, ◌++◌, length, drop, get_or, Some, None, Result, Err, refl, sym, ap, ◌∙◌, subst, arith, inl, inr, append_assoc, append-nil}
 use Rattle.std.specs.Prelude.{◌==◌, nat_lt, slice_get}
 use Rattle.std.specs.List.{filter, list_any}
 use Rattle.std.proofs.Math.Seq.{drop-cons}
@@ -13,7 +13,6 @@ use Rattle.tx.specs.Fields.{same_outpoint}
 use Rattle.claim.specs.Claims.{ClaimParts}
 use Rattle.filling.specs.Filled.{Filling}
 use Rattle.filling.specs.declared.errors.FillError.TheVariants.{NoMemory}
-use Rattle.channel.specs.Tokens.{peer_tokens}
 use Rattle.book.specs.declared.calls.Batch.{Batch}
 use Rattle.book.specs.declared.calls.Call.{Call}
 use Rattle.book.specs.declared.calls.Call.TheVariants.{Open, Step, Sign, Revoke, Keep, Release, Close}
@@ -22,7 +21,7 @@ use Rattle.book.specs.declared.errors.ReleaseError.{ReleaseError}
 use Rattle.book.specs.declared.errors.ReleaseError.TheVariants.{Unfilled}
 use Rattle.book.specs.declared.errors.ReleaseAgainError.{ReleaseAgainError}
 use Rattle.book.specs.declared.errors.ReleaseAgainError.TheVariants.{Refused, NoSuchEntry, NotARelease, TooManyOutputs, NothingLeft}
-use Rattle.book.specs.Replies.{Reply, released, is_accepted, reply_of, extended, if_so}
+use Rattle.book.specs.Replies.{released, is_accepted, extended, if_so}
 use Rattle.book.specs.Calling.{IsCall}
 use Rattle.book.specs.Calls.{IsBatchOf}
 use Rattle.book.specs.Again.{without_spent, batch_refusal, left_refusal, rest_refusal, IsRest, IsReleasedAgain, IsAgainRefusal, IsRestRefusal}
@@ -131,16 +130,16 @@ not_there history seat n spent outputs TooManyOutputs h = (refl, h)
 not_there history seat n spent outputs NothingLeft h = (refl, h)
 
 -- a refused call leaves the history
-same_history : (old new : List Entry) (seat : ℕ) (call : Call) (e : ReleaseError) (no_memory : Reply) → IsCall no_memory (released (Err e)) old new seat call → new ≡ old
-same_history old new seat call e no_memory (inl h) = h.1
-same_history old new seat call e no_memory (inr h) = h.1 ∙ ap (λ r. extended (is_accepted r) old seat call) (sym h.0)
+same_history : (old new : List Entry) (seat : ℕ) (call : Call) (e : ReleaseError) → IsCall (released (Err e)) old new seat call → new ≡ old
+same_history old new seat call e (inl h) = h.1
+same_history old new seat call e (inr h) = h.1 ∙ ap (λ r. extended (is_accepted r) old seat call) (sym h.0)
 
 pub again : (old new : List Entry) (seat n : ℕ) (spent : List OutPoint) (outputs : List Output) (channel : ℕ) (rest : Batch) (given : Result Filling ReleaseError) → IsRest (slice_get old n) spent outputs channel rest
-    → IsCall (released (Err (Unfilled NoMemory))) (released given) old new seat (Release channel rest) → IsReleasedAgain old new seat n spent outputs given
+    → IsCall (released given) old new seat (Release channel rest) → IsReleasedAgain old new seat n spent outputs given
 again old new seat n spent outputs channel rest given left call = record { channel = channel; rest = rest; left = left; call = call }
 
 pub refused_again : (old new : List Entry) (seat n : ℕ) (spent : List OutPoint) (outputs : List Output) (channel : ℕ) (rest : Batch) (e : ReleaseError) → IsRest (slice_get old n) spent outputs channel rest
-    → IsCall (released (Err (Unfilled NoMemory))) (released (Err e)) old new seat (Release channel rest) → IsAgainRefusal old new seat n spent outputs (Refused e)
-refused_again old new seat n spent outputs channel rest (Unfilled NoMemory) left call = same_history old new seat (Release channel rest) (Unfilled NoMemory) (released (Err (Unfilled NoMemory))) call
+    → IsCall (released (Err e)) old new seat (Release channel rest) → IsAgainRefusal old new seat n spent outputs (Refused e)
+refused_again old new seat n spent outputs channel rest (Unfilled NoMemory) left call = same_history old new seat (Release channel rest) (Unfilled NoMemory) call
 refused_again old new seat n spent outputs channel rest e left call =
-    (same_history old new seat (Release channel rest) e (released (Err (Unfilled NoMemory))) call, again old new seat n spent outputs channel rest (Err e) left call)
+    (same_history old new seat (Release channel rest) e call, again old new seat n spent outputs channel rest (Err e) left call)

@@ -55,7 +55,7 @@ pub record IsReleasedAgain (old new : List Entry) (seat n : ℕ) (spent : List O
   pub channel : ℕ
   pub rest : Batch
   pub left : IsRest (slice_get old n) spent outputs channel rest
-  pub call : IsCall (released (Err (Unfilled NoMemory))) (released given) old new seat (Release channel rest)
+  pub call : IsCall (released given) old new seat (Release channel rest)
 
 -- a refusal: memory ran out, or the release of that batch is refused, or there is none; the history is as before
 abbrev pub IsAgainRefusal : (old new : List Entry) (seat n : ℕ) (spent : List OutPoint) (outputs : List Output) → ReleaseAgainError → Type 0

@@ -16,7 +16,12 @@ use Rattle.book.specs.declared.calls.Opening.{Opening}
 use Rattle.book.specs.declared.errors.OpenError.{OpenError}
 use Rattle.book.specs.declared.errors.OpenError.TheVariants.{BadSignature, NoMemory as out_of_memory}
 use Rattle.book.specs.declared.calls.Call.{Call}
+use Rattle.book.specs.declared.calls.Call.TheVariants.{Open, Step, Sign, Revoke, Keep, Release, Close}
 use Rattle.book.specs.declared.calls.Entry.{Entry}
+use Rattle.book.specs.declared.releasing.FilledTwice.{FilledTwice}
+use Rattle.book.specs.declared.errors.ReleaseError.{ReleaseError}
+use Rattle.book.specs.declared.errors.ReleaseError.TheVariants.{Unfilled}
+use Rattle.book.specs.declared.errors.CloseError.TheVariants.{NoMemory as close_memory}
 use Rattle.book.specs.declared.errors.KeepError.{KeepError}
 use Rattle.book.specs.declared.errors.KeepError.TheVariants.{NoMemory as keep_memory}
 use Rattle.book.specs.declared.errors.SignError.{SignError}
@@ -25,12 +30,22 @@ use Rattle.book.specs.Books.{ChannelBook, is_closed, first_missing}
 use Rattle.updates.specs.declared.errors.ChannelError.TheVariants.{NoMemory as refusal_memory}
 use Rattle.book.specs.declared.errors.StepError.{StepError}
 use Rattle.book.specs.declared.errors.StepError.TheVariants.{Refused}
-use Rattle.book.specs.Replies.{Reply, stepped, reply_of, history_after, if_so, if_missing}
+use Rattle.book.specs.Replies.{Reply, opened, stepped, signed, revoked, kept, released, closed, reply_of, history_after, if_so, if_missing}
+
+-- the reply that memory ran out
+abbrev pub no_memory_of : Call → Reply
+no_memory_of (Open o) = opened (Err out_of_memory)
+no_memory_of (Step c step) = stepped (Err (Refused refusal_memory))
+no_memory_of (Sign c) = signed (Err NoMemory)
+no_memory_of (Revoke c revocation) = revoked (Err (Refused refusal_memory))
+no_memory_of (Keep c n claims) = kept (Err keep_memory)
+no_memory_of (Release c batch) = released (Err (Unfilled fill_memory))
+no_memory_of (Close c) = closed (Err close_memory)
 
 -- either memory ran out and the history is as before, or reply and history are those of the definitions
-abbrev pub IsCall : Reply → Reply → List Entry → List Entry → ℕ → Call → Type 0
-IsCall no_memory reply old new seat call =
-    ((reply ≡ no_memory) × (new ≡ old)) ⊎ ((reply ≡ reply_of peer_tokens old call) × (new ≡ history_after peer_tokens old seat call))
+abbrev pub IsCall : Reply → List Entry → List Entry → ℕ → Call → Type 0
+IsCall reply old new seat call =
+    ((reply ≡ no_memory_of call) × (new ≡ old)) ⊎ ((reply ≡ reply_of peer_tokens old call) × (new ≡ history_after peer_tokens old seat call))
 
 -- a refusal of a step is the first that applies, or memory ran out
 abbrev pub IsStepRefusal : Option StepError → StepError → Type 0
@@ -76,3 +91,8 @@ IsFillRefusal first e = first ≡ Some e
 abbrev pub filling_by : Batch → Filling
 filling_by b =
     record { tx = filling_of b.claims b.outputs b.preimages; places = map (λ c. c.place) b.claims }
+
+-- what was filled, without the copy of the transaction, or the refusal
+abbrev pub filled_once : Result FilledTwice ReleaseError → Result Filling ReleaseError
+filled_once (Ok twice) = Ok twice.filled
+filled_once (Err e) = Err e

@@ -28,11 +28,11 @@ pub enum Reply {
 
 impl Book {
     ghost use Rattle.book.specs.Calling.{IsCall};
-    ghost use Rattle.book.specs.Dispatch.{no_memory_of, reply_form};
+    ghost use Rattle.book.specs.Dispatch.{reply_form};
 
     /// Makes a call. A refusal leaves the book as it was.
     pub fn call(&mut self, seat: u32, call: Call) -> Reply
-        ensures { IsCall (no_memory_of call) (reply_form result) self.old self.new seat call }
+        ensures { IsCall (reply_form result) self.old self.new seat call }
     {
         match call {
             Call::Open(opening) => Reply::Opened(self.open(seat, opening)),

@@ -54,16 +54,14 @@ fn first_channel(channels: &IndexMap<OutPoint, OpenChannel>) -> Option<&OpenChan
 }
 
 impl Book {
-    ghost use Rattle.std.specs.Prelude.{◌≡◌, ◌<◌, ◌++◌, ◌∷◌, [], true, Ok, Err, length, slice_get, option_map, IfOk, IfErr, MatchResult};
+    ghost use Rattle.std.specs.Prelude.{◌≡◌, ◌<◌, ◌++◌, ◌∷◌, [], true, length, slice_get, option_map, IfOk, IfErr, MatchResult};
     ghost use Rattle.std.specs.Vec.{vec_len, vec_capacity};
     ghost use Rattle.std.specs.Option.{option_and_then, option_copied};
     ghost use Rattle.channel.specs.Tokens.{peer_tokens};
-    ghost use Rattle.updates.specs.declared.errors.ChannelError.TheVariants.{NoMemory as refusal_memory};
-    ghost use Rattle.filling.specs.declared.errors.FillError.TheVariants.{NoMemory as fill_memory};
     ghost use Rattle.book.specs.Accepted.{all_accepted, AreWhole};
     ghost use Rattle.book.specs.Guarding.{is_guarded, ArePenaltiesIn};
-    ghost use Rattle.book.specs.Replies.{opened, stepped, signed, revoked, kept, released, closed};
-    ghost use Rattle.book.specs.Calling.{IsCall, IsKeepRefusal, step_reply};
+    ghost use Rattle.book.specs.Replies.{opened, signed, revoked, kept, released, closed};
+    ghost use Rattle.book.specs.Calling.{IsCall, IsKeepRefusal, step_reply, filled_once};
     ghost use Rattle.book.specs.Books.{replay, kept_at, fundings_of};
     ghost use Rattle.book.specs.Knowing.{preimages_in, IsKnownIn, IsKnowRefusal};
     ghost use Rattle.book.specs.Revoked.{IsRevokedIn, early_keep_refusal};
@@ -146,8 +144,7 @@ impl Book {
     /// Opens a channel and returns its index. Refused, in this order, with `BookFull` at 65,536 channels, `SameFunding` where a channel has the same funding output, and `BadSignature` where the token is not
     /// the peer's on this side's commitment 0. A refusal leaves the book as it was.
     pub fn open(&mut self, seat: u32, opening: Opening) -> Result<u64, OpenError>
-        ensures { IsCall (opened (Err OpenError.NoMemory)) (opened result) self.old self.new seat
-            (Call.Open opening) }
+        ensures { IsCall (opened result) self.old self.new seat (Call.Open opening) }
     {
         if self.channels.len() >= MAX_CHANNELS {
             return Err(OpenError::BookFull);
@@ -186,8 +183,7 @@ impl Book {
         channel: u64,
         step: Step,
     ) -> Result<Option<Message>, StepError>
-        ensures { IsCall (stepped (Err (StepError.Refused refusal_memory)))
-            (step_reply result) self.old self.new seat (Call.Step channel step) }
+        ensures { IsCall (step_reply result) self.old self.new seat (Call.Step channel step) }
     {
         let index = channel as usize;
         if index >= self.channels.len() {
@@ -217,8 +213,7 @@ impl Book {
         channel: u64,
         revocation: Revocation,
     ) -> Result<u64, StepError>
-        ensures { IsCall (revoked (Err (StepError.Refused refusal_memory)))
-            (revoked result) self.old self.new seat (Call.Revoke channel revocation) }
+        ensures { IsCall (revoked result) self.old self.new seat (Call.Revoke channel revocation) }
     {
         let index = channel as usize;
         if index >= self.channels.len() {
@@ -244,8 +239,7 @@ impl Book {
     /// Signs the peer's next commitment and returns the message. Refused, in this order, with `NoSuchChannel`, `ChannelClosed`, `AwaitingRevocation`, `PenaltiesMissing` and the lowest number of a revoked
     /// commitment whose penalties are not kept, and `NoUpdates`. A refusal leaves the book as it was.
     pub fn sign(&mut self, seat: u32, channel: u64) -> Result<Message, SignError>
-        ensures { IsCall (signed (Err SignError.NoMemory)) (signed result) self.old self.new seat
-            (Call.Sign channel) }
+        ensures { IsCall (signed result) self.old self.new seat (Call.Sign channel) }
     {
         let index = channel as usize;
         if index >= self.channels.len() {
@@ -271,7 +265,7 @@ impl Book {
         number: u64,
         claims: List<Claim>,
     ) -> Result<(), KeepError>
-        ensures call { IsCall (kept (Err KeepError.NoMemory)) (kept result) self.old self.new seat
+        ensures call { IsCall (kept result) self.old self.new seat
             (Call.Keep channel number claims) }
         ensures exact { IfOk result (λ _. ArePenaltiesIn channel number (replay self.old) claims) }
     {
@@ -307,7 +301,7 @@ impl Book {
         number: u64,
         set: PenaltySet,
     ) -> Result<(), KeepError>
-        ensures call { IsCall (kept (Err KeepError.NoMemory)) (kept result) self.old self.new seat
+        ensures call { IsCall (kept result) self.old self.new seat
             (Call.Keep channel number set.claims) }
         ensures exact { IfOk result (λ _. ArePenaltiesIn channel number (replay self.old)
             set.claims) }
@@ -336,8 +330,7 @@ impl Book {
 
     /// Fills the claims of a batch with the channel's signer. Refused with `NoSuchChannel`, else with the refusal of `fill`. A refusal leaves the book as it was.
     pub fn release(&mut self, seat: u32, channel: u64, batch: Batch) -> Result<Filled, ReleaseError>
-        ensures { IsCall (released (Err (ReleaseError.Unfilled fill_memory)))
-            (released result) self.old self.new seat (Call.Release channel batch) }
+        ensures { IsCall (released result) self.old self.new seat (Call.Release channel batch) }
     {
         let index = channel as usize;
         if index >= self.channels.len() {
@@ -365,11 +358,8 @@ impl Book {
         channel: u64,
         batch: Batch,
     ) -> Result<FilledTwice, ReleaseError>
-        ensures call { let no_memory = released (Err (ReleaseError.Unfilled fill_memory)) in
-            let call = Call.Release channel batch in
-            MatchResult result
-            (λ r. IsCall no_memory (released (Ok r.filled)) self.old self.new seat call)
-            (λ e. IsCall no_memory (released (Err e)) self.old self.new seat call) }
+        ensures call { IsCall (released (filled_once result)) self.old self.new seat
+            (Call.Release channel batch) }
         ensures copy { IfOk result (λ r. r.copy ≡ r.filled.tx) }
     {
         let index = channel as usize;
@@ -395,8 +385,7 @@ impl Book {
     /// channel takes no `commitment_signed`, signs nothing, and makes no update of its own but a fulfil. So this commitment stays the newest, and its secret is not given out. Called again, it returns the
     /// same number. Refused with `NoSuchChannel`. A refusal leaves the book as it was.
     pub fn close(&mut self, seat: u32, channel: u64) -> Result<u64, CloseError>
-        ensures { IsCall (closed (Err CloseError.NoMemory)) (closed result) self.old self.new seat
-            (Call.Close channel) }
+        ensures { IsCall (closed result) self.old self.new seat (Call.Close channel) }
     {
         let index = channel as usize;
         if index >= self.channels.len() {

@@ -20,7 +20,7 @@ use std::alloc::{AllocError, Global};
 use terms::{Party, ProposedParty, ProposedTerms, Terms};
 use texts::{
     PlainOpening, WriteValue, write_close, write_dump, write_entry, write_keep, write_own,
-    write_receive, write_release, write_revoke, write_sign, write_signature,
+    write_receive, write_release, write_revoke, write_sign,
 };
 use updates::PeerStep;
 
@@ -73,8 +73,7 @@ fn peer_step_value(alloc: Global, channel: u64, step: &PeerStep) -> Result<Value
     match step {
         PeerStep::Update(update) => write_receive(alloc, channel, update.write_value(alloc)?),
         PeerStep::CommitmentSigned(tokens) => {
-            let message = write_signature(alloc, &tokens.commitment, tokens.htlcs.values())?;
-            write_receive(alloc, channel, message)
+            write_receive(alloc, channel, tokens.write_value(alloc)?)
         }
     }
 }

@@ -6,7 +6,7 @@ use Rattle.book.specs.declared.calls.Call.{Call}
 use Rattle.book.specs.Replies.{Reply, is_accepted, reply_of, extended, history_after}
 use Rattle.book.specs.Accepted.{all_accepted}
 use Rattle.book.specs.Guarding.{is_guarded}
-use Rattle.book.specs.Dispatch.{no_memory_of}
+use Rattle.book.specs.Calling.{no_memory_of}
 use Rattle.desk.specs.Histories.{History, GoesOn, calls_of}
 
 -- a history that the book may have when a seat takes it: it is accepted and guarded, the seat's

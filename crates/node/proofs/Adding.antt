@@ -9,7 +9,7 @@ use Rattle.book.specs.declared.calls.Call.TheVariants.{Release}
 use Rattle.book.specs.declared.calls.Entry.{Entry}
 use Rattle.book.specs.declared.errors.KeepError.{KeepError}
 use Rattle.book.specs.Replies.{Reply, kept, is_accepted, reply_of, extended, history_after}
-use Rattle.book.specs.Dispatch.{no_memory_of}
+use Rattle.book.specs.Calling.{no_memory_of}
 use Rattle.desk.specs.Histories.{History}
 use Rattle.desk.specs.Answers.{IsAnswered, calls_after}
 use Rattle.side.specs.declared.due.DueClaim.{DueClaim}

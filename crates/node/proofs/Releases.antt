@@ -17,8 +17,8 @@ use Rattle.book.specs.declared.calling.Reply.TheVariants as answers
 use Rattle.book.specs.declared.errors.ReleaseError.{ReleaseError}
 use Rattle.book.specs.declared.errors.ReleaseError.TheVariants.{NoSuchChannel, Unfilled}
 use Rattle.book.specs.Books.{ChannelBook, replay}
-use Rattle.book.specs.Calling.{filling_by}
-use Rattle.book.specs.Dispatch.{no_memory_of, reply_form}
+use Rattle.book.specs.Calling.{no_memory_of, filling_by}
+use Rattle.book.specs.Dispatch.{reply_form}
 use Rattle.book.specs.Signers.{fill_refusal}
 use Rattle.book.specs.Replies.{Reply, opened, stepped, signed, revoked, kept, released, closed, asked, unless, fill_answer, is_accepted, reply_of, extended, history_after, if_so}
 use Rattle.desk.specs.Histories.{History}

@@ -8,7 +8,7 @@ use Rattle.book.specs.declared.calls.Entry.{Entry}
 use Rattle.book.specs.declared.calls.Call.{Call}
 use Rattle.book.specs.declared.calls.Call.TheVariants.{Open, Step, Sign, Revoke, Keep, Release, Close}
 use Rattle.book.specs.Replies.{Reply, opened, stepped, signed, revoked, kept, released, closed, is_accepted, reply_of, extended, history_after}
-use Rattle.book.specs.Dispatch.{no_memory_of}
+use Rattle.book.specs.Calling.{no_memory_of}
 use Rattle.desk.specs.declared.desk.Seat.{Seat}
 use Rattle.desk.specs.Histories.{History, GoesOn}
 use Rattle.desk.specs.Seats.{number_in, calls_in, last_in}

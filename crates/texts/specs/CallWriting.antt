@@ -158,6 +158,10 @@ OwnStepsComeBack = (channel : ℕ) (u : OwnUpdate) → IsOwnUpdate u → call_of
 abbrev pub UpdatesAreReceived : Type 0
 UpdatesAreReceived = (u : Update) → update_of (update_data u) ≡ Some u → received_of (update_data u) ≡ Some (Updated u)
 
+-- a value that is read as a message is read, in the step that receives it, as the step with that message
+abbrev pub ReceivedComesBack : ℕ → Data → Type 0
+ReceivedComesBack channel d = (m : PeerStep) → received_of d ≡ Some m → call_of (receive_data channel d) ≡ Some (Step channel (Receive m))
+
 abbrev pub ReceivedStepsComeBack : Type 0
 ReceivedStepsComeBack = (channel : ℕ) (m : PeerStep) → IsReceived m → call_of (receive_data channel (received_data m)) ≡ Some (Step channel (Receive m))
 
@@ -170,11 +174,15 @@ RevokesComeBack = (channel : ℕ) (r : Revocation) → IsRevocation r → call_o
 abbrev pub KeepsComeBack : Type 0
 KeepsComeBack = (channel number : ℕ) (claims : List ClaimParts) → AllByRecursion IsClaim claims → call_of (keep_data channel number claims) ≡ Some (Keep channel number (map plain_claim claims))
 
+-- a release of some claims, and of no more claims and outputs than a transaction has, is read back
+abbrev pub ReleaseComesBack : ℕ → List ClaimParts → List Output → List (List ℕ) → Type 0
+ReleaseComesBack channel claims outputs preimages =
+    are_within (length claims) (length outputs) ≡ true → call_of (release_data channel claims outputs preimages) ≡ Some (Release channel (map plain_claim claims) outputs preimages)
+
 abbrev pub ReleasesComeBack : Type 0
 ReleasesComeBack =
     (channel : ℕ) (claims : List ClaimParts) (outputs : List Output) (preimages : List (List ℕ))
-    → AllByRecursion IsClaim claims → AreOutputTexts outputs → AllByRecursion Is32Bytes preimages → are_within (length claims) (length outputs) ≡ true
-    → call_of (release_data channel claims outputs preimages) ≡ Some (Release channel (map plain_claim claims) outputs preimages)
+    → AllByRecursion IsClaim claims → AreOutputTexts outputs → AllByRecursion Is32Bytes preimages → ReleaseComesBack channel claims outputs preimages
 
 abbrev pub ClosesComeBack : Type 0
 ClosesComeBack = (channel : ℕ) → call_of (close_data channel) ≡ Some (Close channel)

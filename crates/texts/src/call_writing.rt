@@ -1,20 +1,17 @@
 //! Writers of a book's calls and of the dump of its history.
 
-ghost use Rattle.std.specs.Prelude.{◌≡◌, true, List, [], ◌∷◌, ◌++◌, map, length, codes, Some, IfOk};
+ghost use Rattle.std.specs.Prelude.{◌≡◌, List, [], ◌∷◌, ◌++◌, map, codes, Some, IfOk};
 ghost use Rattle.serde_json.specs.Data.{string};
 ghost use Rattle.serde_json.specs.View.{view, items_view};
-ghost use Rattle.updates.specs.declared.messages.PeerStep.{PeerStep};
-ghost use Rattle.updates.specs.declared.messages.PeerStep.TheVariants.{CommitmentSigned};
-ghost use Rattle.texts.specs.declared.steps.PlainStep.TheVariants.{Own, Receive};
+ghost use Rattle.texts.specs.declared.steps.PlainStep.TheVariants.{Own};
 ghost use Rattle.texts.specs.declared.calls.PlainCall.{PlainCall};
-ghost use Rattle.texts.specs.declared.calls.PlainCall.TheVariants.{Step, Sign, Revoke, Keep, Release, Close};
+ghost use Rattle.texts.specs.declared.calls.PlainCall.TheVariants.{Step, Sign, Revoke, Keep, Close};
 ghost use Rattle.texts.specs.declared.calls.PlainEntry.{PlainEntry};
 ghost use Rattle.texts.specs.Values.{each_of};
-ghost use Rattle.texts.specs.Steps.{received_of};
-ghost use Rattle.texts.specs.Calls.{are_within, call_of, entry_of, any_close, dump_of};
+ghost use Rattle.texts.specs.Calls.{call_of, entry_of, any_close, dump_of};
 ghost use Rattle.texts.specs.ClaimWriting.{plain_claim};
 ghost use Rattle.texts.specs.Compound.{items_in};
-ghost use Rattle.texts.specs.CallWriting.{AreTokens, base_keys_data, call_front, signature_data, open_data, own_data, receive_data, sign_data, revoke_data, keep_data, release_data, close_data, entry_data, dump_data};
+ghost use Rattle.texts.specs.CallWriting.{base_keys_data, call_front, own_data, receive_data, sign_data, revoke_data, keep_data, release_data, close_data, entry_data, dump_data, ReceivedComesBack, ReleaseComesBack};
 
 use crate::calls::PlainOpening;
 use crate::compound::{ArrayWriter, ObjectWriter};
@@ -62,26 +59,6 @@ impl WriteValue for Token {
 }
 
 /// A `commitment_signed`: an array of `signed`, the token on the commitment and the array of those on its HTLC transactions.
-#[tactic(auto, unfolding(crate::specs::CallWriting::signature_data))]
-pub fn write_signature(
-    alloc: Global,
-    commitment: &Token,
-    htlcs: &[Token],
-) -> Result<Value, AllocError>
-    ensures form { IfOk result (λ v. view v ≡ signature_data
-        (record { commitment = commitment.now; htlcs = htlcs.now })) }
-    ensures back { IfOk result (λ _. AreTokens
-        (record { commitment = commitment.now; htlcs = htlcs.now })
-        → received_of (signature_data (record { commitment = commitment.now; htlcs = htlcs.now }))
-        ≡ Some (CommitmentSigned (record { commitment = commitment.now; htlcs = htlcs.now }))) }
-{
-    let message = ArrayWriter::named(alloc, "signed")?
-        .item(commitment)?
-        .each(htlcs)?;
-    Ok(message.finish())
-}
-
-/// An array of `signed`, the token on the commitment and the array of those on its HTLC transactions.
 impl WriteValue for Tokens {
     ghost use Rattle.std.specs.Prelude.{◌≡◌, Some};
     ghost use Rattle.updates.specs.declared.messages.PeerStep.TheVariants.{CommitmentSigned};
@@ -92,8 +69,12 @@ impl WriteValue for Tokens {
 
     ghost comes_back = { λ s. AreTokens s → received_of (signature_data s) ≡ Some (CommitmentSigned s) };
 
+    #[tactic(auto, unfolding(crate::specs::CallWriting::signature_data))]
     fn write_value(&self, alloc: Global) -> Result<Value, AllocError> {
-        write_signature(alloc, &self.commitment, self.htlcs.values())
+        let message = ArrayWriter::named(alloc, "signed")?
+            .item(&self.commitment)?
+            .each(self.htlcs.values())?;
+        Ok(message.finish())
     }
 }
 
@@ -213,8 +194,7 @@ pub fn write_own(alloc: Global, channel: u64, update: &OwnUpdate) -> Result<Valu
 #[tactic(auto, unfolding(crate::specs::CallWriting::receive_data), using(crate::proofs::CallReturning::receive_again))]
 pub fn write_receive(alloc: Global, channel: u64, message: Value) -> Result<Value, AllocError>
     ensures form { IfOk result (λ v. view v ≡ receive_data channel (view message)) }
-    ensures back { IfOk result (λ _. (m : PeerStep) → received_of (view message) ≡ Some m
-        → call_of (receive_data channel (view message)) ≡ Some (Step channel (Receive m))) }
+    ensures back { IfOk result (λ _. ReceivedComesBack channel (view message)) }
 {
     let call = step(alloc, channel, "receive")?.value(message)?;
     Ok(call.finish())
@@ -271,9 +251,8 @@ pub fn write_release(
 ) -> Result<Value, AllocError>
     ensures form { IfOk result (λ v. view v
         ≡ release_data channel claims.now outputs.now preimages.now) }
-    ensures back { IfOk result (λ _. are_within (length claims.now) (length outputs.now) ≡ true
-        → call_of (release_data channel claims.now outputs.now preimages.now) ≡ Some
-        (Release channel (map plain_claim claims.now) outputs.now preimages.now)) }
+    ensures back { IfOk result (λ _. ReleaseComesBack channel claims.now outputs.now
+        preimages.now) }
 {
     let call = call(alloc, "release", channel)?
         .each(claims)?

@@ -38,7 +38,7 @@ mod writing;
 pub use allocating::{ReadValue, bytes_of, list_of, read_item, read_member};
 pub use call_writing::{
     write_close, write_dump, write_entry, write_keep, write_own, write_receive, write_release,
-    write_revoke, write_sign, write_signature,
+    write_revoke, write_sign,
 };
 pub use calls::{PlainCall, PlainDump, PlainEntry, PlainOpening};
 pub use claims::PlainClaim;

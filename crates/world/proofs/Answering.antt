@@ -2,20 +2,16 @@
 use Rattle.std.proofs.Common.{◌≡◌, ℕ, zero, suc, Bool, true, false, List, [], ◌∷◌, length, Option, Some, None, Ok, Err, refl, sym, ap, subst, ◌∙◌, inl, inr}
 use Rattle.std.proofs.lemmas.List.{reverse-append}
 use Rattle.std.proofs.lemmas.Option.{same_Some}
-use Rattle.std.specs.Prelude.{Result, MatchResult, is_some}
+use Rattle.std.specs.Prelude.{is_some}
 use Rattle.std.specs.List.{cons_option}
 use Rattle.channel.specs.declared.messages.Message.{Message}
 use Rattle.channel.specs.Tokens.{peer_tokens}
-use Rattle.book.specs.declared.calls.Batch.{Batch}
-use Rattle.book.specs.declared.releasing.FilledTwice.{FilledTwice}
-use Rattle.book.specs.declared.errors.ReleaseError.{ReleaseError}
 use Rattle.book.specs.declared.calls.Call.{Call}
 use Rattle.book.specs.declared.calls.Call.TheVariants as calls
 use Rattle.book.specs.declared.calls.Entry.{Entry}
 use Rattle.book.specs.Books.{Channels, at_index, channels_after, replayed, replay}
 use Rattle.book.specs.Replies.{Reply, opened, stepped, signed, revoked, kept, released, closed, is_accepted, answer_of, extended}
-use Rattle.book.specs.Calling.{IsCall}
-use Rattle.book.specs.Dispatch.{no_memory_of}
+use Rattle.book.specs.Calling.{no_memory_of, IsCall}
 use Rattle.world.specs.declared.errors.EventError.{EventError}
 use Rattle.world.specs.declared.errors.EventError.TheVariants as errors
 use Rattle.world.specs.declared.limits.TheConstants.{SEAT}
@@ -108,7 +104,7 @@ memory_refused (calls.Close c) = refl
 true_false : true ≡ false → ⊥
 true_false e = absurd cc
 
-pub has_refusal : (n : Node) (history : List Entry) (call : Call) (reply : Reply) → opens_none call ≡ true → IsCall (no_memory_of call) reply n.history history SEAT call
+pub has_refusal : (n : Node) (history : List Entry) (call : Call) (reply : Reply) → opens_none call ≡ true → IsCall reply n.history history SEAT call
     → is_accepted reply ≡ false → is_some (refusal_in reply) ≡ true
 has_refusal n history call reply none (inl (is, same)) not_accepted = ap (λ r. is_some (refusal_in r)) is ∙ ap (λ (o : Option EventError). is_some o) (memory_is call none)
 has_refusal n history call reply none (inr (is, after)) not_accepted = refused_some reply (ap is_opening is ∙ no_opening call (replay n.history) none) not_accepted
@@ -118,19 +114,19 @@ pub record IsDone (n new : Node) (call : Call) (reply : Reply) : Type 0 where
   pub answer : answer_to n call ≡ reply
   pub after : new ≡ after_call call n
 
-pub is_done : (n new : Node) (call : Call) (reply : Reply) → IsCall (no_memory_of call) reply n.history new.history SEAT call → new ≡ record n { history = new.history }
+pub is_done : (n new : Node) (call : Call) (reply : Reply) → IsCall reply n.history new.history SEAT call → new ≡ record n { history = new.history }
     → is_accepted reply ≡ true → IsDone n new call reply
 is_done n new call reply (inl (is, same)) rest ok = absurd (true_false (sym ok ∙ ap is_accepted is ∙ memory_refused call))
 is_done n new call reply (inr (is, after)) rest ok = record { answer = sym is; after = rest ∙ ap (λ h. record n { history = h }) after }
 
-pub is_answered : (n new : Node) (call : Call) (reply : Reply) (m : Option Message) → IsCall (no_memory_of call) reply n.history new.history SEAT call → new ≡ record n { history = new.history }
+pub is_answered : (n new : Node) (call : Call) (reply : Reply) (m : Option Message) → IsCall reply n.history new.history SEAT call → new ≡ record n { history = new.history }
     → is_accepted reply ≡ true → messages_in reply ≡ cons_option m [] → IsAnswered call (Ok m) n new
 is_answered n new call reply m is rest ok sent =
     let d = is_done n new call reply is rest ok in
     (ap refusal_in d.answer ∙ accepted_none reply ok, ap messages_in d.answer ∙ sent, d.after)
 
 -- what a refused reply says
-pub is_undone : (n new : Node) (call : Call) (reply : Reply) (e : EventError) → opens_none call ≡ true → IsCall (no_memory_of call) reply n.history new.history SEAT call
+pub is_undone : (n new : Node) (call : Call) (reply : Reply) (e : EventError) → opens_none call ≡ true → IsCall reply n.history new.history SEAT call
     → new ≡ record n { history = new.history } → is_accepted reply ≡ false → refusal_in reply ≡ Some e → IsRefusal (refusal_in (answer_to n call)) e × (new ≡ n)
 is_undone n new call reply e none (inl (is, same)) rest not_accepted first = (
   subst (λ (x : EventError). IsRefusal (refusal_in (answer_to n call)) x) (same_Some _ _ (sym (memory_is call none) ∙ ap refusal_in (sym is) ∙ first)) tt,
@@ -165,23 +161,15 @@ extends : (b : Bool) (history : List Entry) (call : Call) → OpensNone call →
 extends false history call none = refl
 extends true history call none = ap (λ es. length (replayed es)) (reverse-append history (record { seat = SEAT; call = call } ∷ [])) ∙ none (replay history)
 
-same_channels : (old new : List Entry) (call : Call) (no_memory reply : Reply) → IsCall no_memory reply old new SEAT call → OpensNone call → length (replay new) ≡ length (replay old)
-same_channels old new call no_memory reply (inl (is, same)) none = ap (λ h. length (replay h)) same
-same_channels old new call no_memory reply (inr (is, after)) none = ap (λ h. length (replay h)) after ∙ extends _ old call none
+same_channels : (old new : List Entry) (call : Call) (reply : Reply) → IsCall reply old new SEAT call → OpensNone call → length (replay new) ≡ length (replay old)
+same_channels old new call reply (inl (is, same)) none = ap (λ h. length (replay h)) same
+same_channels old new call reply (inr (is, after)) none = ap (λ h. length (replay h)) after ∙ extends _ old call none
 
-pub is_node : (n : Node) (history : List Entry) (call : Call) (no_memory reply : Reply) → IsNode n → IsCall no_memory reply n.history history SEAT call → OpensNone call
+pub is_node : (n : Node) (history : List Entry) (call : Call) (reply : Reply) → IsNode n → IsCall reply n.history history SEAT call → OpensNone call
     → AreWhole history → IsNode (record n { history = history })
-is_node n history call no_memory reply is called none whole = record {
-  lines = is.lines ∙ sym (same_channels n.history history call no_memory reply called none);
+is_node n history call reply is called none whole = record {
+  lines = is.lines ∙ sym (same_channels n.history history call reply called none);
   claims_are_whole = whole;
   jobs = is.jobs;
   taken = is.taken;
 }
-
--- the same for a release
-pub is_node_released : (n : Node) (history : List Entry) (channel : ℕ) (batch : Batch) (result : Result FilledTwice ReleaseError) → IsNode n
-    → MatchResult result (λ r. IsCall (no_memory_of (calls.Release channel batch)) (released (Ok r.filled)) n.history history SEAT (calls.Release channel batch))
-    (λ e. IsCall (no_memory_of (calls.Release channel batch)) (released (Err e)) n.history history SEAT (calls.Release channel batch))
-    → AreWhole history → IsNode (record n { history = history })
-is_node_released n history channel batch (Ok r) is called whole = is_node n history (calls.Release channel batch) _ _ is called (λ chs. refl) whole
-is_node_released n history channel batch (Err e) is called whole = is_node n history (calls.Release channel batch) _ _ is called (λ chs. refl) whole

@@ -20,7 +20,7 @@ use Rattle.book.specs.declared.errors.ReleaseError.{ReleaseError}
 use Rattle.book.specs.declared.errors.ReleaseError.TheVariants.{NoSuchChannel, Unfilled}
 use Rattle.book.specs.Calls.{IsBatchOf}
 use Rattle.book.specs.Calling.{IsCall, filling_by}
-use Rattle.book.specs.Dispatch.{no_memory_of, reply_form}
+use Rattle.book.specs.Dispatch.{reply_form}
 use Rattle.book.specs.Signers.{fill_refusal}
 use Rattle.book.specs.Books.{ChannelBook}
 use Rattle.book.specs.Replies.{released, asked, unless, fill_answer, if_so}
@@ -175,15 +175,15 @@ pub record IsFilled (n new : Node) (channel : ℕ) (batch : Batch) (f : Filling)
   pub answer : answer_to n (Release channel batch) ≡ released (Ok f)
 
 pub is_filled : (n new : Node) (channel : ℕ) (batch : Batch) (f : Filling) (answer : Answer) → answer ≡ answers.Released (Ok f)
-    → IsCall (no_memory_of (Release channel batch)) (reply_form answer) n.history new.history SEAT (Release channel batch) → new ≡ record n { history = new.history } → IsFilled n new channel batch f
+    → IsCall (reply_form answer) n.history new.history SEAT (Release channel batch) → new ≡ record n { history = new.history } → IsFilled n new channel batch f
 is_filled n new channel batch f answer told is rest =
     let call = Release channel batch in
-    let d = is_done n new call (released (Ok f)) (subst (λ (a : Answer). IsCall (no_memory_of call) (reply_form a) n.history new.history SEAT call) told is) rest refl in
+    let d = is_done n new call (released (Ok f)) (subst (λ (a : Answer). IsCall (reply_form a) n.history new.history SEAT call) told is) rest refl in
     record { none = ap refusal_in d.answer; after = d.after; answer = d.answer }
 
 pub is_unfilled : (n new : Node) (channel : ℕ) (batch : Batch) (e : ReleaseError) (x : EventError) (answer : Answer) → answer ≡ answers.Released (Err e) → x ≡ by_release e
-    → IsCall (no_memory_of (Release channel batch)) (reply_form answer) n.history new.history SEAT (Release channel batch) → new ≡ record n { history = new.history }
+    → IsCall (reply_form answer) n.history new.history SEAT (Release channel batch) → new ≡ record n { history = new.history }
     → IsRefusal (refusal_in (answer_to n (Release channel batch))) x × (new ≡ n)
 is_unfilled n new channel batch e x answer told by is rest =
     let call = Release channel batch in
-    is_undone n new call (released (Err e)) x refl (subst (λ (a : Answer). IsCall (no_memory_of call) (reply_form a) n.history new.history SEAT call) told is) rest refl (ap Some (sym by))
+    is_undone n new call (released (Err e)) x refl (subst (λ (a : Answer). IsCall (reply_form a) n.history new.history SEAT call) told is) rest refl (ap Some (sym by))

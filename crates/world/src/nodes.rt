@@ -54,10 +54,10 @@ impl Model for Node {
 }
 
 impl Node {
-    ghost use Rattle.std.specs.Prelude.{◌≡◌, true, [], Ok, Err, IfOk, MatchResult};
+    ghost use Rattle.std.specs.Prelude.{◌≡◌, true, [], IfOk};
     ghost use Rattle.book.specs.declared.calls.Call.TheVariants.{Release as Releasing};
-    ghost use Rattle.book.specs.Calling.{IsCall};
-    ghost use Rattle.book.specs.Dispatch.{no_memory_of, reply_form};
+    ghost use Rattle.book.specs.Calling.{IsCall, filled_once};
+    ghost use Rattle.book.specs.Dispatch.{reply_form};
     ghost use Rattle.book.specs.Replies.{released};
     ghost use Rattle.world.specs.Worlds.{IsNode, opens_none};
     ghost use Rattle.world.specs.Beginning.{IsOpened};
@@ -120,8 +120,7 @@ impl Node {
     /// Makes a call of the side's book that opens no channel. A refusal leaves the side as it was.
     pub(crate) fn call(&mut self, call: Call) -> Reply
         requires { opens_none call ≡ true }
-        ensures book { IsCall (no_memory_of call)
-            (reply_form result) self.old.history self.new.history SEAT call }
+        ensures book { IsCall (reply_form result) self.old.history self.new.history SEAT call }
         ensures rest { self.new ≡ record self.old { history = self.new.history } }
     {
         let reply = self.book.call(SEAT, call);
@@ -136,12 +135,8 @@ impl Node {
         channel: u64,
         batch: Batch,
     ) -> Result<FilledTwice, ReleaseError>
-        ensures book { let call = Releasing channel batch in
-            MatchResult result
-            (λ r. IsCall (no_memory_of call)
-            (released (Ok r.filled)) self.old.history self.new.history SEAT call)
-            (λ e. IsCall (no_memory_of call)
-            (released (Err e)) self.old.history self.new.history SEAT call) }
+        ensures book { IsCall (released (filled_once result))
+            self.old.history self.new.history SEAT (Releasing channel batch) }
         ensures copy { IfOk result (λ r. r.copy ≡ r.filled.tx) }
         ensures rest { self.new ≡ record self.old { history = self.new.history } }
     {

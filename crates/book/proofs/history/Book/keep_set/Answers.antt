@@ -36,7 +36,7 @@ invariant_of-self-2 c =
     let tested = subst (λ (cs : List ClaimParts). keep_refusal c.index_mut-open.result.now c.args.number cs ≡ None) c.claims.ensures.value c.in_ok-keep.ensures.tested in
     let whole = subst (λ (cs : List ClaimParts). AllByRecursion IsWhole cs) c.claims-2.ensures.value c.hold_whole.ensures in
     called i.entries.items i.channels.entries _ c.self.invariant _ _ _ _ is refl
-    (keep_done i.entries.items c.file.new.entries.items i.channels.entries c.args.seat c.args.channel c.args.number c.index_mut-open.result.now c.keep.new.self claims (kept (Err NoMemory)) c.self.invariant.left c.index_mut-open.ensures.value tested c.in_ok-keep.ensures.ok is whole).keeps
+    (keep_done i.entries.items c.file.new.entries.items i.channels.entries c.args.seat c.args.channel c.args.number c.index_mut-open.result.now c.keep.new.self claims c.self.invariant.left c.index_mut-open.ensures.value tested c.in_ok-keep.ensures.ok is whole).keeps
 
 pub returns-clause-call : goal.returns-clause-call
 returns-clause-call c =
@@ -46,8 +46,8 @@ returns-clause-call c =
     let is = filed c.file.new.entries.items c.reserve.new.self.items i.entries.items _ _ c.file.ensures c.in-Ok.ensures.items named in
     let tested = subst (λ (cs : List ClaimParts). keep_refusal c.index_mut-open.result.now c.args.number cs ≡ None) c.claims.ensures.value c.in_ok-keep.ensures.tested in
     let whole = subst (λ (cs : List ClaimParts). AllByRecursion IsWhole cs) c.claims-2.ensures.value c.hold_whole.ensures in
-    let done = keep_done i.entries.items c.file.new.entries.items i.channels.entries c.args.seat c.args.channel c.args.number c.index_mut-open.result.now c.keep.new.self claims (kept (Err NoMemory)) c.self.invariant.left c.index_mut-open.ensures.value tested c.in_ok-keep.ensures.ok is whole in
-    subst (λ (h : List Entry). IsCall (kept (Err NoMemory)) (kept (Ok tt)) h c.file.new.entries.items c.args.seat (Keep c.args.channel c.args.number claims)) c.self.view_is done.called
+    let done = keep_done i.entries.items c.file.new.entries.items i.channels.entries c.args.seat c.args.channel c.args.number c.index_mut-open.result.now c.keep.new.self claims c.self.invariant.left c.index_mut-open.ensures.value tested c.in_ok-keep.ensures.ok is whole in
+    subst (λ (h : List Entry). IsCall (kept (Ok tt)) h c.file.new.entries.items c.args.seat (Keep c.args.channel c.args.number claims)) c.self.view_is done.called
 
 pub returns-clause-exact : goal.returns-clause-exact
 returns-clause-exact c =
@@ -57,7 +57,7 @@ returns-clause-exact c =
     let is = filed c.file.new.entries.items c.reserve.new.self.items i.entries.items _ _ c.file.ensures c.in-Ok.ensures.items named in
     let tested = subst (λ (cs : List ClaimParts). keep_refusal c.index_mut-open.result.now c.args.number cs ≡ None) c.claims.ensures.value c.in_ok-keep.ensures.tested in
     let whole = subst (λ (cs : List ClaimParts). AllByRecursion IsWhole cs) c.claims-2.ensures.value c.hold_whole.ensures in
-    let done = keep_done i.entries.items c.file.new.entries.items i.channels.entries c.args.seat c.args.channel c.args.number c.index_mut-open.result.now c.keep.new.self claims (kept (Err NoMemory)) c.self.invariant.left c.index_mut-open.ensures.value tested c.in_ok-keep.ensures.ok is whole in
+    let done = keep_done i.entries.items c.file.new.entries.items i.channels.entries c.args.seat c.args.channel c.args.number c.index_mut-open.result.now c.keep.new.self claims c.self.invariant.left c.index_mut-open.ensures.value tested c.in_ok-keep.ensures.ok is whole in
     subst (λ (h : List Entry). ArePenaltiesIn c.args.channel c.args.number (replay h) claims) c.self.view_is
     (kept_by_call c.sides_are_sound.ensures.numbered i.entries.items c.file.new.entries.items c.args.seat c.args.channel c.args.number claims c.self.invariant.left.accepted whole done.called)
 
@@ -74,22 +74,22 @@ returns-in_err-keep-clause-call c =
     let tested = subst (λ (cs : List ClaimParts). IsKeepRefusal (keep_refusal c.index_mut-open.result.now c.args.number cs) c.in_err-keep.field-0.0) c.claims.ensures.value c.in_err-keep.ensures.tested in
     let refused = keep_refused i.entries.items c.reserve.new.self.items i.channels.entries c.self.invariant.left c.in-Ok.ensures.items c.args.seat c.args.channel c.index_mut-open.result.now c.index_mut-open.ensures.value c.args.number claims c.in_err-keep.field-0.0 tested in
     let p = err_from_is_err_and c.from_residual.result c.from_residual.ensures.1 in
-    rw (p.1, p.2) (subst (λ (h : List Entry). IsCall (kept (Err NoMemory)) (kept (Err c.in_err-keep.field-0.0)) h c.reserve.new.self.items c.args.seat (Keep c.args.channel c.args.number claims)) c.self.view_is refused)
+    rw (p.1, p.2) (subst (λ (h : List Entry). IsCall (kept (Err c.in_err-keep.field-0.0)) h c.reserve.new.self.items c.args.seat (Keep c.args.channel c.args.number claims)) c.self.view_is refused)
 
 pub returns-then-index-len-clause-call : goal.returns-then-index-len-clause-call
 returns-then-index-len-clause-call c =
     let i = c.self.inside in
     let claims = c.args.set.claims in
     let past : length i.channels.entries ≤ c.args.channel = search rules in
-    subst (λ (h : List Entry). IsCall (kept (Err NoMemory)) (kept (Err NoSuchChannel)) h h c.args.seat (Keep c.args.channel c.args.number claims)) c.self.view_is
-    (not_there i.entries.items i.channels.entries c.args.seat c.args.channel (Keep c.args.channel c.args.number claims) (kept (Err NoSuchChannel)) (kept (Err NoMemory)) c.self.invariant.left past
+    subst (λ (h : List Entry). IsCall (kept (Err NoSuchChannel)) h h c.args.seat (Keep c.args.channel c.args.number claims)) c.self.view_is
+    (not_there i.entries.items i.channels.entries c.args.seat c.args.channel (Keep c.args.channel c.args.number claims) (kept (Err NoSuchChannel)) c.self.invariant.left past
     (none_to_keep c.args.channel c.args.number claims) refl)
 
 pub invariant_of-self : goal.invariant_of-self
 invariant_of-self c = subst (λ (h : List Entry). AreBeside h c.self.inside.channels.entries (kept_by c.self.inside.fulfils)) (sym c.reserve.ensures.items) c.self.invariant
 
 pub returns-in-Err-clause-call : goal.returns-in-Err-clause-call
-returns-in-Err-clause-call c = subst (λ (h : List Entry). IsCall (kept (Err NoMemory)) (kept (Err NoMemory)) h c.reserve.new.self.items c.args.seat (Keep c.args.channel c.args.number c.args.set.claims)) c.self.view_is (inl (refl, c.reserve.ensures.items))
+returns-in-Err-clause-call c = subst (λ (h : List Entry). IsCall (kept (Err NoMemory)) h c.reserve.new.self.items c.args.seat (Keep c.args.channel c.args.number c.args.set.claims)) c.self.view_is (inl (refl, c.reserve.ensures.items))
 
 pub file-requires : goal.file-requires
 file-requires c = one_fits _ _ c.in-Ok.ensures.ok

@@ -21,8 +21,8 @@ pub returns-then-contains_key : goal.returns-then-contains_key
 returns-then-contains_key c =
     let i = c.self.inside in
     let few : length i.channels.entries < MAX_CHANNELS = omega (arith, c.len.ensures.len, c.if-len-ge-MAX_CHANNELS.false) in
-    subst (λ (h : List Entry). IsCall (opened (Err NoMemory)) (opened (Err SameFunding)) h h c.args.seat (Open c.args.opening)) c.self.view_is
-    (same_funding i.entries.items i.channels.entries c.args.seat c.args.opening (opened (Err NoMemory)) c.self.invariant.left (no_room MAX_CHANNELS (length i.channels.entries) few) (sym c.contains_key.ensures ∙ c.if-contains_key.true))
+    subst (λ (h : List Entry). IsCall (opened (Err SameFunding)) h h c.args.seat (Open c.args.opening)) c.self.view_is
+    (same_funding i.entries.items i.channels.entries c.args.seat c.args.opening c.self.invariant.left (no_room MAX_CHANNELS (length i.channels.entries) few) (sym c.contains_key.ensures ∙ c.if-contains_key.true))
 
 pub returns-in_err-open : goal.returns-in_err-open
 returns-in_err-open c =
@@ -30,8 +30,8 @@ returns-in_err-open c =
     let few : length i.channels.entries < MAX_CHANNELS = omega (arith, c.len.ensures.len, c.if-len-ge-MAX_CHANNELS.false) in
     let refused = no_token i.entries.items i.channels.entries c.args.seat c.args.opening c.in_err-open.field-0.0 c.self.invariant.left (no_room MAX_CHANNELS (length i.channels.entries) few) (sym c.contains_key.ensures ∙ c.if-contains_key.false) c.in_err-open.ensures.tested in
     let p = err_from_is_err_and c.from_residual.result c.from_residual.ensures.1 in
-    rw (p.1, p.2) (subst (λ (h : List Entry). IsCall (opened (Err NoMemory)) (opened (Err c.in_err-open.field-0.0)) h c.reserve.new.self.items c.args.seat (Open c.args.opening)) c.self.view_is
-    (subst (λ (h : List Entry). IsCall (opened (Err NoMemory)) (opened (Err c.in_err-open.field-0.0)) i.entries.items h c.args.seat (Open c.args.opening)) (sym c.in-Ok.ensures.items) refused))
+    rw (p.1, p.2) (subst (λ (h : List Entry). IsCall (opened (Err c.in_err-open.field-0.0)) h c.reserve.new.self.items c.args.seat (Open c.args.opening)) c.self.view_is
+    (subst (λ (h : List Entry). IsCall (opened (Err c.in_err-open.field-0.0)) i.entries.items h c.args.seat (Open c.args.opening)) (sym c.in-Ok.ensures.items) refused))
 
 pub invariant_of-self-2 : goal.invariant_of-self-2
 invariant_of-self-2 c =
@@ -45,7 +45,7 @@ invariant_of-self-2 c =
     let more = c.in-Ok-insert.ensures.entries ∙ insert_entry-new same_outpoint i.channels f c.in_ok-open.open none ∙ ap (λ (x : ChannelBook). i.channels.entries ++ (f, x) ∷ []) c.in_ok-open.ensures.ok in
     let is = filed c.file.new.entries.items c.reserve.new.self.items i.entries.items _ _ c.file.ensures c.in-Ok.ensures.items refl in
     called i.entries.items i.channels.entries _ c.self.invariant _ _ _ _ is (c.add_channel.ensures ∙ ap (λ (ps : Preimages). ps ++ [] ∷ []) c.reserve_channel.ensures.same)
-    (open_done i.entries.items c.file.new.entries.items i.channels.entries c.insert.new.self.entries c.args.seat c.len-index.result o (opened (Err NoMemory)) c.self.invariant.left (no_room MAX_CHANNELS (length i.channels.entries) few) absent c.in_ok-open.ensures.tested index more is).keeps
+    (open_done i.entries.items c.file.new.entries.items i.channels.entries c.insert.new.self.entries c.args.seat c.len-index.result o c.self.invariant.left (no_room MAX_CHANNELS (length i.channels.entries) few) absent c.in_ok-open.ensures.tested index more is).keeps
 
 pub returns : goal.returns
 returns c =
@@ -58,8 +58,8 @@ returns c =
     let none : get same_outpoint i.channels f ≡ None = is_none (get same_outpoint i.channels f) absent in
     let more = c.in-Ok-insert.ensures.entries ∙ insert_entry-new same_outpoint i.channels f c.in_ok-open.open none ∙ ap (λ (x : ChannelBook). i.channels.entries ++ (f, x) ∷ []) c.in_ok-open.ensures.ok in
     let is = filed c.file.new.entries.items c.reserve.new.self.items i.entries.items _ _ c.file.ensures c.in-Ok.ensures.items refl in
-    let done = open_done i.entries.items c.file.new.entries.items i.channels.entries c.insert.new.self.entries c.args.seat c.len-index.result o (opened (Err NoMemory)) c.self.invariant.left (no_room MAX_CHANNELS (length i.channels.entries) few) absent c.in_ok-open.ensures.tested index more is in
-    subst (λ (h : List Entry). IsCall (opened (Err NoMemory)) (opened (Ok c.len-index.result)) h c.file.new.entries.items c.args.seat (Open c.args.opening)) c.self.view_is done.called
+    let done = open_done i.entries.items c.file.new.entries.items i.channels.entries c.insert.new.self.entries c.args.seat c.len-index.result o c.self.invariant.left (no_room MAX_CHANNELS (length i.channels.entries) few) absent c.in_ok-open.ensures.tested index more is in
+    subst (λ (h : List Entry). IsCall (opened (Ok c.len-index.result)) h c.file.new.entries.items c.args.seat (Open c.args.opening)) c.self.view_is done.called
 
 pub invariant_of-self : goal.invariant_of-self
 invariant_of-self c = subst (λ (h : List Entry). AreBeside h c.self.inside.channels.entries (kept_by c.self.inside.fulfils)) (sym c.reserve.ensures.items) c.self.invariant
@@ -80,13 +80,13 @@ invariant_of-self-in-Err-insert c =
 
 pub returns-in-Err-insert : goal.returns-in-Err-insert
 returns-in-Err-insert c =
-    subst (λ (h : List Entry). IsCall (opened (Err NoMemory)) (opened (Err NoMemory)) h c.reserve.new.self.items c.args.seat (Open c.args.opening)) c.self.view_is (inl (refl, c.in-Ok.ensures.items))
+    subst (λ (h : List Entry). IsCall (opened (Err NoMemory)) h c.reserve.new.self.items c.args.seat (Open c.args.opening)) c.self.view_is (inl (refl, c.in-Ok.ensures.items))
 
 pub returns-in-Err : goal.returns-in-Err
-returns-in-Err c = subst (λ (h : List Entry). IsCall (opened (Err NoMemory)) (opened (Err NoMemory)) h c.reserve.new.self.items c.args.seat (Open c.args.opening)) c.self.view_is (inl (refl, c.reserve.ensures.items))
+returns-in-Err c = subst (λ (h : List Entry). IsCall (opened (Err NoMemory)) h c.reserve.new.self.items c.args.seat (Open c.args.opening)) c.self.view_is (inl (refl, c.reserve.ensures.items))
 
 pub returns-in-Err-reserve_channel : goal.returns-in-Err-reserve_channel
-returns-in-Err-reserve_channel c = subst (λ (h : List Entry). IsCall (opened (Err NoMemory)) (opened (Err NoMemory)) h c.reserve.new.self.items c.args.seat (Open c.args.opening)) c.self.view_is (inl (refl, c.in-Ok.ensures.items))
+returns-in-Err-reserve_channel c = subst (λ (h : List Entry). IsCall (opened (Err NoMemory)) h c.reserve.new.self.items c.args.seat (Open c.args.opening)) c.self.view_is (inl (refl, c.in-Ok.ensures.items))
 
 pub invariant_of-self-in-Err-reserve_channel : goal.invariant_of-self-in-Err-reserve_channel
 invariant_of-self-in-Err-reserve_channel c =

@@ -19,28 +19,28 @@ invariant_of-self-2 c =
     let is = filed c.file.new.entries.items c.reserve.new.self.items i.entries.items _ _ c.file.ensures c.in-Ok.ensures.items refl in
     let whole = subst (λ (cs : List ClaimParts). AllByRecursion IsWhole cs) c.values.ensures c.hold_whole.ensures in
     called i.entries.items i.channels.entries _ c.self.invariant _ _ _ _ is refl
-    (release_done i.entries.items c.file.new.entries.items i.channels.entries c.args.seat c.args.channel c.index-open.result.now c.args.batch c.in-Ok-release.filled (released (Err (Unfilled NoMemory))) c.self.invariant.left c.index-open.ensures c.in-Ok-release.ensures.tested c.in-Ok-release.ensures.ok is whole).keeps
+    (release_done i.entries.items c.file.new.entries.items i.channels.entries c.args.seat c.args.channel c.index-open.result.now c.args.batch c.in-Ok-release.filled c.self.invariant.left c.index-open.ensures c.in-Ok-release.ensures.tested c.in-Ok-release.ensures.ok is whole).keeps
 
 pub returns : goal.returns
 returns c =
     let i = c.self.inside in
     let is = filed c.file.new.entries.items c.reserve.new.self.items i.entries.items _ _ c.file.ensures c.in-Ok.ensures.items refl in
     let whole = subst (λ (cs : List ClaimParts). AllByRecursion IsWhole cs) c.values.ensures c.hold_whole.ensures in
-    let done = release_done i.entries.items c.file.new.entries.items i.channels.entries c.args.seat c.args.channel c.index-open.result.now c.args.batch c.in-Ok-release.filled (released (Err (Unfilled NoMemory))) c.self.invariant.left c.index-open.ensures c.in-Ok-release.ensures.tested c.in-Ok-release.ensures.ok is whole in
-    subst (λ (h : List Entry). IsCall (released (Err (Unfilled NoMemory))) (released (Ok c.in-Ok-release.filled)) h c.file.new.entries.items c.args.seat (Release c.args.channel c.args.batch)) c.self.view_is done.called
+    let done = release_done i.entries.items c.file.new.entries.items i.channels.entries c.args.seat c.args.channel c.index-open.result.now c.args.batch c.in-Ok-release.filled c.self.invariant.left c.index-open.ensures c.in-Ok-release.ensures.tested c.in-Ok-release.ensures.ok is whole in
+    subst (λ (h : List Entry). IsCall (released (Ok c.in-Ok-release.filled)) h c.file.new.entries.items c.args.seat (Release c.args.channel c.args.batch)) c.self.view_is done.called
 
 pub returns-in-Err-release : goal.returns-in-Err-release
 returns-in-Err-release c =
     let i = c.self.inside in
     let refused = release_refused i.entries.items c.reserve.new.self.items i.channels.entries c.self.invariant.left c.in-Ok.ensures.items c.args.seat c.args.channel c.index-open.result.now c.index-open.ensures c.args.batch c.in-Err-release.error c.in-Err-release.ensures.tested in
-    subst (λ (h : List Entry). IsCall (released (Err (Unfilled NoMemory))) (released (Err (Unfilled c.in-Err-release.error))) h c.reserve.new.self.items c.args.seat (Release c.args.channel c.args.batch)) c.self.view_is refused
+    subst (λ (h : List Entry). IsCall (released (Err (Unfilled c.in-Err-release.error))) h c.reserve.new.self.items c.args.seat (Release c.args.channel c.args.batch)) c.self.view_is refused
 
 pub returns-then-index-len : goal.returns-then-index-len
 returns-then-index-len c =
     let i = c.self.inside in
     let past : length i.channels.entries ≤ c.args.channel = search rules in
-    subst (λ (h : List Entry). IsCall (released (Err (Unfilled NoMemory))) (released (Err NoSuchChannel)) h h c.args.seat (Release c.args.channel c.args.batch)) c.self.view_is
-    (not_there i.entries.items i.channels.entries c.args.seat c.args.channel (Release c.args.channel c.args.batch) (released (Err NoSuchChannel)) (released (Err (Unfilled NoMemory))) c.self.invariant.left past
+    subst (λ (h : List Entry). IsCall (released (Err NoSuchChannel)) h h c.args.seat (Release c.args.channel c.args.batch)) c.self.view_is
+    (not_there i.entries.items i.channels.entries c.args.seat c.args.channel (Release c.args.channel c.args.batch) (released (Err NoSuchChannel)) c.self.invariant.left past
     (none_to_release c.args.channel c.args.batch) refl)
 
 pub invariant_of-self : goal.invariant_of-self
@@ -50,7 +50,7 @@ pub invariant_of-self-in-Err-release : goal.invariant_of-self-in-Err-release
 invariant_of-self-in-Err-release c = subst (λ (h : List Entry). AreBeside h c.self.inside.channels.entries (kept_by c.self.inside.fulfils)) (sym c.in-Ok.ensures.items) c.self.invariant
 
 pub returns-in-Err : goal.returns-in-Err
-returns-in-Err c = subst (λ (h : List Entry). IsCall (released (Err (Unfilled NoMemory))) (released (Err (Unfilled NoMemory))) h c.reserve.new.self.items c.args.seat (Release c.args.channel c.args.batch)) c.self.view_is (inl (refl, c.reserve.ensures.items))
+returns-in-Err c = subst (λ (h : List Entry). IsCall (released (Err (Unfilled NoMemory))) h c.reserve.new.self.items c.args.seat (Release c.args.channel c.args.batch)) c.self.view_is (inl (refl, c.reserve.ensures.items))
 
 pub file-requires : goal.file-requires
 file-requires c = one_fits _ _ c.in-Ok.ensures.ok

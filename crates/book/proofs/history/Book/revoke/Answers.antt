@@ -1,5 +1,4 @@
 use Rattle.std.proofs.Common.{List, subst, Err, Ok, refl, ◌≤◌, length, sym, rules}
-use Rattle.updates.specs.declared.errors.ChannelError.TheVariants.{NoMemory}
 use Rattle.book.specs.declared.calls.Call.TheVariants.{Revoke}
 use Rattle.book.specs.declared.calls.Entry.{Entry}
 use Rattle.book.specs.declared.errors.StepError.TheVariants.{Refused, NoSuchChannel}
@@ -17,14 +16,14 @@ invariant_of-self-2 c =
     let i = c.self.inside in
     let is = filed c.file.new.entries.items c.reserve.new.self.items i.entries.items _ _ c.file.ensures c.in-Ok.ensures.items refl in
     called i.entries.items i.channels.entries _ c.self.invariant _ _ _ _ is refl
-    (revoke_done i.entries.items c.file.new.entries.items i.channels.entries c.args.seat c.args.channel c.index_mut-open.result.now c.revoke.new.self c.args.revocation.secret c.args.revocation.next_point c.in-Ok-revoke.number (revoked (Err (Refused NoMemory))) c.self.invariant.left c.index_mut-open.ensures.value c.in-Ok-revoke.ensures.tested c.in-Ok-revoke.ensures.number c.in-Ok-revoke.ensures.ok is).keeps
+    (revoke_done i.entries.items c.file.new.entries.items i.channels.entries c.args.seat c.args.channel c.index_mut-open.result.now c.revoke.new.self c.args.revocation.secret c.args.revocation.next_point c.in-Ok-revoke.number c.self.invariant.left c.index_mut-open.ensures.value c.in-Ok-revoke.ensures.tested c.in-Ok-revoke.ensures.number c.in-Ok-revoke.ensures.ok is).keeps
 
 pub returns : goal.returns
 returns c =
     let i = c.self.inside in
     let is = filed c.file.new.entries.items c.reserve.new.self.items i.entries.items _ _ c.file.ensures c.in-Ok.ensures.items refl in
-    let done = revoke_done i.entries.items c.file.new.entries.items i.channels.entries c.args.seat c.args.channel c.index_mut-open.result.now c.revoke.new.self c.args.revocation.secret c.args.revocation.next_point c.in-Ok-revoke.number (revoked (Err (Refused NoMemory))) c.self.invariant.left c.index_mut-open.ensures.value c.in-Ok-revoke.ensures.tested c.in-Ok-revoke.ensures.number c.in-Ok-revoke.ensures.ok is in
-    subst (λ (h : List Entry). IsCall (revoked (Err (Refused NoMemory))) (revoked (Ok c.in-Ok-revoke.number)) h c.file.new.entries.items c.args.seat (Revoke c.args.channel c.args.revocation)) c.self.view_is done.called
+    let done = revoke_done i.entries.items c.file.new.entries.items i.channels.entries c.args.seat c.args.channel c.index_mut-open.result.now c.revoke.new.self c.args.revocation.secret c.args.revocation.next_point c.in-Ok-revoke.number c.self.invariant.left c.index_mut-open.ensures.value c.in-Ok-revoke.ensures.tested c.in-Ok-revoke.ensures.number c.in-Ok-revoke.ensures.ok is in
+    subst (λ (h : List Entry). IsCall (revoked (Ok c.in-Ok-revoke.number)) h c.file.new.entries.items c.args.seat (Revoke c.args.channel c.args.revocation)) c.self.view_is done.called
 
 pub invariant_of-self-in-Err-revoke : goal.invariant_of-self-in-Err-revoke
 invariant_of-self-in-Err-revoke c =
@@ -36,14 +35,14 @@ pub returns-in-Err-revoke : goal.returns-in-Err-revoke
 returns-in-Err-revoke c =
     let i = c.self.inside in
     let refused = revoke_refused i.entries.items c.reserve.new.self.items i.channels.entries c.self.invariant.left c.in-Ok.ensures.items c.args.seat c.args.channel c.index_mut-open.result.now c.index_mut-open.ensures.value c.args.revocation.secret c.args.revocation.next_point c.in-Err-revoke.refusal c.in-Err-revoke.ensures.tested in
-    subst (λ (h : List Entry). IsCall (revoked (Err (Refused NoMemory))) (revoked (Err (Refused c.in-Err-revoke.refusal))) h c.reserve.new.self.items c.args.seat (Revoke c.args.channel c.args.revocation)) c.self.view_is refused
+    subst (λ (h : List Entry). IsCall (revoked (Err (Refused c.in-Err-revoke.refusal))) h c.reserve.new.self.items c.args.seat (Revoke c.args.channel c.args.revocation)) c.self.view_is refused
 
 pub returns-then-index-len : goal.returns-then-index-len
 returns-then-index-len c =
     let i = c.self.inside in
     let past : length i.channels.entries ≤ c.args.channel = search rules in
-    subst (λ (h : List Entry). IsCall (revoked (Err (Refused NoMemory))) (revoked (Err NoSuchChannel)) h h c.args.seat (Revoke c.args.channel c.args.revocation)) c.self.view_is
-    (not_there i.entries.items i.channels.entries c.args.seat c.args.channel (Revoke c.args.channel c.args.revocation) (revoked (Err NoSuchChannel)) (revoked (Err (Refused NoMemory))) c.self.invariant.left past (none_to_revoke c.args.channel c.args.revocation) refl)
+    subst (λ (h : List Entry). IsCall (revoked (Err NoSuchChannel)) h h c.args.seat (Revoke c.args.channel c.args.revocation)) c.self.view_is
+    (not_there i.entries.items i.channels.entries c.args.seat c.args.channel (Revoke c.args.channel c.args.revocation) (revoked (Err NoSuchChannel)) c.self.invariant.left past (none_to_revoke c.args.channel c.args.revocation) refl)
 
 pub invariant_of-self : goal.invariant_of-self
 invariant_of-self c = subst (λ (h : List Entry). AreBeside h c.self.inside.channels.entries (kept_by c.self.inside.fulfils)) (sym c.reserve.ensures.items) c.self.invariant

@@ -2,7 +2,7 @@ use Rattle.std.proofs.Common.{List, subst, Err, Ok, refl, ◌≤◌, length, sym
 use Rattle.std.proofs.lemmas.Result.{err_from_is_err_and}
 use Rattle.book.specs.declared.calls.Call.TheVariants.{Sign}
 use Rattle.book.specs.declared.calls.Entry.{Entry}
-use Rattle.book.specs.declared.errors.SignError.TheVariants.{NoMemory, NoSuchChannel}
+use Rattle.book.specs.declared.errors.SignError.TheVariants.{NoSuchChannel}
 use Rattle.book.specs.Replies.{signed}
 use Rattle.book.specs.Calling.{IsCall}
 use Rattle.book.proofs.Fundings.{left_alone}
@@ -17,14 +17,14 @@ invariant_of-self-2 c =
     let i = c.self.inside in
     let is = filed c.file.new.entries.items c.reserve.new.self.items i.entries.items _ _ c.file.ensures c.in-Ok.ensures.items refl in
     called i.entries.items i.channels.entries _ c.self.invariant _ _ _ _ is refl
-    (sign_done i.entries.items c.file.new.entries.items i.channels.entries c.args.seat c.args.channel c.index_mut-open.result.now c.sign.new.self c.in_ok-message.message (signed (Err NoMemory)) c.self.invariant.left c.index_mut-open.ensures.value c.in_ok-message.ensures.tested c.in_ok-message.ensures.message c.in_ok-message.ensures.ok is).keeps
+    (sign_done i.entries.items c.file.new.entries.items i.channels.entries c.args.seat c.args.channel c.index_mut-open.result.now c.sign.new.self c.in_ok-message.message c.self.invariant.left c.index_mut-open.ensures.value c.in_ok-message.ensures.tested c.in_ok-message.ensures.message c.in_ok-message.ensures.ok is).keeps
 
 pub returns : goal.returns
 returns c =
     let i = c.self.inside in
     let is = filed c.file.new.entries.items c.reserve.new.self.items i.entries.items _ _ c.file.ensures c.in-Ok.ensures.items refl in
-    let done = sign_done i.entries.items c.file.new.entries.items i.channels.entries c.args.seat c.args.channel c.index_mut-open.result.now c.sign.new.self c.in_ok-message.message (signed (Err NoMemory)) c.self.invariant.left c.index_mut-open.ensures.value c.in_ok-message.ensures.tested c.in_ok-message.ensures.message c.in_ok-message.ensures.ok is in
-    subst (λ (h : List Entry). IsCall (signed (Err NoMemory)) (signed (Ok c.in_ok-message.message)) h c.file.new.entries.items c.args.seat (Sign c.args.channel)) c.self.view_is done.called
+    let done = sign_done i.entries.items c.file.new.entries.items i.channels.entries c.args.seat c.args.channel c.index_mut-open.result.now c.sign.new.self c.in_ok-message.message c.self.invariant.left c.index_mut-open.ensures.value c.in_ok-message.ensures.tested c.in_ok-message.ensures.message c.in_ok-message.ensures.ok is in
+    subst (λ (h : List Entry). IsCall (signed (Ok c.in_ok-message.message)) h c.file.new.entries.items c.args.seat (Sign c.args.channel)) c.self.view_is done.called
 
 pub invariant_of-self-in_err-message : goal.invariant_of-self-in_err-message
 invariant_of-self-in_err-message c =
@@ -37,14 +37,14 @@ returns-in_err-message c =
     let i = c.self.inside in
     let refused = sign_refused i.entries.items c.reserve.new.self.items i.channels.entries c.self.invariant.left c.in-Ok.ensures.items c.args.seat c.args.channel c.index_mut-open.result.now c.index_mut-open.ensures.value c.in_err-message.field-0.0 c.in_err-message.ensures.tested in
     let p = err_from_is_err_and c.from_residual.result c.from_residual.ensures.1 in
-    rw (p.1, p.2) (subst (λ (h : List Entry). IsCall (signed (Err NoMemory)) (signed (Err c.in_err-message.field-0.0)) h c.reserve.new.self.items c.args.seat (Sign c.args.channel)) c.self.view_is refused)
+    rw (p.1, p.2) (subst (λ (h : List Entry). IsCall (signed (Err c.in_err-message.field-0.0)) h c.reserve.new.self.items c.args.seat (Sign c.args.channel)) c.self.view_is refused)
 
 pub returns-then-index-len : goal.returns-then-index-len
 returns-then-index-len c =
     let i = c.self.inside in
     let past : length i.channels.entries ≤ c.args.channel = search rules in
-    subst (λ (h : List Entry). IsCall (signed (Err NoMemory)) (signed (Err NoSuchChannel)) h h c.args.seat (Sign c.args.channel)) c.self.view_is
-    (not_there i.entries.items i.channels.entries c.args.seat c.args.channel (Sign c.args.channel) (signed (Err NoSuchChannel)) (signed (Err NoMemory)) c.self.invariant.left past (none_to_sign c.args.channel) refl)
+    subst (λ (h : List Entry). IsCall (signed (Err NoSuchChannel)) h h c.args.seat (Sign c.args.channel)) c.self.view_is
+    (not_there i.entries.items i.channels.entries c.args.seat c.args.channel (Sign c.args.channel) (signed (Err NoSuchChannel)) c.self.invariant.left past (none_to_sign c.args.channel) refl)
 
 pub invariant_of-self : goal.invariant_of-self
 invariant_of-self c = subst (λ (h : List Entry). AreBeside h c.self.inside.channels.entries (kept_by c.self.inside.fulfils)) (sym c.reserve.ensures.items) c.self.invariant

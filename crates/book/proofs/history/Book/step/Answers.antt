@@ -1,11 +1,10 @@
 use Rattle.std.proofs.Common.{◌<◌, List, ◌++◌, length, ap, sym, ◌∙◌, subst, Err, Ok, [], rules, ◌≤◌, refl}
 use Rattle.std.proofs.lemmas.Result.{err_from_is_err_and}
 use Rattle.std.specs.List.{cons_option}
-use Rattle.updates.specs.declared.errors.ChannelError.TheVariants.{NoMemory}
 use Rattle.book.specs.declared.calls.Step.{Step}
 use Rattle.book.specs.declared.calls.Call.TheVariants.{Step as Stepping}
 use Rattle.book.specs.declared.calls.Entry.{Entry}
-use Rattle.book.specs.declared.errors.StepError.TheVariants.{Refused, NoSuchChannel}
+use Rattle.book.specs.declared.errors.StepError.TheVariants.{NoSuchChannel}
 use Rattle.book.specs.Books.{at_index}
 use Rattle.book.specs.Knowing.{preimage_in}
 use Rattle.book.specs.Fulfilled.{Preimages, kept_by, AreBeside}
@@ -26,7 +25,7 @@ invariant_of-self-2 c =
     let after = c.add_preimage.ensures ∙ ap (λ (x : Step). at_index (λ own. own ++ cons_option (preimage_in x) []) c.args.channel (kept_by c.reserve_preimage.new.self)) c.in_ok-taken.ensures.step
     ∙ ap (λ (ps : Preimages). at_index (λ own. own ++ cons_option (preimage_in c.args.step) []) c.args.channel ps) c.reserve_preimage.ensures.same in
     called i.entries.items i.channels.entries _ c.self.invariant _ _ _ _ is after
-    (step_done i.entries.items c.file.new.entries.items i.channels.entries c.args.seat c.args.channel c.index_mut-open.result.now c.step.new.self c.args.step t.message (stepped (Err (Refused NoMemory))) c.self.invariant.left c.index_mut-open.ensures.value c.in_ok-taken.ensures.tested c.in_ok-taken.ensures.message c.in_ok-taken.ensures.ok is).keeps
+    (step_done i.entries.items c.file.new.entries.items i.channels.entries c.args.seat c.args.channel c.index_mut-open.result.now c.step.new.self c.args.step t.message c.self.invariant.left c.index_mut-open.ensures.value c.in_ok-taken.ensures.tested c.in_ok-taken.ensures.message c.in_ok-taken.ensures.ok is).keeps
 
 pub returns : goal.returns
 returns c =
@@ -34,8 +33,8 @@ returns c =
     let t = c.in_ok-taken.taken in
     let named = ap (λ (s : Step). entry c.args.seat (Stepping c.args.channel s)) c.in_ok-taken.ensures.step in
     let is = filed c.file.new.entries.items c.reserve.new.self.items i.entries.items _ _ c.file.ensures c.in-Ok.ensures.items named in
-    let done = step_done i.entries.items c.file.new.entries.items i.channels.entries c.args.seat c.args.channel c.index_mut-open.result.now c.step.new.self c.args.step t.message (stepped (Err (Refused NoMemory))) c.self.invariant.left c.index_mut-open.ensures.value c.in_ok-taken.ensures.tested c.in_ok-taken.ensures.message c.in_ok-taken.ensures.ok is in
-    subst (λ (h : List Entry). IsCall (stepped (Err (Refused NoMemory))) (stepped (Ok (cons_option t.message []))) h c.file.new.entries.items c.args.seat (Stepping c.args.channel c.args.step)) c.self.view_is done.called
+    let done = step_done i.entries.items c.file.new.entries.items i.channels.entries c.args.seat c.args.channel c.index_mut-open.result.now c.step.new.self c.args.step t.message c.self.invariant.left c.index_mut-open.ensures.value c.in_ok-taken.ensures.tested c.in_ok-taken.ensures.message c.in_ok-taken.ensures.ok is in
+    subst (λ (h : List Entry). IsCall (stepped (Ok (cons_option t.message []))) h c.file.new.entries.items c.args.seat (Stepping c.args.channel c.args.step)) c.self.view_is done.called
 
 pub invariant_of-self-in_err-taken : goal.invariant_of-self-in_err-taken
 invariant_of-self-in_err-taken c =
@@ -48,7 +47,7 @@ returns-in_err-taken c =
     let i = c.self.inside in
     let refused = step_refused i.entries.items c.reserve.new.self.items i.channels.entries c.self.invariant.left c.in-Ok.ensures.items c.args.seat c.args.channel c.index_mut-open.result.now c.index_mut-open.ensures.value c.args.step c.in_err-taken.field-0.0 c.in_err-taken.ensures.tested in
     let p = err_from_is_err_and c.from_residual.result c.from_residual.ensures.1 in
-    rw (p.1, p.2) (subst (λ (h : List Entry). IsCall (stepped (Err (Refused NoMemory))) (stepped (Err c.in_err-taken.field-0.0)) h c.reserve.new.self.items c.args.seat (Stepping c.args.channel c.args.step)) c.self.view_is refused)
+    rw (p.1, p.2) (subst (λ (h : List Entry). IsCall (stepped (Err c.in_err-taken.field-0.0)) h c.reserve.new.self.items c.args.seat (Stepping c.args.channel c.args.step)) c.self.view_is refused)
 
 pub reserve_preimage-requires : goal.reserve_preimage-requires
 reserve_preimage-requires c =
@@ -66,8 +65,8 @@ pub returns-then-index-len : goal.returns-then-index-len
 returns-then-index-len c =
     let i = c.self.inside in
     let past : length i.channels.entries ≤ c.args.channel = search rules in
-    subst (λ (h : List Entry). IsCall (stepped (Err (Refused NoMemory))) (stepped (Err NoSuchChannel)) h h c.args.seat (Stepping c.args.channel c.args.step)) c.self.view_is
-    (not_there i.entries.items i.channels.entries c.args.seat c.args.channel (Stepping c.args.channel c.args.step) (stepped (Err NoSuchChannel)) (stepped (Err (Refused NoMemory))) c.self.invariant.left past (none_to_step c.args.channel c.args.step) refl)
+    subst (λ (h : List Entry). IsCall (stepped (Err NoSuchChannel)) h h c.args.seat (Stepping c.args.channel c.args.step)) c.self.view_is
+    (not_there i.entries.items i.channels.entries c.args.seat c.args.channel (Stepping c.args.channel c.args.step) (stepped (Err NoSuchChannel)) c.self.invariant.left past (none_to_step c.args.channel c.args.step) refl)
 
 pub invariant_of-self : goal.invariant_of-self
 invariant_of-self c = subst (λ (h : List Entry). AreBeside h c.self.inside.channels.entries (kept_by c.self.inside.fulfils)) (sym c.reserve.ensures.items) c.self.invariant

@@ -1,6 +1,6 @@
 use Rattle.std.proofs.Common.{◌≡◌, ◌∙◌, ap, sym, subst}
 use Rattle.crossbeam_channel.specs.Claims.{view}
-use Rattle.book.specs.Dispatch.{no_memory_of, reply_form}
+use Rattle.book.specs.Dispatch.{reply_form}
 use Rattle.desk.specs.declared.rule.SeatView.{SeatView}
 use Rattle.desk.specs.Histories.{calls_of}
 use Rattle.desk.specs.Rule.{Follows}
@@ -16,7 +16,7 @@ put_back-requires-clause-follows g c =
     let x = c.call-reply.new.self in
     let n = c.args.seat.now.number in
     let number : (view c.take-book.new.pass).number ≡ n = ap (λ (v : SeatView). v.number) taken.out ∙ c.requires.number in
-    let follows : Follows n h x = followed n h x c.args.call (no_memory_of c.args.call) (reply_form c.call-reply.result) c.call-reply.ensures in
+    let follows : Follows n h x = followed n h x c.args.call (reply_form c.call-reply.result) c.call-reply.ensures in
     (h, ap (λ (v : SeatView). v.book) taken.out, subst (λ m. Follows m h x) (sym number) follows)
 
 pub returns-clause-reply : goal.returns-clause-reply

@@ -2,7 +2,6 @@ use Rattle.std.proofs.Common.{◌≡◌, ◌∙◌, ap, sym, subst}
 use Rattle.crossbeam_channel.specs.Claims.{view}
 use Rattle.book.specs.declared.calls.Call.{Call}
 use Rattle.book.specs.declared.calls.Call.TheVariants.{Keep}
-use Rattle.book.specs.Dispatch.{no_memory_of}
 use Rattle.book.specs.Replies.{kept}
 use Rattle.desk.specs.declared.rule.SeatView.{SeatView}
 use Rattle.desk.specs.Histories.{calls_of}
@@ -20,7 +19,7 @@ put_back-requires-clause-follows g c =
     let n = c.args.seat.now.number in
     let call : Call = Keep c.args.channel c.args.number c.args.set.claims in
     let number : (view c.take-book.new.pass).number ≡ n = ap (λ (v : SeatView). v.number) taken.out ∙ c.requires.number in
-    let follows : Follows n h x = followed n h x call (no_memory_of call) (kept c.keep_set-reply.result) c.keep_set-reply.ensures.call in
+    let follows : Follows n h x = followed n h x call (kept c.keep_set-reply.result) c.keep_set-reply.ensures.call in
     (h, ap (λ (v : SeatView). v.book) taken.out, subst (λ m. Follows m h x) (sym number) follows)
 
 pub returns-clause-reply : goal.returns-clause-reply
