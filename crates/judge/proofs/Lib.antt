@@ -1,3 +1,4 @@
 mod Items
 mod Piles
+mod Scans
 mod NumberExamples

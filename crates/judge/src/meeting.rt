@@ -39,7 +39,6 @@ fn key_bytes<'a>(items: &'a [ByteString], key: &'a KeySource) -> &'a [u8]
 }
 
 // The items of slots, the first of them on top.
-#[tactic(auto, using(crate::proofs::Piles::one_more))]
 fn slots_pile(
     alloc: Global,
     items: &[ByteString],
@@ -57,7 +56,6 @@ fn slots_pile(
 }
 
 // The bytes of keys, the first of them on top.
-#[tactic(auto, using(crate::proofs::Piles::one_more))]
 fn keys_pile(
     alloc: Global,
     items: &[ByteString],

@@ -1,3 +1,5 @@
+mod Made
+mod SentenceParts
 mod Texts
 pub mod SentenceExamples
 pub mod NumberExamples
