@@ -126,22 +126,75 @@ static COUNT: [Part; 2] = [Part("side", Kind::Side), Part("count", Kind::Number)
 
 static REORG: [Part; 2] = [Part("depth", Kind::Number), Part("forgotten", Kind::Number)];
 
-/// The items after the name of an event of `count` items, including its name; `None` if there is no event with this name.
+// Which items an event has after its name.
+#[derive(Clone, Copy)]
+enum Items {
+    Offer,
+    Fulfil,
+    Fail,
+    Fee,
+    Channel,
+    Commitment,
+    Htlc,
+    Blocks,
+    Look,
+    Count,
+    Reorg,
+}
+
+impl Items {
+    // The items in their order.
+    fn parts(self) -> &'static [Part] {
+        match self {
+            Items::Offer => &OFFER,
+            Items::Fulfil => &FULFIL,
+            Items::Fail => &FAIL,
+            Items::Fee => &FEE,
+            Items::Channel => &CHANNEL,
+            Items::Commitment => &COMMITMENT,
+            Items::Htlc => &HTLC,
+            Items::Blocks => &BLOCKS,
+            Items::Look => &LOOK,
+            Items::Count => &COUNT,
+            Items::Reorg => &REORG,
+        }
+    }
+}
+
+// An event: its name, and the items after it.
+#[derive(Clone, Copy)]
+struct Event(&'static str, Items);
+
+// The events. What is broadcast is a commitment, or an output of one, which has an item more.
+static EVENTS: [Event; 15] = [
+    Event("offer", Items::Offer),
+    Event("fulfil", Items::Fulfil),
+    Event("fail", Items::Fail),
+    Event("fee", Items::Fee),
+    Event("sign", Items::Channel),
+    Event("deliver", Items::Channel),
+    Event("close", Items::Channel),
+    Event("keep", Items::Commitment),
+    Event("broadcast", Items::Commitment),
+    Event("broadcast", Items::Htlc),
+    Event("blocks", Items::Blocks),
+    Event("look", Items::Look),
+    Event("take", Items::Count),
+    Event("release", Items::Count),
+    Event("reorg", Items::Reorg),
+];
+
+/// The items after the name of an event of `count` items, including its name: of a name with two forms the one of this count, or else the first. `None` if
+/// there is no event with this name.
 pub fn event_parts(name: &str, count: usize) -> Option<&'static [Part]> {
-    let parts: &'static [Part] = match name.as_bytes() {
-        b"offer" => &OFFER,
-        b"fulfil" => &FULFIL,
-        b"fail" => &FAIL,
-        b"fee" => &FEE,
-        b"sign" | b"deliver" | b"close" => &CHANNEL,
-        b"keep" => &COMMITMENT,
-        b"broadcast" if count == 5 => &HTLC,
-        b"broadcast" => &COMMITMENT,
-        b"blocks" => &BLOCKS,
-        b"look" => &LOOK,
-        b"take" | b"release" => &COUNT,
-        b"reorg" => &REORG,
-        _ => return None,
-    };
-    Some(parts)
+    let mut found: Option<&'static [Part]> = None;
+    for event in &EVENTS {
+        if event.0 == name {
+            let parts = event.1.parts();
+            if found.is_none() || parts.len() + 1 == count {
+                found = Some(parts);
+            }
+        }
+    }
+    found
 }

@@ -56,10 +56,18 @@ const TERMS: [(&str, &str); 4] = [
     ),
 ];
 
-// Second events, and the notes on their scenario.
-const EVENTS: [(&str, &str); 9] = [
+// Second events, or all from the second one on, and the notes on their scenario.
+const EVENTS: [(&str, &str); 11] = [
     ("[\"broadcast\",\"B\",0,1,2]", ""),
     ("[\"broadcast\",\"B\",0,1]", ""),
+    (
+        "[\"keep\",\"B\",0,1],[\"fail\",\"B\",0,1],[\"deliver\",\"B\",0],[\"close\",\"B\",0],[\"blocks\",1],[\"take\",\"B\",1],[\"release\",\"B\",1],[\"reorg\",1,0]",
+        "",
+    ),
+    (
+        "[\"broadcast\",\"B\",0]",
+        "note: event 1 has 3 items, and not 4\n",
+    ),
     ("{}", "note: event 1 is no array with a name at its front\n"),
     (
         "[1]",
