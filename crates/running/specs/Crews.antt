@@ -73,7 +73,8 @@ pub record IsLone (desk : Desk) (seat : Seat) : Type 0 where
   pub seat_of : IsSeatOf desk seat
   pub heard : heard_in seat ≡ []
 
--- where these are the payment keys of all channels: a keep, or the release of one due claim by itself, with the preimages that it wants and its whole value to the hash of its channel's key
+-- Where these are the payment keys of all channels: a keep, or the release of one claim by itself, with the preimages that it wants, in a batch whose one output pays its whole value to the hash of its channel's key. A claim with
+-- a fixed transaction is spent by that one, whose outputs this does not speak of; nor does it say that the claim fell due
 abbrev pub IsKeepOrRelease : List (List ℕ) → Call → Type 0
 IsKeepOrRelease keys (Keep channel number claims) = Unit {0}
 IsKeepOrRelease keys (Release channel batch) = (due : DueClaim) × (key : List ℕ) × (due.channel ≡ channel) × (slice_get keys channel ≡ Some key)

@@ -7,9 +7,9 @@
 //! The main contract is that of `run_node` (`IsReport` of `specs/Reports.antt`), for whatever the threads do in whatever order. Each book goes on from the one that was opened for
 //! its side. Each call in it was accepted, and no signature follows a revocation without the penalties kept between the two. Each claim in it is an accepted one. A channel's
 //! updates, signatures, deliveries and closes are played in order, each with the reply of the book that is left, and counted once, as played or as refused; each that is played is
-//! an entry of its thread's. All other later entries are keeps and releases, each release of one claim to its side's key. That is known since the seats of all threads come home to
-//! those that close the desks. Of each event the report tells why it was refused as one of the chain, if it was: a broadcast or a close by what the side's book had, a
-//! reorganisation as some chain refuses it.
+//! an entry of its thread's. All other later entries are keeps and releases, each release of one claim to its side's key; what a fixed transaction pays, by which a claim may be
+//! spent, is not said. That is known since the seats of all threads come home to those that close the desks. Of each event the report tells why it was refused as one of the chain,
+//! if it was: a broadcast or a close by what the side's book had, a reorganisation as some chain refuses it.
 //!
 //! Not proved: that a call returns, that threads run at once, that a signature waits for its penalties, that what is kept and released is what jobs ask for, that all jobs are
 //! done, that watchers read the blocks, that blocks are made or replaced, and that what is broadcast or released reaches the pool.

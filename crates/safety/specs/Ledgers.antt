@@ -1,4 +1,5 @@
--- What a chain has to satisfy for the outputs that a node's channels make. A chain that passed its tests does, and so does Bitcoin's, as far as these outputs are concerned.
+-- What a chain has to satisfy for the outputs that a node's channels make. A chain that passed the tests of `chain` does. Bitcoin's does as long as each input that names one of these outputs runs clean by the
+-- machine here too, in a transaction within the limits here. A peer that spends an output of its own with another hash type, or with 4,001 outputs, makes `named` false, though nothing is lost by it.
 use Rattle.std.specs.Prelude.{◌≡◌, ◌⊎◌, ℕ, ◌+◌, ◌%◌, ◌^◌, Bool, true, not, ◌&&◌, ◌||◌, ◌==◌, nat_lt, nat_le, List, Some, slice_get}
 use Rattle.std.specs.List.{Contains, list_all}
 use Rattle.script.specs.declared.limits.TheConstants.{LOCKTIME_THRESHOLD}

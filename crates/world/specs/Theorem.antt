@@ -1,8 +1,8 @@
--- The Enforcement theorem: what holds at every moment of every run of the world of two sides, for all events. Read this file first, then `Steps.antt` for what an event is, and `Enforcement.antt`
--- for what 'due' and 'passes' mean.
+-- The Enforcement theorem: what holds at every moment of every run of the world of two sides, for all events. Read this file first, then `Steps.antt` for what an event is, and
+-- `safety/specs/Enforcement.antt` for what 'due' and 'passes' mean.
 --
 -- Over every interleaving of channel steps, blocks, reorganisations, broadcasts, closes, looks and releases, two things hold. First, take any filling of an accepted claim whose output is unspent, and
--- whose height and age are reached. It passes the chain's test of its input and runs to one true value, within 201 counted opcodes and 1,000 entries. No operand is missing, no check fails, and no
+-- whose height and age are reached. It passes the chain's test of its input and runs to one true value, within 201 counted opcodes and 1,000 elements. No operand is missing, no check fails, and no
 -- branch stays open. Second, after a received revocation no commitment is signed until verified penalties for every claimable output are kept. Besides, what is kept is exactly what can be claimed,
 -- what was released fits its claims, and the two sides agree. The commitment with which a side closed a channel stays its newest, and is never revoked. Whatever stands on the chain, and whoever makes
 -- the next block, nobody else takes what a revoked commitment lets a side claim, except in the ways of `IsTaker` and of `Fate`.
