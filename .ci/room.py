@@ -57,6 +57,32 @@ def crates_below(uses, names):
     return [it for it in uses if it in wanted]
 
 
+def kit_of(root):
+    """The libraries of the kit that each crate of crates.txt lists."""
+    crates = graph(root)
+    with open(f"{root}/crates.txt", encoding="utf-8") as file:
+        found = re.findall(r"^(\w+)[^:#\n]*:([^#\n]*)", file.read(), re.M)
+    return {name: [it for it in deps.split() if it not in crates] for name, deps in found}
+
+
+def check_words(root, crate):
+    """The words of a check of a crate in a folder of its own, over the libraries that are finished there."""
+    kit, uses = os.path.dirname(os.path.dirname(os.path.realpath(shutil.which("rt")))), graph(root)
+    words = ["--crate-name", crate, "src/main.rt" if os.path.isfile(f"{root}/crates/{crate}/src/main.rt") else "src/lib.rt"]
+    for name in dict.fromkeys(["core", "std", *kit_of(root)[crate]]):
+        words += ["--extern", f"{name}={kit}/rlibs/{name}.rlib"]
+    words += ["-L", f"dependency={kit}/rlibs"]
+    for name in uses[crate]:
+        words += ["--extern", f"{name}={root}/crates/{name}/out/rlib/{name}.rlib"]
+    for name in crates_below(uses, {crate}):
+        words += ["-L", f"dependency={root}/crates/{name}/out/rlib"]
+    words += ["--antt-project", f"{kit}/rattle/logic/antt-project.json", "--logic-built", f"{kit}/logic_built", "--jobs", "1", "--links", f"{crate}="]
+    with open(f"{root}/crates.txt", encoding="utf-8") as file:
+        if re.search(rf"^{crate} staticlib\b", file.read(), re.M):
+            words += ["--crate-type", "staticlib"]
+    return [f"{kit}/bin/rattle", "check", *words]
+
+
 def job_count():
     """The number of checks that run side by side: RT_JOBS where it is set, or else at most one for each processor, and one for each 5 GiB."""
     jobs = os.environ.get("RT_JOBS", "")

@@ -1,16 +1,20 @@
 """Rounds: edits that change the bodies of different functions, tried by one check of their crate.
 
+The check is of those functions alone. The proof of each other function of the crate is put in by a hole, which the prover takes by what the function promises, as it takes a function of a library
+below. So a try costs what the changed functions cost, and not the proof of their crate. First the functions are checked as they stand, in the same way: each has to be proved, but for the holes.
+
 A round says of an edit that it is refused where the check does not prove a goal of a function that this edit changes, and no other one of the round. That is as good as a
 check of the edit alone. The goals that a function owes are made of its own body and of what that names: contracts, types, constants and definitions. No function sees
 another one's body, and a round changes nothing but bodies. So the same goal is owed, and not proved, in a check of that edit alone.
 
-The other way round a round says nothing. What it does not settle is tried alone:
+The other way round a round says nothing. What it does not settle is tried alone, in the same way:
 - an edit that changes anything but the body of a plain function (`bodies`): a constant, a type, a signature, an import, a default body of a trait, a `const fn`, whose
   body others may see through a constant, a function of a named cycle of calls, whose proof is that of all, or a body that has items of its own;
 - an edit whose functions have no goal and no answer of their own that failed (`failures`): they are proved, or not proved for what they call alone, or their proofs name
   what the edit took away, or are taken away themselves;
 - an edit in whose function the check cannot read something (`unread_functions`): its round is checked again without it;
 - the edits of a round that comes to no verdict, once its halves have come to none either.
+What that does not settle either, as an edit of a constant alone, is tried by `rt must-fail`, which proves the whole crate with it.
 """
 import collections
 import functools
@@ -30,12 +34,6 @@ ITEMS = {*"fn impl struct enum trait mod const static use type macro_rules".spli
 Token = collections.namedtuple("Token", "line start end kind text")
 # Where a function stands in the crate, the tokens of its body with their first and last byte, and the lines of the whole.
 Function = collections.namedtuple("Function", "path body start end first last")
-
-
-def check(folder):
-    """Status and lines of a check of the crate there."""
-    ran = subprocess.run(["rt", "check", "--jobs", "1"], cwd=folder, stdin=subprocess.DEVNULL, stdout=subprocess.PIPE, stderr=subprocess.STDOUT, text=True, errors="replace")
-    return ran.returncode, ran.stdout.splitlines()
 
 
 def tokens(text):
@@ -68,8 +66,8 @@ def end_of(row, at):
 
 
 def owner(head):
-    """The name that the check gives an impl: that of its type, and then that of its trait."""
-    depth, names = 0, [""]
+    """The type of an impl and what the check calls the impl: by the type, and then by its trait with the names of its arguments. None for the type where there is a trait."""
+    depth, names, parameters, arguments = 0, [""], set(), []
     for before, it in zip(["", *head], head):
         depth += (it == "<") - (it == ">" and before not in ("-", "="))
         if depth == 0 and it == "where":
@@ -78,11 +76,34 @@ def owner(head):
             names.append("")
         elif depth == 0 and re.fullmatch(r"\w+", it):
             names[-1] = it
-    return "".join(reversed(names))
+        elif depth == 1 and not names[0] and before in ("<", ","):
+            parameters.add(it)
+        elif depth > 0 and names[0] and len(names) == 1 and it not in parameters and re.fullmatch(r"\w+|\(", it):
+            arguments.append("Unit" if it == "(" else it)
+    return (names[0], names[0]) if len(names) == 1 else (None, "".join([names[1], names[0], *arguments]))
 
 
-def plain_functions(row, at, end, path):
-    """The plain functions among the items between these places, each with the places of its body."""
+@functools.lru_cache(maxsize=8)
+def homes(folder):
+    """The module of each type that the crate there declares once."""
+    found = collections.defaultdict(set)
+    for file in files_of(folder):
+        for name in re.findall(r"^(?:pub(?:\([^)]*\))? )?(?:struct|enum) (\w+)", source(folder, file), re.M):
+            found[name].add(module_of(file))
+    return {name: next(iter(modules)) for name, modules in found.items() if len(modules) == 1}
+
+
+def files_of(folder):
+    return sorted(os.path.relpath(os.path.join(at, name), folder) for at, _, names in os.walk(f"{folder}/src") for name in names if name.endswith(".rt"))
+
+
+def module_of(file):
+    module = tuple(file.removeprefix("src/").removesuffix(".rt").removesuffix("/mod").split("/"))
+    return () if module in (("lib",), ("main",)) else module
+
+
+def plain_functions(row, at, end, path, types):
+    """The plain functions among the items between these places, each with the places of its body. types: the modules of the crate's types, by which the methods of their own are called."""
     while at < end:
         first, head, attributes = at, [], []
         while at < end and code(row[at]) == "#":
@@ -95,20 +116,23 @@ def plain_functions(row, at, end, path):
         if at >= end:
             return
         close, is_block = end_of(row, at), code(row[at]) == "{"
-        head = [it for it in head if it not in ("pub", "(", "")]
-        if is_block and head[:1] in (["mod"], ["impl"]):
-            yield from plain_functions(row, at + 1, close - 1, (*path, head[1] if head[0] == "mod" else owner(head[1:])))
+        head = [it for before, it in zip(["", *head], head) if it not in ("pub", "") and (before, it) != ("pub", "(")]
+        if is_block and head[:1] == ["mod"]:
+            yield from plain_functions(row, at + 1, close - 1, (*path, head[1]), types)
+        elif is_block and head[:1] == ["impl"]:
+            of_type, name = owner(head[1:])
+            yield from plain_functions(row, at + 1, close - 1, (*types.get(of_type, path), name), types)
         elif is_block and head[:1] == ["fn"] and "cycle" not in attributes and not ITEMS & {*map(code, row[at:close])}:
             body = [(it.kind, it.text) for it in row[at:close]]
             yield at, close, Function((*path, head[1]), body, row[at].start, row[close - 1].end, row[first].line, row[close - 1].line)
         at = close
 
 
-@functools.lru_cache(maxsize=64)
-def read(text, file):
-    """The plain functions of a source by their paths, and all else that stands there."""
-    row, module = tokens(text), tuple(file.removeprefix("src/").removesuffix(".rt").removesuffix("/mod").split("/"))
-    found = list(plain_functions(row, 0, len(row), () if module in (("lib",), ("main",)) else module))
+@functools.lru_cache(maxsize=256)
+def read(text, file, folder):
+    """The plain functions of a source of the crate there by their paths, and all else that stands in it."""
+    row = tokens(text)
+    found = list(plain_functions(row, 0, len(row), module_of(file), homes(folder)))
     # two impls of one trait for one type can have one path
     counts = collections.Counter(it.path for _, _, it in found)
     functions, rest, at = {}, [], 0
@@ -130,7 +154,7 @@ def bodies(texts, folder):
     changed = {}
     for file, text in texts.items():
         try:
-            (ours, rest), (theirs, other) = read(source(folder, file), file), read(text, file)
+            (ours, rest), (theirs, other) = read(source(folder, file), file, folder), read(text, file, folder)
         except subprocess.CalledProcessError:
             return None
         if rest != other:
@@ -161,49 +185,100 @@ def combined_sources(folder, changed):
     texts = {}
     for file in {file for file, _ in changed}:
         text = source(folder, file)
-        functions, data = read(text, file)[0], text.encode()
+        functions, data = read(text, file, folder)[0], text.encode()
         for path in sorted((path for at, path in changed if at == file), key=lambda it: -functions[it].start):
             data = data[: functions[path].start] + changed[file, path] + data[functions[path].end :]
         texts[file] = data.decode()
     return texts
 
 
-class Place:
-    """A copy of the room beside it, in which the rounds of one crate are checked, each over what the crate's own check kept. So the room and its crate stay as they were."""
+def changed_functions(texts, folder):
+    """The functions whose bodies an edit with these texts changes, by file and path, whatever else it changes."""
+    found = set()
+    for file, text in texts.items():
+        try:
+            (ours, _), (theirs, _) = read(source(folder, file), file, folder), read(text, file, folder)
+        except subprocess.CalledProcessError:
+            return set()
+        found |= {(file, path) for path, it in theirs.items() if path not in ours or it.body != ours[path].body}
+    return found
+
+
+def emptied(text, file, folder, paths):
+    """A source of the crate there in which these functions have a body of nothing, line for line as it was."""
+    functions, data = read(text, file, folder)[0], text.encode()
+    for path in sorted({*paths} & functions.keys(), key=lambda it: -functions[it].start):
+        start, end = functions[path].start, functions[path].end
+        data = data[:start] + b"{ loop {} " + b"\n" * data[start:end].count(b"\n") + b"}" + data[end:]
+    return data.decode()
+
+
+class Bench:
+    """A copy of a crate in a folder of its own, in which a few of its functions are tried over the libraries of a room, each check over what those before it kept."""
 
     def __init__(self, room, crate):
-        self.top, self.given, self.crate = f"{room}-rounds", f"{room}/crates/{crate}", crate
-        self.folder, self.kept = f"{self.top}/crates/{crate}", f"{self.given}/out/incremental"
-        shutil.rmtree(self.top, ignore_errors=True)
-        os.makedirs(f"{self.top}/crates")
-        for name in ("crates.txt", "HANDLES"):
-            shutil.copyfile(f"{room}/{name}", f"{self.top}/{name}")
-        uses = rooms.graph(room)
-        libraries = rooms.crates_below(uses, {crate})
-        for name in uses:
-            left = shutil.ignore_patterns("must-fail", "incremental" if name in libraries else "out")
-            shutil.copytree(f"{room}/crates/{name}", f"{self.top}/crates/{name}", ignore=left, copy_function=rooms.link_file)
-        self.was = self.listing()
+        self.crate, self.given = crate, f"{room}/crates/{crate}"
+        self.folder, self.words = tempfile.mkdtemp(prefix=f"edits-{crate}-"), rooms.check_words(room, crate)
+        self.files = files_of(self.given)
+        self.names = {path for file in self.files for path in read(source(self.given, file), file, self.given)[0] if "tests" not in path}
+        # those that have their own proofs: the functions that are tried, and those whose proof no hole can stand for
+        self.tried = set()
 
-    def listing(self):
-        """What tells whether a file of the kept work was changed, lost or added."""
-        files = (os.path.join(at, name) for at, _, names in os.walk(self.kept) for name in names)
-        return {it: (found.st_ino, found.st_size, found.st_mtime_ns) for it in files for found in [os.lstat(it)]}
-
-    def check(self, texts):
-        """Status and lines of a check of the crate with these texts in place of its own."""
-        for part in ("src", "out/incremental"):
+    def lay(self, texts):
+        """Lays the crate out with these texts in place of its own, and holes for the proofs of all functions but those that are tried."""
+        for part in ("src", "specs", "proofs"):
             shutil.rmtree(f"{self.folder}/{part}", ignore_errors=True)
-        shutil.copytree(f"{self.given}/src", f"{self.folder}/src")
-        # a check replaces a file with a proof, and writes into none: so a second name of it is enough
-        shutil.copytree(self.kept, f"{self.folder}/out/incremental", copy_function=lambda it, to: (rooms.link_file if it.endswith(".oantt") else shutil.copy2)(it, to))
-        for file, text in texts.items():
+            if os.path.isdir(f"{self.given}/{part}"):
+                shutil.copytree(f"{self.given}/{part}", f"{self.folder}/{part}")
+        for file in self.files:
+            text = texts.get(file) or source(self.given, file)
             with open(f"{self.folder}/{file}", "w", encoding="utf-8") as opened:
-                opened.write(text)
-        return check(self.folder)
+                opened.write(emptied(text, file, self.given, self.names - self.tried))
+        for path in self.names - self.tried:
+            place, name = f"{self.folder}/proofs/{'/'.join(path)}", path[-1]
+            os.makedirs(place, exist_ok=True)
+            for old in ("Invariants", "Answers", "Proof"):
+                if os.path.isfile(f"{place}/{old}.antt"):
+                    os.remove(f"{place}/{old}.antt")
+            with open(f"{place}/Proof.antt", "w", encoding="utf-8") as opened:
+                opened.write(f"use Rattle.{self.crate}.proofs.{'.'.join(path)}.Statement.{{statement}}\n\npub {name}_spec : {{M : Type 1}} → statement M\n{name}_spec = ?\n")
+
+    def check(self, texts, paths):
+        """The lines of a check of these functions, with these texts in place of the crate's own."""
+        self.lay(texts)
+        words = [*self.words, "--allow-holes", "--incremental", f"{self.folder}/kept", *(it for path in sorted(paths) for it in ("--only", "::".join(path)))]
+        os.makedirs(f"{self.folder}/kept", exist_ok=True)
+        ran = subprocess.run(words, cwd=self.folder, stdin=subprocess.DEVNULL, stdout=subprocess.PIPE, stderr=subprocess.STDOUT, text=True, errors="replace")
+        return ran.stdout.splitlines()
+
+    def fault(self, paths, again=AGAIN):
+        """Why these functions, which are to be tried, are not proved as they stand, but for the holes. None where they are."""
+        self.tried |= {*paths} & self.names
+        paths = {*paths} & self.names
+        lines = self.check({}, paths)
+        ends = ends_of(lines)
+        wrong = [it for it in paths if not re.match(r"no holes|depends on a hole", ends.get("::".join((self.crate, *it)), ""))]
+        if not wrong and has_end(lines):
+            return None
+        # a hole that can't stand for the proof of its function
+        odd = {tuple(it[1].split("/")) for it in (re.match(r"(?:\./)?proofs/(\S+)/Proof\.antt:.*error", line) for line in lines) if it} & (self.names - self.tried)
+        if odd and again:
+            self.tried |= odd
+            return self.fault(paths, again - 1)
+        said = [line for line in lines if "error" in line] or lines[-3:]
+        return f"{'::'.join(wrong[0]) if wrong else self.crate} is not proved as it stands: {' '.join(said)[:300]}"
 
     def close(self):
-        shutil.rmtree(self.top, ignore_errors=True)
+        shutil.rmtree(self.folder, ignore_errors=True)
+
+
+def ends_of(lines):
+    """What a check says of each function."""
+    return {it[1]: it[2] for it in (re.match(r"fn (\S+): (.*)", line) for line in lines) if it}
+
+
+def has_end(lines):
+    return any(re.match(r"only=\d+ holes=\d+$", line) for line in lines[-3:])
 
 
 def unread_functions(lines, functions):
@@ -220,7 +295,7 @@ def unread_functions(lines, functions):
 
 def failures(lines, crate, functions):
     """Of these functions, by file and path, those that are not proved for a goal or an answer of their own, with the first line that says so."""
-    ends = {it[1]: it[2] for it in (re.match(r"fn (\S+): (.*)", line) for line in lines) if it}
+    ends = ends_of(lines)
     goal = re.compile(r"note: (?:\./)?(src/\S+?):(\d+):\d+: (?:it is not proved that |`search` found no proof \()")
     answer = re.compile(r"(?:\./)?proofs/(\S+)/\w+\.antt:\d+:\d+: error: ")
     # a proof that names what the edit took away, or that rests on one that is not admitted
@@ -235,19 +310,31 @@ def failures(lines, crate, functions):
     return found
 
 
-def try_round(place, edits, changed, again=AGAIN):
+def try_round(bench, edits, changed, again=AGAIN):
     """What a round says of each edit that it settles: a function, and a goal or an answer there that is not proved."""
     of = {key: edit for edit in edits for key in changed[edit]}
-    texts = combined_sources(place.given, {key: changed[edit][key] for key, edit in of.items()})
-    functions = {(file, path): read(texts[file], file)[0][path] for file, path in of}
-    status, lines = place.check(texts)
+    texts = combined_sources(bench.given, {key: changed[edit][key] for key, edit in of.items()})
+    functions = {(file, path): read(texts[file], file, bench.given)[0][path] for file, path in of}
+    lines = bench.check(texts, {path for _, path in of})
     wrong, is_else = unread_functions(lines, functions)
-    if status == 1 and not wrong and not is_else and any(it.startswith("logic=not-proved") for it in lines):
+    if not wrong and not is_else and has_end(lines):
         settled = {}
-        for key, line in failures(lines, place.crate, functions).items():
-            settled.setdefault(of[key], ("::".join((place.crate, *key[1])), line))
+        for key, line in failures(lines, bench.crate, functions).items():
+            settled.setdefault(of[key], ("::".join((bench.crate, *key[1])), line))
         return settled
     readable = [it for it in edits if it not in {of[key] for key in wrong}]
     half = len(readable) // 2
-    parts = [readable] if wrong else [readable[:half], readable[half:]] if half and status != 0 else []
-    return {edit: it for part in parts if part and again for edit, it in try_round(place, part, changed, again - 1).items()}
+    parts = [readable] if wrong else [readable[:half], readable[half:]] if half else []
+    return {edit: it for part in parts if part and again for edit, it in try_round(bench, part, changed, again - 1).items()}
+
+
+def try_alone(bench, texts):
+    """What a check of the functions that an edit with these texts changes says of it: a function, and a goal or an answer there that is not proved. None where it says nothing."""
+    keys = changed_functions(texts, bench.given)
+    functions = {(file, path): read(texts[file], file, bench.given)[0][path] for file, path in keys}
+    lines = bench.check(texts, {path for _, path in keys}) if keys else []
+    wrong, is_else = unread_functions(lines, functions)
+    if wrong or is_else or not has_end(lines):
+        return None
+    found = failures(lines, bench.crate, functions)
+    return next((("::".join((bench.crate, *key[1])), line) for key, line in sorted(found.items())), None)
