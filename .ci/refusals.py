@@ -2,6 +2,7 @@
 import collections
 import contextlib
 import os
+import re
 import shlex
 import subprocess
 import tempfile
@@ -9,13 +10,28 @@ from concurrent.futures import ThreadPoolExecutor
 
 HERE = os.path.dirname(os.path.abspath(__file__))
 SECONDS = 60
-# Programs of bench/programs: the calls that each makes once more where memory runs out, and how many of its allocations are at least in them. Then the step of a short round,
-# which refuses the first allocation of each place and every step-th one, and how many of those are at least in them.
+AGAIN = re.compile(r"^again (\w+)$", re.M)
+# What a program of bench/programs plays for a line of its input, if it reads any. First how many of its allocations are at least in each call that it makes once more where memory runs out. Then the step of a short
+# round, which refuses every step-th allocation and the first of each place that no life before has, and how many of those are at least in each call: at step 1 all of them.
+Life = collections.namedtuple("Life", "line calls step least")
 PROGRAMS = {
-    "calls_memory": ("`decode` or `check`", 84, 1, 84),
-    "chain_memory": ("`connect` or `disconnect`", 124, 11, 10),
-    "channel_memory": ("`receive`", 330, 11, 25),
-    "book_memory": ("a call of a book", 13836, 997, 60),
+    "calls_memory": [Life("", {"decode": 11, "check": 73}, 1, {})],
+    "chain_memory": [Life("", {"connect": 70, "disconnect": 54}, 11, {"connect": 8, "disconnect": 7})],
+    "channel_memory": [Life("short", {"receive": 91}, 1, {}), Life("long", {"receive": 330}, 31, {"receive": 12})],
+    "book_memory": [
+        Life(
+            "short",
+            {"open": 128, "step": 62, "sign": 52, "revoke": 4, "keep": 58, "keep_set": 1, "release": 28, "release_twice": 46, "release_again": 54, "close": 1, "revoked": 1, "known": 72},
+            1,
+            {},
+        ),
+        Life(
+            "long",
+            {"open": 128, "step": 215, "sign": 97, "revoke": 9, "keep": 550, "release": 42, "revoked": 4, "known": 272, "dump": 1540, "load": 2547},
+            997,
+            {"dump": 1, "load": 1, "keep": 1},
+        ),
+    ],
 }
 
 
@@ -44,23 +60,25 @@ def run(library, number, words, given=""):
     return ran.returncode, ran.stdout, ran.stderr
 
 
-def numbers(library, step, words, given=""):
-    """The numbers of a program's allocations: every step-th one and, where not all are taken and it tells them, the first of each place. None if it makes none."""
+def numbers(library, step, words, given, seen):
+    """The numbers of a program's allocations: every step-th one and, where it tells them, the first of each place that was not seen, which is so from then on. None if it makes none."""
     lines = run(library, 0, words, given)[2].splitlines() or [""]
     count = int(lines[-1]) if lines[-1].isdigit() else 0
     found = {*range((step + 1) // 2, count + 1, step)}
     for line in lines[-2:-1]:
         if line.startswith("places "):
-            found |= {int(it) for it in line.split()[1:]}
+            firsts = [it.split(":") for it in line.split()[1:]]
+            found |= {int(number) for number, place in firsts if place not in seen}
+            seen |= {place for _, place in firsts}
     return sorted(found)
 
 
-def sweep(library, kind_of, step, words, given=""):
+def sweep(library, kind_of, step, words, given="", seen=None):
     """Refuses these allocations in turn. Returns how many runs were of each kind, and what is said of those that were wrong.
 
     kind_of takes what a run gave, and answers its kind and what is wrong with it, if anything is.
     """
-    refused = numbers(library, step, words, given)
+    refused = numbers(library, step, words, given, set() if seen is None else seen)
     with ThreadPoolExecutor(os.cpu_count()) as pool:
         answers = list(pool.map(lambda it: kind_of(*run(library, it, words, given)), refused))
     faults = [f"allocation {number} refused: {fault}" for number, (_, fault) in zip(refused, answers) if fault]
@@ -72,31 +90,44 @@ def total(right, wrong):
     return f"refused allocations: {right} right, {wrong} wrong"
 
 
-def refuse_allocations(library, name, program, is_short):
-    """Refuses the allocations of a program of PROGRAMS, or those of a short round. Returns how many runs were right, and how many were not.
+def refuse_in(library, name, life, words, is_short, seen):
+    """Refuses the allocations of a program while it plays a life, or those of a short round. Returns how many runs were right, and what is said of the others.
 
-    Where one of the calls that are tried is refused, the program goes on, and prints what it prints without a refusal: the call changed nothing. Where it is any other,
+    Where one of the calls that are tried is refused, the program says so on standard error, goes on, and prints what it prints without a refusal: the call changed nothing. Where it is any other,
     the program ends with status 1, and has printed the beginning of that.
     """
-    calls, least, step, least_short = PROGRAMS[name]
-    with open(f"{HERE}/../bench/programs/{name}/stdout", encoding="utf-8") as file:
-        wanted = file.read()
+    given, least = life.line and f"{life.line}\n", life.least if is_short and life.step > 1 else life.calls
+    _, wanted, _ = run(library, 0, words, given)
 
     def kind_of(status, text, error):
-        if status == 0 and text == wanted:
-            return "went on", None
-        if status == 1 and wanted.startswith(text):
-            return "ended", None
-        return "wrong", f"status {status}, it printed {text[-300:]!r}\n{error[-1000:]}"
+        calls = AGAIN.findall(error)
+        if status == 0 and len(calls) == 1 and text == wanted:
+            return calls[0], None
+        if status == 1 and not calls and wanted.startswith(text):
+            return "", None
+        return "", f"status {status}, {calls} made again, it printed {text[-300:]!r}\n{error[-1000:]}"
 
-    if run(library, 0, [program])[:2] != (0, wanted):
+    kinds, faults = sweep(library, kind_of, life.step if is_short else 1, words, given, seen)
+    right, ended = sum(kinds.values()), kinds.pop("", 0)
+    if not faults:
+        faults = [f"{kinds[it]} runs made {it} again, and at least {count} are wanted" for it, count in least.items() if kinds[it] < count]
+    said = "".join(f", {count} {it}" for it, count in sorted(kinds.items()))
+    print(f"{name}{life.line and ' '}{life.line}: {right + len(faults)} allocations refused, {right - ended} of them in the calls that are tried{said}; {len(faults)} wrong", flush=True)
+    return right, faults
+
+
+def refuse_allocations(library, name, program, is_short):
+    """Refuses the allocations of a program of PROGRAMS, or those of a short round. Returns how many runs were right, and how many were not."""
+    with open(f"{HERE}/../bench/programs/{name}/stdout", encoding="utf-8") as file:
+        wanted = file.read()
+    lives = PROGRAMS[name]
+    if run(library, 0, [program], "".join(f"{it.line}\n" for it in lives))[:2] != (0, wanted):
         print(f"{name}: it does not print its stdout", flush=True)
         return 0, 1
-    kinds, faults = sweep(library, kind_of, step if is_short else 1, [program])
-    right, went_on, wanted_on = sum(kinds.values()), kinds["went on"], least_short if is_short else least
-    if not faults and went_on < wanted_on:
-        faults = [f"{went_on} runs went on, and at least {wanted_on} are wanted"]
+    right, faults, seen = 0, [], set()
+    for life in lives:
+        found = refuse_in(library, name, life, [program], is_short, seen)
+        right, faults = right + found[0], faults + found[1]
     for fault in faults[:10]:
         print(f"{name}: {fault}")
-    print(f"{name}: {right + len(faults)} allocations refused, {went_on} of them in {calls}; {len(faults)} wrong", flush=True)
     return right, len(faults)

@@ -2,10 +2,11 @@
    writes how many there were to standard error, as its last line.
 
    An unproved program has a heap of its own, which finds wrong accesses. It is led here too. Before that last line stands one for it with the number
-   of the first allocation at each place, where a place is the innermost calls that lead to it. */
+   of the first allocation at each place and what tells the place, where a place is the innermost calls that lead to it: the same in each run. */
 #define _GNU_SOURCE
 #include <dlfcn.h>
 #include <errno.h>
+#include <link.h>
 #include <stdatomic.h>
 #include <stdbool.h>
 #include <stddef.h>
@@ -21,6 +22,7 @@ extern void *__libc_stack_end;
 
 static atomic_long count;
 static bool is_led;
+static uintptr_t base, end;
 static uintptr_t places[MOST];
 static long firsts[MOST];
 static int found;
@@ -33,13 +35,24 @@ static void read_number(void) {
     refused = text ? atol(text) : 0;
 }
 
+/* Where the program itself is loaded, which comes first. */
+static int read_base(struct dl_phdr_info *info, size_t size, void *unused) {
+    (void)size, (void)unused;
+    base = end = info->dlpi_addr;
+    for (int i = 0; i < info->dlpi_phnum; i++) {
+        uintptr_t last = base + info->dlpi_phdr[i].p_vaddr + info->dlpi_phdr[i].p_memsz;
+        if (info->dlpi_phdr[i].p_type == PT_LOAD && last > end) end = last;
+    }
+    return 1;
+}
+
 /* Notes the place of an allocation of the first thread, by the frames on its stack: each has the address of the one above it, and the one to which its call returns. */
 static void note(long number) {
     uintptr_t place = 0, *frame = __builtin_frame_address(0);
     if ((char *)__libc_stack_end - (char *)frame > 64 << 20) return;
     for (int i = 0; i < CALLS; i++) {
         uintptr_t *above = (uintptr_t *)frame[0];
-        place = (place ^ frame[1]) * 0x9e3779b97f4a7c15;
+        if (frame[1] >= base && frame[1] < end) place = (place ^ (frame[1] - base)) * 0x9e3779b97f4a7c15;
         if (above <= frame || above >= (uintptr_t *)__libc_stack_end) break;
         frame = above;
     }
@@ -95,6 +108,7 @@ static void *lead(const char *name, void *here, size_t below) {
 
 __attribute__((constructor)) static void begin(void) {
     read_number();
+    dl_iterate_phdr(read_base, NULL);
     void *heap = lead("malloc", own_malloc, 64 << 20);
     if (heap) next_malloc = heap;
     is_led = heap != NULL;
@@ -107,7 +121,7 @@ __attribute__((destructor)) static void tell(void) {
     long all = atomic_load(&count);
     if (is_led) {
         fprintf(stderr, "places");
-        for (int i = 0; i < found; i++) fprintf(stderr, " %ld", firsts[i]);
+        for (int i = 0; i < found; i++) fprintf(stderr, " %ld:%lx", firsts[i], (unsigned long)places[i]);
         fprintf(stderr, "\n");
     }
     fprintf(stderr, "%ld\n", all);
