@@ -21,15 +21,15 @@ PROGRAMS = {
     "book_memory": [
         Life(
             "short",
-            {"open": 128, "step": 62, "sign": 52, "revoke": 4, "keep": 58, "keep_set": 1, "release": 28, "release_twice": 46, "release_again": 54, "close": 1, "revoked": 1, "known": 72},
+            {"open": 1, "step": 42, "sign": 35, "revoke": 4, "keep": 41, "keep_set": 1, "release": 13, "release_twice": 33, "release_again": 40, "close": 1, "revoked": 1, "known": 56},
             1,
             {},
         ),
         Life(
             "long",
-            {"open": 128, "step": 215, "sign": 97, "revoke": 9, "keep": 550, "release": 42, "revoked": 4, "known": 272, "dump": 1540, "load": 2547},
+            {"open": 90, "step": 150, "sign": 68, "revoke": 6, "keep": 385, "release": 30, "revoked": 3, "known": 190, "dump": 1080, "load": 1780},
             997,
-            {"dump": 1, "load": 1, "keep": 1},
+            {"dump": 7, "load": 1},
         ),
     ],
 }
@@ -93,26 +93,26 @@ def total(right, wrong):
 def refuse_in(library, name, life, words, is_short, seen):
     """Refuses the allocations of a program while it plays a life, or those of a short round. Returns how many runs were right, and what is said of the others.
 
-    Where one of the calls that are tried is refused, the program says so on standard error, goes on, and prints what it prints without a refusal: the call changed nothing. Where it is any other,
-    the program ends with status 1, and has printed the beginning of that.
+    Where one of the calls that are tried is refused, the program says so on standard error, goes on, and prints what it prints without a refusal: the call changed nothing. So it does where a call
+    can do without the memory. Where it is any other, the program ends with status 1, and has printed the beginning of that.
     """
     given, least = life.line and f"{life.line}\n", life.least if is_short and life.step > 1 else life.calls
     _, wanted, _ = run(library, 0, words, given)
 
     def kind_of(status, text, error):
         calls = AGAIN.findall(error)
-        if status == 0 and len(calls) == 1 and text == wanted:
-            return calls[0], None
+        if status == 0 and len(calls) < 2 and text == wanted:
+            return "".join(calls), None
         if status == 1 and not calls and wanted.startswith(text):
             return "", None
         return "", f"status {status}, {calls} made again, it printed {text[-300:]!r}\n{error[-1000:]}"
 
     kinds, faults = sweep(library, kind_of, life.step if is_short else 1, words, given, seen)
-    right, ended = sum(kinds.values()), kinds.pop("", 0)
+    right, others = sum(kinds.values()), kinds.pop("", 0)
     if not faults:
         faults = [f"{kinds[it]} runs made {it} again, and at least {count} are wanted" for it, count in least.items() if kinds[it] < count]
     said = "".join(f", {count} {it}" for it, count in sorted(kinds.items()))
-    print(f"{name}{life.line and ' '}{life.line}: {right + len(faults)} allocations refused, {right - ended} of them in the calls that are tried{said}; {len(faults)} wrong", flush=True)
+    print(f"{name}{life.line and ' '}{life.line}: {right + len(faults)} allocations refused, {right - others} of them in the calls that are tried{said}; {len(faults)} wrong", flush=True)
     return right, faults
 
 
