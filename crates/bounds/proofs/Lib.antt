@@ -31,3 +31,6 @@ mod Ledgers
 mod Breaks
 mod Resolutions
 mod Everybody
+mod ReorgOutcomes
+mod PlayedLines
+mod Releases

@@ -25,23 +25,23 @@ use Rattle.safety.proofs.Lists.{some_is}
 use Rattle.bounds.proofs.Samples.{argument_of}
 
 -- an end of a channel, and a channel with both; what its thread gives back; and what it is asked to do
-abbrev End : Type 0
+abbrev pub End : Type 0
 End = argument_of (IsFirstEnd [])
 
-abbrev Line : Type 0
+abbrev pub Line : Type 0
 Line = argument_of (IsFirstLine [] [])
 
-abbrev PlayedLine : Type 0
+abbrev pub PlayedLine : Type 0
 PlayedLine = argument_of IsCounted
 
-abbrev Turn : Type 0
+abbrev pub Turn : Type 0
 Turn = argument_of IsTurn
 
-abbrev Act : Type 0
+abbrev pub Act : Type 0
 Act = argument_of (IsTurnOf A)
 
 -- an event asks for this
-abbrev Asks : Event → Act → Type 0
+abbrev pub Asks : Event → Act → Type 0
 Asks e act = option_map (λ t. t.act) (turn_of e) ≡ Some act
 
 -- ---- ends that have made no call
