@@ -34,6 +34,10 @@ Facts. A relation is a definition of the list that gives a statement of its argu
 A fact stands in a file of proofs/, below the line '-- yes: NAME' or '-- no: NAME' (or several names, with commas). Its type has to cite the relation of this name, and a 'no' ends in ⊥ or false. Where
 nothing can be refuted, a line '-- no: NAME: why' says so. Of a relation of APPLIED each field is applied, below '-- yes: NAME.FIELD': the type cites NAME, and what is below it cites the field. A fact
 in a file that others stand on may be named from elsewhere, by the line '-- yes: NAME, by FILE: FACT'. Status 1 where a fact is missing, or is none.
+
+A fact is of nothing where a premise says that something is None, but for a refusal that is None. It is so too where a premise says that something is [], or where the relation is given [], None or an Err, if
+the fact's type names no element of a list, no Some and no Ok. Premises are those of the type and of the modules round it. Such a fact is printed with '(of nothing)'. A relation whose facts are all of nothing is
+shown only where nothing is there: status 1, unless a line '-- nothing: NAME: why' says why that is enough. All this is read off the text: what an abbreviation or a number stands for is not seen.
 """
 import functools
 import glob
@@ -48,7 +52,14 @@ WORD = re.compile(r"[A-Za-z_][A-Za-z0-9_'?]*")
 CHAIN = re.compile(r"(?<![A-Za-z0-9_'?.])[A-Za-z_][A-Za-z0-9_'?]*(?:\.[A-Za-z_][A-Za-z0-9_'?]*)*")
 HEAD = re.compile(r"(?:abbrev|unfoldable|record|data|pub)\b(?!\s+mod\b)")
 IMPORT = re.compile(r"(?:ghost\s+)?use\s+([A-Za-z0-9_.]+?)(?:\.\{([^}]*)\}|\s+as\s+(\w+));?\s*$", re.M)
-MARK = re.compile(r"^ *-- (yes|no): ([^:\n]*)(?:: (.*))?$")
+MARK = re.compile(r"^ *-- (yes|no|nothing): ([^:\n]*)(?:: (.*))?$")
+MODULE = re.compile(r"( *)module _ (.*?) where$", re.M | re.S)
+# a premise that something is not there, one that something is empty, what shows something, and an argument that is nothing
+LACKS = re.compile(r"≡ None\)*\s*$")
+EMPTY = re.compile(r"≡ \[\]\)*\s*$")
+SHOWS = re.compile(r"∷|\b(?:Some|Ok)\b")
+NOTHING = re.compile(r"(?:\[\]|None|\(Err .*\))$", re.S)
+OF_NOTHING = " (of nothing)"
 # The relations that say what holds at each moment: each of their fields is applied.
 APPLIED = ("HoldsAt", "IsPlay", "IsReport")
 GHOST_FIELD = re.compile(r"ghost \w+: (\{.*?\})(?=,?\n)", re.S)
@@ -338,14 +349,46 @@ class Fact:
         while at < len(lines) and lines[at].lstrip().startswith("--"):
             at += 1
         head = re.match(r"( *)(?:abbrev |unfoldable )?(?:pub )?(?:abbrev )?(\S+) :(?= |$)", lines[at] if at < len(lines) else "")
-        self.name, self.type, self.text = head and head[2], "", ""
+        self.name, self.type, self.text, self.given = head and head[2], "", "", ""
         if head is None:
             return
+        indent = len(head[1])
+        for n in range(at - 1, -1, -1):
+            if lines[n].strip() and len(lines[n]) - len(lines[n].lstrip()) < indent and not lines[n].lstrip().startswith("--"):
+                module = MODULE.match("\n".join(lines[n:at]))
+                if module is None:
+                    break
+                indent, self.given = len(module[1]), f"{bare_text(module[2])} {self.given}"
         end = at + 1
         while end < len(lines) and (not lines[end].strip() or lines[end].startswith((head[1] + " ", head[1] + head[2] + " ", head[1] + "unfolding "))) and not lines[end].lstrip().startswith("--"):
             end += 1
         self.text = bare_text("\n".join(lines[at:end]))
         self.type = re.split(rf"^{head[1]}(?:unfolding|{re.escape(head[2])}) (?!:)", self.text[head.end() :], flags=re.M)[0].strip()
+
+    def is_of_nothing(self, name):
+        """Whether it shows the relation of this name only where nothing is there."""
+        whole = f"{self.given}→{self.type}"
+        premises = re.split(r"→|\) \(", whole)
+        if any(LACKS.search(it) and "refusal" not in it for it in premises):
+            return True
+        cited = [arguments(self.type, it.end()) for it in re.finditer(rf"(?<![\w.'?])(?:\w+\.)?{re.escape(name)}(?![\w.'?])", self.type)]
+        return not SHOWS.search(whole) and (any(EMPTY.search(it) for it in premises) or any(NOTHING.match(it) for given in cited for it in given))
+
+
+def arguments(text, at):
+    """What a word is applied to that ends there: words, and what brackets hold."""
+    found = []
+    while it := re.compile(r"\s*(\[\]|[^\s(){}\[\];,→≡≢×⊎∷]+|\()").match(text, at):
+        at = it.end()
+        if it[1] == "(":
+            start, depth = it.start(1), 1
+            while depth and at < len(text):
+                depth += (text[at] == "(") - (text[at] == ")")
+                at += 1
+            found.append(text[start:at])
+        else:
+            found.append(it[1])
+    return found
 
 
 @functools.cache
@@ -377,10 +420,10 @@ def read_marks(walk):
         name, _, field = word.partition(".")
         place, fact = fact_of(file, at, elsewhere)
         where = f"{file}:{at}: {side}: {word}"
-        if reason:
+        if reason or side == "nothing":
             own = {to for to in walk.seen if to[1] == name and to[0].endswith(".antt")}
-            if side != "no" or len(own) != 1:
-                wrong.append(f"{where}: only one definition of the list can have a reason, and only for 'no'")
+            if side == "yes" or not reason or len(own) != 1:
+                wrong.append(f"{where}: only one definition of the list can have a reason, and only for 'no' or 'nothing'")
             for to in own:
                 found.setdefault((to, field), {}).setdefault(side, []).append(f"none, {reason}")
             continue
@@ -395,14 +438,15 @@ def read_marks(walk):
         elif field and not re.search(rf"\.{field}\b", fact.text):
             wrong.append(f"{where}: {fact.name} does not apply the field")
         else:
-            found.setdefault((own, field), {}).setdefault(side, []).append(f"{place.removeprefix('crates/').removesuffix('.antt')}: {fact.name}")
+            of_nothing = OF_NOTHING if not field and fact.is_of_nothing(name) else ""
+            found.setdefault((own, field), {}).setdefault(side, []).append(f"{place.removeprefix('crates/').removesuffix('.antt')}: {fact.name}{of_nothing}")
     return found, wrong
 
 
 def report_facts(walk, roots):
     """Prints the facts of each relation, and returns the status."""
     found, wrong = read_marks(walk)
-    rows, relations, reasons, missing = [], 0, 0, 0
+    rows, relations, reasons, missing, empty = [], 0, 0, 0, 0
     files = dict.fromkeys(file for root in roots for file in walk.files(root))
     for to in (it for file in files if file.endswith(".antt") for it in walk.in_order(file)):
         definition = definitions(to[0])[to[1]]
@@ -416,9 +460,14 @@ def report_facts(walk, roots):
             missing += not facts
             reasons += any(it.startswith("none, ") for it in facts)
             rows.append(f"{to[1] + ('.' + field if field else ''):24} {side:3}  {'; '.join(facts) or 'MISSING'}")
+        shown = found.get((to, ""), {})
+        both = [it for side in ("yes", "no") for it in shown.get(side, [])]
+        if both and all(it.endswith(OF_NOTHING) for it in both) and "nothing" not in shown:
+            empty += 1
+            rows.append(f"{to[1]:24} is shown only where nothing is there")
     print("\n".join(rows + wrong))
-    print(f"facts: {relations} relations, {reasons} that nothing refutes, {missing} facts missing, {len(wrong)} marks wrong")
-    return 1 if missing or wrong else 0
+    print(f"facts: {relations} relations, {reasons} that nothing refutes, {missing} facts missing, {empty} shown only where nothing is there, {len(wrong)} marks wrong")
+    return 1 if missing or wrong or empty else 0
 
 
 # ---- Rust sources

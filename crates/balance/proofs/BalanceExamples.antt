@@ -24,7 +24,7 @@ use Rattle.safety.specs.Holdings.{Holding, terms_in, peer_in}
 use Rattle.safety.specs.Breaks.{Breaks}
 use Rattle.safety.specs.Passing.{IsReady}
 use Rattle.safety.specs.Resolutions.{Resolution, IsSlept, IsPaidOrLate}
-use Rattle.safety.proofs.Slots.{contains_first}
+use Rattle.safety.proofs.Slots.{contains_first, contains_later}
 use Rattle.safety.proofs.Lists.{none_some, contains_none}
 use Rattle.balance.specs.Claims.{AreWorth, AllAreWorth, ShareIsWorth}
 use Rattle.balance.specs.Own.{IsOwnPaidOrLate, OwnResolution, HasOwnShare}
@@ -78,6 +78,53 @@ module _ (h : Holding) (known : Htlc → Bool) (o p : Claimable) (three : o.plac
     -- no: AreWorth
     one_is_lost : (Held o → ⊥) → AreWorth h known two 1 9005 off Held → ⊥
     one_is_lost n w = n (w.each o (contains_first o (p ∷ [])))
+
+    -- the same of a commitment on which these are the claims. Of a capacity of 9 satoshis one is deducted
+    module _ (k : CommitmentState) (stands : ℕ → Bool) where
+      -- yes: AllAreWorth
+      all_of_two : staged stands (contents_of (terms_in h) k) ≡ two → fees_with stands (contents_of (terms_in h) k) ≡ 1 → (terms_in h).capacity_sat ≡ 9 → deducted_msat (all_deductions (terms_in h) k.view (peer_in h)) ≡ 1000
+          → o.place.outpoint ≢ p.place.outpoint → at_least_sat known h.state ≡ 7 → ((x : Claimable) → Contains two x → Held x) → AllAreWorth h known stands k Held
+      all_of_two e f c d n l held =
+          let v : value_of (staged stands (contents_of (terms_in h) k)) ≡ 7 = ap value_of e ∙ value in
+          record {
+            apart = subst (AllPairs AreApart) (sym e) (pair_apart n);
+            worth = omega (arith, v, f, c, d);
+            least = omega (arith, v, l);
+            each = λ x i. held x (subst (λ (xs : List Claimable). Contains xs x) e i);
+          }
+
+      -- no: AllAreWorth
+      of_two_in_a_larger_channel : staged stands (contents_of (terms_in h) k) ≡ two → fees_with stands (contents_of (terms_in h) k) ≡ 1 → (terms_in h).capacity_sat ≡ 10
+          → deducted_msat (all_deductions (terms_in h) k.view (peer_in h)) ≡ 1000 → AllAreWorth h known stands k Held → ⊥
+      of_two_in_a_larger_channel e f c d a =
+          let v : value_of (staged stands (contents_of (terms_in h) k)) ≡ 7 = ap value_of e ∙ value in
+          let w = a.worth in
+          omega (arith, v, f, c, d, w)
+
+      -- the node counts on 9,005 millisatoshis, of which 1,005 are deducted
+      module _ (own : Bool) where
+        -- yes: ShareIsWorth
+        share_of_two : counted own known stands (contents_of (terms_in h) k) ≡ two → fees_counted own known stands (contents_of (terms_in h) k) ≡ 1 → counted_msat known h.state.held.side k.view ≡ 9005
+            → deducted_msat (deductions (terms_in h) k.view own h.state.held.side known) ≡ 1005 → o.place.outpoint ≢ p.place.outpoint → at_least_sat known h.state ≡ 7 → ((x : Claimable) → Contains two x → Held x)
+            → ShareIsWorth h own known stands k Held
+        share_of_two e f c d n l held =
+            let v : value_of (counted own known stands (contents_of (terms_in h) k)) ≡ 7 = ap value_of e ∙ value in
+            record {
+              apart = subst (AllPairs AreApart) (sym e) (pair_apart n);
+              worth = omega (arith, v, f, c, d);
+              least = omega (arith, v, l);
+              each = λ x i. held x (subst (λ (xs : List Claimable). Contains xs x) e i);
+            }
+
+        -- no: ShareIsWorth
+        one_of_two_is_lost : counted own known stands (contents_of (terms_in h) k) ≡ two → (Held p → ⊥) → ShareIsWorth h own known stands k Held → ⊥
+        one_of_two_is_lost e n a = n (a.each p (subst (λ (xs : List Claimable). Contains xs p) (sym e) (contains_later o (p ∷ []) p (contains_first p []))))
+
+  -- what is lost of the two is neither there nor taken
+  module _ (hs : List Holding) (blocks : List Block) (k : CommitmentState) where
+    -- no: HasShare
+    second_of_two_is_lost : counted false known (λ _. false) (contents_of (terms_in h) k) ≡ two → (Resolution hs blocks (IsPaidOrLate (contents_of (terms_in h) k) p) p → ⊥) → HasShare hs blocks h known k → ⊥
+    second_of_two_is_lost = one_of_two_is_lost (λ x. Resolution hs blocks (IsPaidOrLate (contents_of (terms_in h) k) x) x) k (λ _. false) false
 
 -- ---- a commitment without outputs, since all that there is is dust
 

@@ -15,7 +15,7 @@ use Rattle.commit.specs.Commitments.{Contents}
 use Rattle.penalty.specs.declared.states.RevokedState.{RevokedState}
 use Rattle.penalty.specs.Claimable.{Claimable, commitment_in}
 use Rattle.safety.specs.Satisfying.{HasToken, HasKeyOf, HasPreimage, OnSatisfied, SatisfiesToLocal, SatisfiesOffered, SatisfiesReceived, SatisfiesFunding}
-use Rattle.safety.specs.Signing.{AreSame, digest_of}
+use Rattle.safety.specs.Signing.{Signed, AreSame, digest_of}
 use Rattle.safety.specs.Spending.{spend_on, IsPeerKeyOn, IsSignedBy, IsOwners, IsLate, CanSpend, by_peer, by_owner, by_collision, Waits}
 use Rattle.safety.specs.Ways.{by_owner as owner_takes, by_peer as peer_takes, by_htlc_transaction as htlc_takes, by_collision as collision_takes}
 use Rattle.safety.specs.Taking.{Collides, IsTaken}
@@ -179,8 +179,8 @@ module _ (t : Transaction) (input : TxIn) where
 
   module _ (s : RevokedState) (o : Claimable) (delay_blocks : (commitment_in s).delay_blocks ≡ 144) where
     -- yes: IsTaken
-    owner_takes_it : IsOwners (IsLate (commitment_in s) 100 244) (commitment_in s) o t input → IsTaken s o 100 244 t input []
-    owner_takes_it w = owner_takes w
+    owner_takes_it : (z : Signed) → IsOwners (IsLate (commitment_in s) 100 244) (commitment_in s) o t input → IsTaken s o 100 244 t input (z ∷ [])
+    owner_takes_it z w = owner_takes w
 
     -- no: IsTaken
     nobody_takes_it : (Collides s o t input [] → ⊥) → IsTaken s o 100 243 t input [] → ⊥
@@ -190,8 +190,8 @@ module _ (t : Transaction) (input : TxIn) where
     nobody_takes_it n (collision_takes c) = n c
 
     -- yes: Ending
-    owner_ends_it : IsOwners (IsLate (commitment_in s) 100 244) (commitment_in s) o t input → Ending s o 100 244 t input []
-    owner_ends_it w = owner_takes w
+    owner_ends_it : (z : Signed) → IsOwners (IsLate (commitment_in s) 100 244) (commitment_in s) o t input → Ending s o 100 244 t input (z ∷ [])
+    owner_ends_it z w = owner_takes w
 
     -- no: Ending
     nothing_ends_it : (Collides s o t input (signed_by_peer (commitment_in s) []) → ⊥) → Ending s o 100 243 t input [] → ⊥

@@ -307,8 +307,8 @@ module _ (s : RevokedState) (o : Claimable) (t : Transaction) (input : TxIn) (de
   nobody_by n (by_collision c) = n c
 
   -- yes: Fate
-  late_fate : IsOwners (IsLate (commitment_in s) 100 244) (commitment_in s) o t input → Fate s o 100 244 t input []
-  late_fate w = by_owner w
+  late_fate : (z : Signed) → IsOwners (IsLate (commitment_in s) 100 244) (commitment_in s) o t input → Fate s o 100 244 t input (z ∷ [])
+  late_fate z w = by_owner w
 
   -- yes: Fate
   claimed_again : IsClaimableAgain s 501 t input → Fate s o 100 501 t input []

@@ -96,7 +96,7 @@ module _ (hash : List ℕ) where
 
     -- A's updates come first in A's view, and second in B's
     -- yes: IsSoundBy
-    sound_by_a : terms.a.start_msat ≡ 600 → terms.capacity_sat ≡ 1 → IsSoundBy terms A (adding 5) []
+    sound_by_a : terms.a.start_msat ≡ 600 → terms.capacity_sat ≡ 1 → IsSoundBy terms A (Add (offer 5) ∷ []) []
     sound_by_a a c = record { a = omega (arith, a); b = omega arith; sum = omega (arith, a, of_b, c); few_of_a = lit≤ tt; few_of_b = lit≤ tt; heights_of_a = refl; heights_of_b = refl }
 
     -- no: IsSoundBy
@@ -109,7 +109,7 @@ module _ (hash : List ℕ) where
 
     module _ (h : Held) where
       -- yes: IsSoundIn
-      sound_in : terms.a.start_msat ≡ 600 → terms.capacity_sat ≡ 1 → IsSoundIn (record h { terms = terms; side = A }) (adding 5) []
+      sound_in : terms.a.start_msat ≡ 600 → terms.capacity_sat ≡ 1 → IsSoundIn (record h { terms = terms; side = A }) (Add (offer 5) ∷ []) []
       sound_in a c = record { a = omega (arith, a); b = omega arith; sum = omega (arith, a, of_b, c); few_of_a = lit≤ tt; few_of_b = lit≤ tt; heights_of_a = refl; heights_of_b = refl }
 
       -- no: IsSoundIn
