@@ -20,6 +20,9 @@ mod NumberExamples
 mod NodeExamples
 mod Queues
 mod Edges
+mod BroadcastSamples
+mod Broadcasts
+mod Outcomes
 mod Remaking
 mod Cuts
 mod Replies
