@@ -17,7 +17,7 @@ Life = collections.namedtuple("Life", "line calls step least")
 PROGRAMS = {
     "calls_memory": [Life("", {"decode": 11, "check": 73}, 1, {})],
     "chain_memory": [Life("", {"connect": 70, "disconnect": 54}, 11, {"connect": 8, "disconnect": 7})],
-    "channel_memory": [Life("short", {"receive": 91}, 1, {}), Life("long", {"receive": 330}, 31, {"receive": 12})],
+    "channel_memory": [Life("short", {"receive": 91}, 1, {}), Life("long", {"receive": 330}, 31, {"receive": 10})],
     "book_memory": [
         Life(
             "short",

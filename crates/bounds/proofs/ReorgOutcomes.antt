@@ -1,4 +1,4 @@
--- What becomes of an event that replaces blocks, at each bound: as many as some chain can replace, and one more; as many of their transactions as there are, and one more.
+-- How an event that replaces blocks is answered, at each bound: as many as some chain can replace, and one more; as many of their transactions as there are, and one more.
 use Rattle.std.proofs.Common.{◌≡◌, ℕ, Bool, true, false, List, [], ◌∷◌, length, take, Option, Some, None, refl, sym, arith}
 use Rattle.std.specs.Prelude.{if◌then◌else◌, nat_lt}
 use Rattle.std.proofs.lemmas.Bool.{true≢false}
