@@ -21,7 +21,7 @@ PROGRAMS = {
     "book_memory": [
         Life(
             "short",
-            {"open": 1, "step": 42, "sign": 35, "revoke": 4, "keep": 41, "keep_set": 1, "release": 13, "release_twice": 33, "release_again": 40, "close": 1, "revoked": 1, "known": 56},
+            {"open": 128, "step": 62, "sign": 52, "revoke": 4, "keep": 57, "keep_set": 1, "release": 28, "release_twice": 46, "release_again": 54, "close": 1, "revoked": 1, "known": 72},
             1,
             {},
         ),
@@ -29,7 +29,7 @@ PROGRAMS = {
             "long",
             {"open": 90, "step": 150, "sign": 68, "revoke": 6, "keep": 385, "release": 30, "revoked": 3, "known": 190, "dump": 1080, "load": 1780},
             997,
-            {"dump": 7, "load": 1},
+            {"dump": 7, "load": 12},
         ),
     ],
 }
