@@ -1,11 +1,11 @@
 """The tree of a channel's outputs: funding, the commitment that spends it, HTLC transactions and claims, each output coloured by who can spend it."""
-from drawing import element, figure, lines, markup, tooltip, words
-from story import kind_of, satoshis
+from drawing import element, figure, lines, markup, short_text, tooltip, words
+from story import kind_of, name_list, satoshis
 
 STEP = 13
 WIDE = 328
 MOST = 800
-BY = {"delay": "after the delay", "key": "with its key", "timeout": "by timeout", "preimage": "with the preimage", "revocation": "by revocation"}
+BY = {"delay": "after the delay", "key": "with its key", "timeout": "by timeout", "preimage": "if it has the preimage", "revocation": "by revocation"}
 
 
 class Tree:
@@ -36,17 +36,25 @@ class Tree:
         x = left + (40 if len(sides) == 2 else 26)
         inside.append(element("text", element("tspan", satoshis(output.value), class_="strong"), markup(f" {kind_of(output)}"), x=x, y=top + 17, class_="said"))
         inside.append(element("text", markup(status), x="100%", dx=-6, y=top + 17, class_="small soft end status", data_c=cell, data_part=1))
-        y, lined = small_lines(ways(output, [it for it in output.ways if it not in late]), x, top + 22)
+        terms = self.terms(output)
+        y, lined = small_lines([*map(short_text, terms), *ways(output, [it for it in output.ways if it not in late])], x, top + 22)
         inside += lined
         y, lined = small_lines(ways(output, late), x, y)
         y += 4
         grounds = [ground(first, left, top, y)]
         if late:
             grounds.append(self.late_part(late, [*([ground(sides, left, top, y)] if first != sides else []), *chip(sides.replace(first, ""), sides, left, top), *lined]))
-        self.parts.append(element("g", tooltip(output_text(output)), *grounds, *inside, class_=f"output {kind}", role="listitem", data_c=cell, data_part=0))
+        self.parts.append(element("g", tooltip(output_text(output, terms)), *grounds, *inside, class_=f"output {kind}", role="listitem", data_c=cell, data_part=0))
         self.y = y + 2
         for spend in output.spenders:
             self.spend(spend, depth + 1, left, top + 22, output is spend.inputs[0])
+
+    def terms(self, output):
+        """What an HTLC's output was offered for, as a list of a line."""
+        if output.kind != "htlc":
+            return []
+        digest = self.story.channels[output.channel].hashes[output.owner, output.more["id"]]
+        return [f"hash {digest}, until height {output.more['expiry']:,}"]
 
     def late_part(self, late, inside):
         """What an output has from the event on at which a way to spend it came."""
@@ -64,6 +72,10 @@ class Tree:
         fee = f", fee {satoshis(spend.fee)}" if spend.fee else ""
         self.parts.append(element("g", tooltip(f"{spend.said}{fee}; transaction {spend.txid}"), elbow, *name, status, class_=f"spend {kind}", role="listitem", data_c=cell, data_part=0))
         self.y += 9 + 15 * len(name)
+        if first and spend.without:
+            _, lined = small_lines([f"no output for {name_list(spend.without, lambda one: one[0], lambda one: one[1])}"], left + 4, self.y - 4)
+            self.parts.append(element("g", *lined, class_=f"spend {kind}", role="listitem", data_c=cell, data_part=0))
+            self.y += 15 * len(lined)
         rail = self.y - 3
         for output in spend.outputs if first else []:
             self.output(output, depth + 1, rail)
@@ -101,8 +113,8 @@ def way_start(way):
     return f", since event {way['since']:,}" if way["since"] >= 0 else ""
 
 
-def output_text(output):
-    return f"{kind_of(output)} of {satoshis(output.value)}: {'; '.join(ways(output, output.ways)) or 'of ' + ' and '.join(output.sides)}. Outpoint {output.outpoint}"
+def output_text(output, terms):
+    return f"{kind_of(output)} of {satoshis(output.value)}: {'; '.join([*terms, *ways(output, output.ways)]) or 'of ' + ' and '.join(output.sides)}. Outpoint {output.outpoint}"
 
 
 def picture(story, channel, now, wide=None, headed=False):

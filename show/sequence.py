@@ -1,5 +1,5 @@
 """The sequence of a scenario's events: both sides and the chain between them, time downwards, a row for each event."""
-from drawing import element, figure, lines, tooltip, words
+from drawing import element, figure, lines, short_text, tooltip, words
 from story import PEER, quantity
 
 LONG = 80
@@ -28,7 +28,7 @@ def lifelines(high):
 def texts(row, room):
     """The lines of a row's text, each with its kind: first what happens, then more of it, smaller."""
     found = [(line, "said") for line in lines(row.said, room, 13)]
-    return found + [(line, "small soft") for more in row.more for line in lines(more, room, 12)]
+    return found + [(line, "small soft") for more in row.few for line in lines(short_text(more), room, 12)]
 
 
 def row_parts(row, channels):
@@ -36,14 +36,18 @@ def row_parts(row, channels):
     blocks = row.actor == "chain" and not row.refused
     x, side = {"A": (GUTTER, ""), "B": ("100%", " end"), "chain": (f"{PLACES['chain']}%", " middle")}[row.actor]
     kind_of_all, shift = side + (" bad" if row.refused else ""), -6 if row.actor == "B" else None
-    written, y = [], 4
+    written, shapes, y = [], [], 4
     for line, kind in texts(row, BLOCK_ROOM if blocks else ROOM):
+        if kind != "said" and not shapes and row.arrows[:1] == [("from chain", row.actor)]:
+            # what a look found stands below its arrow
+            shapes = marks(row, y + 11)
+            y += 14
         y += 16
         written.append(words(x, y, line, kind + kind_of_all, dx=shift))
     if blocks:
         shapes = [element("rect", x="14%", y=5, width="84%", height=y + 3, rx=5, class_="block")]
         y += 2
-    else:
+    elif not shapes:
         shapes = marks(row, y + 11)
         y += 11 if len(row.arrows) < 2 else 21
     written.append(words(4, 20, row.number, "number"))
@@ -56,7 +60,7 @@ def row_parts(row, channels):
 
 def sentence(row, channels):
     place = f", channel {row.channel}" if channels > 1 and row.channel is not None else ""
-    said = "; ".join([row.said, *row.more]).replace("; takes", " takes", 1).replace("; of", " of", 1).replace("; until", " until", 1)
+    said = short_text("; ".join([row.said, *row.few])).replace("; takes", " takes", 1).replace("; of", " of", 1).replace("; until", " until", 1)
     return f"Event {row.number}{place}: {said}"
 
 

@@ -18,21 +18,20 @@ def scenario(told):
         place = f" (channel {row.channel})" if row.channel is not None and len(told.channels) > 1 else ""
         lines.append(f"{row.number:>4}  {row.said}{place}")
         lines += [f"      {it}" for it in row.more]
-    last = len(told.rows) - 1
     lines.append("")
     lines.append("At the end:" if told.end is not None else f"{told.stops()}:")
-    lines += [f"  {PANEL[name]}: {told.cells.value_at(cell, last)}" for name, cell in told.panel.items()]
+    lines += [f"  {PANEL[name]}: {told.panel_line(name, True)}" for name in told.panel]
     for channel in told.channels:
-        lines += end_lines(told, channel, last)
+        lines += end_lines(channel)
     return "".join(f"{it}\n" for it in lines)
 
 
-def end_lines(told, channel, last):
+def end_lines(channel):
     """How a channel stands after the last event."""
     a, undecided, fees, b = channel.money[-1][1]
     said = f"A {satoshis(a)}, B {satoshis(b)}" + (f", undecided {satoshis(undecided)}" if undecided else "") + (f", fees {satoshis(fees)}" if fees else "")
     lines = [f"Channel {channel.number}: {said}"]
-    return lines + [f"  {PANEL[name]}: {told.cells.value_at(cell, last)}" for name, cell in channel.cells.items()]
+    return lines + [f"  {PANEL[name]}: {channel.panel_line(name, True)}" for name in channel.cells]
 
 
 def book(lines):
@@ -54,7 +53,7 @@ def channel(it):
             held = it[name]
             lines.append(f"  {owner}'s commitment {held['number']}: {side} has {millisatoshis(held['balance'])}, {peer} {millisatoshis(held['peer_balance'])}, at a feerate of {held['feerate']:,}.")
     for htlc in it["htlcs"]:
-        lines.append(f"  HTLC {htlc['id']}, {htlc['direction']}: {millisatoshis(htlc['amount'])} until height {htlc['expiry']:,}, in {commitments(htlc)}.")
+        lines.append(f"  HTLC {htlc['id']}, {htlc['direction']}: {millisatoshis(htlc['amount'])} until height {htlc['expiry']:,}, hash {htlc['hash']}, in {commitments(htlc)}.")
     for close in it["closes"]:
         lines += claim_lines(close, side, peer)
     return lines
