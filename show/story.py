@@ -554,7 +554,7 @@ def tell(story, line, before):
     if answer.startswith("refused"):
         said, more = wish(story, event)
         if channel is not None and channel >= len(story.channels) == 1:
-            said = f"{said} in channel {channel}"
+            said = f"{said} (channel {channel})"
         more.append(refusal_words(answer, name))
         return Row(line["event"], said, more, channel, side, [], True, more)
     said, more, arrows, *few = TELL[name](story, line, event, before)
