@@ -4,7 +4,7 @@ import bisect
 from drawing import element, figure, markup, tooltip, words
 from story import satoshis
 
-HIGH = 56
+HIGH = 84
 TOP = 22
 NARROW = 328
 PARTS = ("A", "undecided", "fees", "B")

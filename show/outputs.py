@@ -114,6 +114,8 @@ def way_start(way):
 
 
 def output_text(output, terms):
+    if output.kind == "htlc":
+        terms = [*terms, f"number {output.more['index']} of the commitment's HTLCs with an output"]
     return f"{kind_of(output)} of {satoshis(output.value)}: {'; '.join([*terms, *ways(output, output.ways)]) or 'of ' + ' and '.join(output.sides)}. Outpoint {output.outpoint}"
 
 
