@@ -16,8 +16,10 @@ def input_fields(index, spent, outpoint):
     if spent.previous is not None:
         before = read_transaction(spent.previous)
         place = int.from_bytes(outpoint[32:], "little")
-        if bytes.fromhex(before.txid())[::-1] != outpoint[:32] or before.outputs[place : place + 1] != [spent.output]:
+        if bytes.fromhex(before.txid())[::-1] != outpoint[:32] or place >= len(before.outputs):
             raise Refused(f"OtherTransaction {index}")
+        if before.outputs[place] != spent.output:
+            raise Refused(f"OtherOutput {index}")
         fields[key_of(partial.NON_WITNESS_UTXO)] = spent.previous
     if scripts.is_script_hash(spent.output.program):
         fields[key_of(partial.WITNESS_SCRIPT)] = spent.script

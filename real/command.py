@@ -5,7 +5,7 @@ import sys
 from curve import Curve, Recorded
 from errors import NotRun, Refused
 
-REFUSED, WRONG_WORDS, NOT_RUN = 1, 2, 3
+REFUSED, WRONG_WORDS, NOT_RUN, LEFT = 1, 2, 3, 4
 MAX_INPUT = 4_194_304
 
 
@@ -20,6 +20,15 @@ def read_input():
     if len(data) > MAX_INPUT:
         raise Refused("TooLong")
     return data
+
+
+def say_notes(notes):
+    """Notes on standard error. Where that can't be written, nothing else changes."""
+    try:
+        for it in notes:
+            print(f"note: {it}", file=sys.stderr, flush=True)
+    except OSError:
+        pass
 
 
 def curve_of(record, instead):
@@ -47,7 +56,7 @@ def help_or_usage(words, text, usage):
 
 
 def ends(run, refusal="refused {}".format):
-    """Runs a tool to its end, and gives its status. A refusal is one line on standard output; a failed write is a status alone."""
+    """Runs a tool to its end, and gives its status. A refusal is one line on standard output, with its note on standard error; a failed write is a line there, unless nobody reads any more."""
     if sys.stdout is None:
         return REFUSED
     try:
@@ -55,6 +64,7 @@ def ends(run, refusal="refused {}".format):
             status = run()
         except Refused as why:
             print(refusal(why))
+            say_notes([why.note] if why.note else [])
             status = REFUSED
         except NotRun as why:
             print(f"real: not run: {why}", file=sys.stderr)
@@ -64,7 +74,9 @@ def ends(run, refusal="refused {}".format):
             status = NOT_RUN
         sys.stdout.flush()
         return status
-    except OSError:
+    except OSError as why:
         # what is left in the buffer can't be written either
         os.dup2(os.open(os.devnull, os.O_WRONLY), sys.stdout.fileno())
+        if not isinstance(why, BrokenPipeError):
+            say_notes([f"standard output can't be written: {why.strerror}"])
         return REFUSED

@@ -117,10 +117,11 @@ def keys_of(curve, bases, point, is_legacy):
 
 
 def private_keys_of(curve, bases, privates, secret, point, is_legacy):
-    """The private keys that sign penalties, by their public keys: from the private keys of the revocation and payment base points, in any order. One of the two may be missing."""
+    """The private keys that sign penalties, by their public keys: from the private keys of the revocation and payment base points, in any order. One of the two may be missing. Beside them the places
+    of keys that are that of neither base point; where all are, the first is refused."""
     if not privates:
         raise Refused("NoKey")
-    found = {}
+    found, unused = {}, []
     for place, private in enumerate(privates):
         if not curve.is_private(private):
             raise Refused(f"BadKey {place}")
@@ -131,5 +132,7 @@ def private_keys_of(curve, bases, privates, secret, point, is_legacy):
             key = derivation.derived_key(curve, base, point) if is_legacy else base
             found[key] = derivation.derived_private_key(private, base, point) if is_legacy else private
         else:
-            raise Refused(f"UnusedKey {place}")
-    return found
+            unused.append(place)
+    if not found:
+        raise Refused(f"UnusedKey {unused[0]}")
+    return found, unused

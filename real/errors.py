@@ -2,7 +2,11 @@
 
 
 class Refused(Exception):
-    """An input that is refused, by its name and the numbers that it carries."""
+    """An input that is refused, by its name and the numbers that it carries; and a note in words, if there is one."""
+
+    def __init__(self, name, note=None):
+        super().__init__(name)
+        self.note = note
 
 
 class NotRun(Exception):

@@ -1,4 +1,5 @@
 """Reads what real/judge is given: a transaction with the outputs that it spends, as lines or partially signed. Tested, not proved."""
+import hints
 import judging
 import partial
 import scripts
@@ -11,11 +12,11 @@ def output_of(number, line):
     """A value and a program, as line `number` of the input has them."""
     words = line.split(" ")
     if len(words) != 2 or not (words[0].isascii() and words[0].isdecimal() and len(words[0]) <= 16) or int(words[0]) > MAX_MONEY:
-        raise Refused(f"BadLine {number}")
+        raise Refused(f"BadLine {number}", f"line {number}: {hints.line_hint(line)}")
     try:
         return Output(int(words[0]), bytes_of(words[1]))
     except Refused:
-        raise Refused(f"BadLine {number}") from None
+        raise Refused(f"BadLine {number}", f"line {number}: {hints.line_hint(line)}") from None
 
 
 def read_lines(given):

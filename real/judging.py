@@ -9,6 +9,7 @@ from typing import Dict, List, Optional, Set
 import consensus
 import scripts
 import signatures
+import waiting
 from curve import Once
 from errors import Refused
 from transaction import Digests, Input, Output, Transaction, hash160
@@ -332,19 +333,33 @@ def answer(case, said, transaction, curve):
         raise conflict(case, said, transaction)
     found, relay = {"signatures": told_signatures(case), "digest": said["digest"]}, sorted(end.relay | broken_relay_rules(case))
     if "path" in said:
-        return {"answer": "clean", "path": said["path"], "counted": said["counted"], "height": said["height"], **found, "relay": relay}
-    stop = {"reason": said["stopped"], "opcode": said["opcode"], "op": said["op"], "byte": said["byte"], "says": says_of(said, case)}
-    stop = {"answer": "stricter here" if end.valid else "stops", **stop, "stack": stack_of_stop(case, said, spend, transaction), **found}
-    return {**stop, "relay": relay} if end.valid else stop
+        clean = {"answer": "clean", "path": said["path"], "counted": said["counted"], "height": said["height"]}
+        return {**clean, **found, "age": waiting.age_of(transaction, case.index), "relay": relay}
+    stack = stack_of_stop(case, said, spend, transaction)
+    stop = {"reason": said["stopped"], "opcode": said["opcode"], "op": said["op"], "byte": said["byte"], "says": says_of(said, case, stack, transaction)}
+    stop = {"answer": "stricter here" if end.valid else "stops", **stop, "stack": stack, **found}
+    return {**stop, "age": waiting.age_of(transaction, case.index), "relay": relay} if end.valid else stop
 
 
-def says_of(said, case):
+def says_of(said, case, stack, transaction):
     """Why a run stops, in words for real signatures."""
     if said["stopped"] == "FailedCheck TokenForm":
         return "a signature is neither empty nor in strict DER (BIP 66), or the script pushes it"
-    if said["stopped"] == "FalseEnd" and len(case.signed) > 1 and all(it.key for it in case.signed):
-        return f"{said['says']}; but each signature is valid for a key that stands here: are they in the order of the keys?"
+    if said["stopped"] in waiting.CAUSES:
+        return waiting.cause_of(said["stopped"], bytes.fromhex(stack[0]), transaction, case.given.sequence)
+    if said["stopped"] == "FalseEnd" and case.signed:
+        return f"{said['says']}; {false_end_of(case)}" if false_end_of(case) else said["says"]
     return said["says"]
+
+
+def false_end_of(case):
+    """What to look at first where a run with signatures ends with a false entry."""
+    keys = [it.key for it in case.signed]
+    if None in keys:
+        return f"item {case.signed[keys.index(None)].item} is valid for no key that stands here: compare the value of the spent output first"
+    if len(set(keys)) < len(keys):
+        return f"but two signatures are of one key, {next(it for it in keys if keys.count(it) > 1).hex()}"
+    return "but each signature is valid for a key that stands here: are they in the order of the keys?" if len(keys) > 1 else None
 
 
 def input_answer(case, said, transaction, curve):

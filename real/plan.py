@@ -7,13 +7,15 @@ from typing import Dict, List, Optional
 
 import scripts
 from errors import Refused, bytes_of
-from transaction import MAX_MONEY, Digests, Output, Transaction, read_transaction
+from transaction import MAX_MONEY, Digests, Output, Transaction, hash160, read_transaction
 
 KEY_SIZE, FINGERPRINT_SIZE, HARDENED = 33, 4, 1 << 31
 # more digits than any number of a plan has
 DIGITS = 20
 # more paths than a script may have, and a greater weight than a transaction of 4,000 inputs
 MAX_PATH = MAX_WEIGHT = 1 << 32
+# what may stand around JSON
+BLANKS = " \t\r\n"
 # the names of members that are said where they are unknown
 NAME = re.compile(r"\w{1,40}", re.ASCII)
 
@@ -94,6 +96,11 @@ class Shape:
             raise self.refusal(name)
         return found
 
+    def line(self, name):
+        """Bytes that may have been read from a file, with the end of its line."""
+        found = self.member(name, str)
+        return Shape({name: found.rstrip("\r\n")}, self.place).bytes(name)
+
     def objects(self, name, optional=False):
         return [Shape(it, f"{self.place}.{name}[{at}]".replace("plan.", "")) for at, it in enumerate(self.member(name, list, optional) or [])]
 
@@ -145,7 +152,7 @@ def read_input(shape):
 
 
 def check_input(plan, index, digests):
-    """Whether an input's parts fit each other: its script, its witness, the items that wait, and the digests."""
+    """Whether an input's parts fit each other: its script, its witness, the items that wait, the keys, and the digests."""
     it = plan.inputs[index]
     if not scripts.has_script(it.output.program, it.script):
         raise Refused(f"OtherScript {index}")
@@ -153,6 +160,9 @@ def check_input(plan, index, digests):
         raise Refused(f"OtherWitness {index}")
     if sorted(each.item for each in it.wanted) != [at for at, item in enumerate(it.witness) if item is None]:
         raise Refused(f"OtherPlaces {index}")
+    pushed = scripts.pushes(it.script)
+    if pushed is not None and any(each.key not in pushed and hash160(each.key) not in pushed for each in it.wanted):
+        raise Refused(f"OtherKey {index}")
     digest = digests.digest_of(index, it.script, it.output.value)
     if any(each.digest != digest for each in it.wanted):
         raise Refused(f"OtherDigest {index}")
@@ -180,12 +190,22 @@ def read_object(given, place):
     return Shape(value, place)
 
 
+def split_object(text):
+    """The JSON object that a text begins with, on one line or on several, and what stands after it. Of what is no JSON the first line stands for the object."""
+    text = text.lstrip(BLANKS)
+    try:
+        _, end = json.JSONDecoder(object_pairs_hook=members, parse_int=whole_number).raw_decode(text)
+    except (ValueError, RecursionError):
+        end = text.find("\n") if "\n" in text else len(text)
+    return text[:end], text[end:]
+
+
 def read_plan(given):
     """The plan that a JSON text tells."""
     shape = read_object(given, "plan").check_names("transaction", "fee", "weight", "inputs")
     # who makes a plan may say by which weight its fee is; nothing follows from it here
     shape.number("weight", MAX_WEIGHT, optional=True)
-    transaction = read_transaction(shape.bytes("transaction"), marked=False)
+    transaction = read_transaction(shape.line("transaction"), marked=False)
     plan = Plan(transaction, shape.number("fee", MAX_MONEY, optional=True), [read_input(it) for it in shape.objects("inputs")])
     if len(plan.inputs) != len(transaction.inputs) or any(it.script for it in transaction.inputs):
         raise Refused("OtherInputs")

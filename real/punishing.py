@@ -3,7 +3,9 @@ from dataclasses import dataclass
 from typing import Dict, List, Optional
 
 import commitment
+import hints
 import judging
+import numbering
 import scripts
 import signatures
 import whole
@@ -18,10 +20,17 @@ BASE_SIZE, MARKER_SIZE, INPUT_SIZE = 8, 2, 41
 # Bitcoin Core's default feerate for dust, and the sizes that it takes for the input that spends an output (GetDustThreshold)
 DUST_FEERATE_PER_KVB, PLAIN_INPUT_SIZE, WITNESS_INPUT_SIZE = 3_000, 148, 67
 MAX_FEERATE, MAX_HEIGHT, MAX_DELAY = 10_000_000, commitment.LOCKTIME_THRESHOLD - 1, 65_535
-MEMBERS = ("channel_type", "transaction", "secret", "delay_blocks", "htlcs", "bases", "funding_keys", "destination", "feerate_per_kw", "height", "confirmed_height")
+# the greatest feerate that is taken where a state has no other limit: 1,000 satoshis for a virtual byte
+MOST_FEERATE = 250_000
+MEMBERS = (
+    *("channel_type", "transaction", "secret", "delay_blocks", "htlcs", "bases", "funding_keys", "spent", "destination"),
+    *("feerate_per_kw", "most_feerate_per_kw", "height", "confirmed_height"),
+)
 BASES = ("revocation", "payment", "htlc", "owner_delayed", "owner_htlc")
 # more HTLCs than two sides of a channel may have (BOLT 2)
 MAX_HTLCS = 966
+# the shortest program by which a transaction of one input has the 65 bytes, without witnesses, that nodes pass on
+SHORTEST_PROGRAM = 5
 # what is answered of outputs
 TAKEN, TOO_LITTLE, NO_KEY = "taken", "too little to be passed on", "no key"
 
@@ -38,11 +47,17 @@ class State:
     bases: Dict[str, bytes]
     # both keys of the funding output, if they are told: the keys of the anchors
     funding_keys: List[bytes]
+    # the outputs that are told to be gone
+    spent: List[int]
     destination: bytes
     feerate_per_kw: int
     height: int
     # the height of the block that has the transaction, if one has it
     confirmed_height: Optional[int]
+
+
+# what is known of an output whose program is another
+NOTHING = commitment.Known("", b"", b"", [], b"")
 
 
 @dataclass
@@ -78,15 +93,55 @@ def read_funding_keys(shape):
     return [Shape({"key": it}, f"{shape.place}.funding_keys[{at}]").bytes("key", 33) for at, it in enumerate(found)]
 
 
+def read_spent(shape, transaction):
+    """The outputs that are gone, each once, in their order."""
+    found = shape.member("spent", list, optional=True) or []
+    for at, it in enumerate(found):
+        if type(it) is not int or not 0 <= it < len(transaction.outputs) or it in found[:at]:
+            raise shape.refusal(f"spent[{at}]")
+    return sorted(found)
+
+
+def read_destination(shape):
+    """A program that wallets have an address for. One of four bytes is none: a transaction of one input that pays to it is shorter than nodes pass on."""
+    try:
+        found = shape.bytes("destination")
+    except Refused as why:
+        raise Refused(str(why), hints.hex_hint(shape.member("destination", str))) from None
+    if not scripts.is_address(found) or len(found) < SHORTEST_PROGRAM:
+        raise shape.refusal("destination")
+    return found
+
+
+def read_feerate(shape):
+    """The feerate, within the limit that the state has for it."""
+    found, most = shape.number("feerate_per_kw", MAX_FEERATE), shape.number("most_feerate_per_kw", MAX_FEERATE, optional=True)
+    most = MOST_FEERATE if most is None else most
+    if found > most:
+        raise Refused(f"TooHighFeerate {most}", f"{found} satoshis for 1,000 units of weight are {found // 250} for a virtual byte; most_feerate_per_kw raises the limit")
+    return found
+
+
+def read_confirmed_height(shape, height):
+    """The height of the block that has the transaction, or null where none has it. It is always asked for: without it a deadline would be too late."""
+    if "confirmed_height" not in shape.value:
+        raise Refused(str(shape.refusal("confirmed_height")), "the height of the block that has the transaction is missing; null says that no block has it yet")
+    found = shape.number("confirmed_height", MAX_HEIGHT, optional=True)
+    if found is not None and found > height:
+        raise shape.refusal("confirmed_height")
+    return found
+
+
 def read_state(given):
     """The state that a JSON text tells."""
     shape = read_object(given, "state").check_names(*MEMBERS)
-    transaction = read_transaction(shape.bytes("transaction"))
+    transaction = read_transaction(shape.line("transaction"))
     bases = Shape(shape.member("bases", dict), "state.bases").check_names(*BASES)
     htlcs = [read_htlc(it) for it in shape.objects("htlcs")]
     if len(htlcs) > MAX_HTLCS:
         raise Refused("TooManyHtlcs")
-    found = State(
+    height = shape.number("height", MAX_HEIGHT)
+    return State(
         read_channel_type(shape),
         transaction,
         shape.bytes("secret", 32),
@@ -94,16 +149,12 @@ def read_state(given):
         htlcs,
         {name: bases.bytes(name, 33) for name in BASES},
         read_funding_keys(shape),
-        shape.bytes("destination"),
-        shape.number("feerate_per_kw", MAX_FEERATE),
-        shape.number("height", MAX_HEIGHT),
-        shape.number("confirmed_height", MAX_HEIGHT, optional=True),
+        read_spent(shape, transaction),
+        read_destination(shape),
+        read_feerate(shape),
+        height,
+        read_confirmed_height(shape, height),
     )
-    if not scripts.is_address(found.destination):
-        raise shape.refusal("destination")
-    if found.confirmed_height is not None and found.confirmed_height > found.height:
-        raise shape.refusal("confirmed_height")
-    return found
 
 
 def deadline_of(known, state):
@@ -125,10 +176,12 @@ def least_deadline(found):
 
 
 def split_outputs(state, table):
-    """The outputs that are the commitment's, and the indices of the others."""
-    takes, others = [], []
+    """The outputs that are the commitment's, and the indices of the others; without those that are told to be gone."""
+    takes, others, gone = [], [], set(state.spent)
     for index, output in enumerate(state.transaction.outputs):
         known = table.get(output.program)
+        if index in gone:
+            continue
         if known is None:
             others.append(index)
         else:
@@ -136,14 +189,21 @@ def split_outputs(state, table):
     return takes, others
 
 
-def names_of(state, keys, others):
-    """What other outputs of a channel with anchors are: to_remote and the anchors, which are not taken here."""
+def is_htlc_transaction(state, table):
+    """Whether the transaction is one that spends HTLCs of the commitment: it has an output with the script of to_local, and not the form of a commitment."""
+    is_delayed = any(table.get(it.program, NOTHING).kind == "to_local" for it in state.transaction.outputs)
+    return is_delayed and not numbering.has_form(state.transaction)
+
+
+def names_of(state, keys, table, others):
+    """What other outputs of a channel with anchors are, which are not taken here: to_remote and the anchors, and what its owner added to an HTLC transaction, all of whose own outputs have one script."""
     if state.channel_type != commitment.ANCHORS:
         return {}
     found, named = {}, {program: (kind, value) for program, kind, value in commitment.named_outputs(keys, state.funding_keys)}
+    added = ("added", None) if is_htlc_transaction(state, table) else (None, None)
     for index in others:
         output = state.transaction.outputs[index]
-        kind, value = named.get(output.program, (None, None))
+        kind, value = named.get(output.program, added)
         if kind is not None and value in (None, output.value):
             found.setdefault(kind, []).append(index)
     return {"named": found}
@@ -190,12 +250,13 @@ def is_joined(it, state, signing):
 
 
 def batches(takes, state, signing, is_one):
-    """One transaction for each output. Or one for all that can be joined, unless they have too little together, and one for each other output."""
+    """One transaction for each output. Or one for all that can be joined, unless they have too little together, and one for each other output. The dearest stands first."""
     joined = [it for it in takes if is_one and is_joined(it, state, signing)]
     if unsigned_transaction(state, joined)[0] is None:
         joined = []
     places = {it.index for it in joined}
-    return ([joined] if joined else []) + [[it] for it in takes if it.index not in places]
+    found = ([joined] if joined else []) + [[it] for it in takes if it.index not in places]
+    return sorted(found, key=lambda it: -sum(each.output.value for each in it))
 
 
 def signed_transaction(transaction, takes, signing, curve):
@@ -249,8 +310,9 @@ def penalties(state, privates, curve, trace, is_one=False, is_legacy=False):
         raise Refused("BadShape state.channel_type")
     point = curve.public_key(state.secret)
     keys = commitment.keys_of(curve, state.bases, point, is_legacy)
-    signing = commitment.private_keys_of(curve, state.bases, privates, state.secret, point, is_legacy)
-    takes, others = split_outputs(state, commitment.table_of(keys, state.delay_blocks, state.htlcs, state.channel_type))
+    signing, unused = commitment.private_keys_of(curve, state.bases, privates, state.secret, point, is_legacy)
+    table = commitment.table_of(keys, state.delay_blocks, state.htlcs, state.channel_type)
+    takes, others = split_outputs(state, table)
     # the judge lists all scripts by one call
     trace.paths([it.known.script for it in takes])
     found = {TAKEN: [], TOO_LITTLE: [], NO_KEY: []}
@@ -259,4 +321,12 @@ def penalties(state, privates, curve, trace, is_one=False, is_legacy=False):
         found[answer["answer"]] += answer["outputs"]
         yield answer
     taken, too_little, no_key = map(sorted, found.values())
-    yield {"transaction": state.transaction.txid(), "taken": taken, "too_little": too_little, "no_key": no_key, "others": others, **names_of(state, keys, others)}
+    last = {"transaction": state.transaction.txid(), "taken": taken, "too_little": too_little, "no_key": no_key, "others": others, **names_of(state, keys, table, others)}
+    optional = {"spent": state.spent, "unused_keys": unused}
+    yield {**last, **{name: it for name, it in optional.items() if it}}
+
+
+def is_left(last):
+    """Whether the last line says that something is left: an output that matches nothing and is not named, one whose key is missing, or a key that is that of neither base point."""
+    named = [at for it in last.get("named", {}).values() for at in it]
+    return bool(set(last["others"]) - set(named) or last["no_key"] or last.get("unused_keys"))

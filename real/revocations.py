@@ -4,10 +4,11 @@ import json
 import bolt3
 import commitment
 import derivation
+import noting
 import numbering
 import punishing
 from errors import Refused
-from transaction import Output, hash160, read_transaction, sha256
+from transaction import Input, Output, hash160, read_transaction, sha256
 
 # BOLT 3, Appendix E
 BASE_SECRET = bytes(range(32))
@@ -26,12 +27,12 @@ DUST_SAT = {
     "a914" + "c7" * 20 + "87": 540,
     "0020" + "c7" * 32: 330,
     "5120" + "c7" * 32: 330,
-    "51024e73": 240,
+    "5103c7c7c7": 243,
     "6028" + "c7" * 40: 354,
 }
 # no hash of a key or a script, no witness program of BIP 141
 NO_ADDRESSES = (
-    *("", "6a", "51", "00", "4f02c7c7", "6102c7c7", "5101c7", "5103c7c7", "5102c7c7c7", "21" + "c7" * 33 + "ac"),
+    *("", "6a", "51", "00", "4f02c7c7", "6102c7c7", "5101c7", "5103c7c7", "5102c7c7c7", "51024e73", "6002c7c7", "21" + "c7" * 33 + "ac"),
     *("0014" + "c7" * 19, "0014" + "c7" * 21, "0013" + "c7" * 19, "0020" + "c7" * 31, "0021" + "c7" * 33, "6029" + "c7" * 41),
     *("76a914" + "c7" * 19 + "88ac", "76a914" + "c7" * 20 + "88ad", "a914" + "c7" * 20 + "88", "a914" + "c7" * 21 + "87"),
 )
@@ -87,8 +88,18 @@ def state(told, case, curve, **changes):
         "destination": DESTINATION,
         "feerate_per_kw": 253,
         "height": HEIGHT,
+        "confirmed_height": None,
     }
     return {**found, **changes}
+
+
+def dearest(values, places=None):
+    """Places of outputs in the order in which they are told: the greatest value first."""
+    return sorted(range(len(values)) if places is None else places, key=lambda it: -values[it])
+
+
+def values_of(case):
+    return [it["value_sat"] for it in case["outputs"]]
 
 
 def penalties_of(given, curve, trace, privates=None, **options):
@@ -97,12 +108,13 @@ def penalties_of(given, curve, trace, privates=None, **options):
 
 
 def check_case(count, told, case, curve, trace):
-    """Each output of a case is taken on its own, in the order of outputs, with the value and the script of the appendix, its fee and its deadline."""
-    found = penalties_of(state(told, case, curve), curve, trace)
-    kinds, wanted = [it["kinds"] for it in found[:-1]], [[it["kind"]] for it in case["outputs"]]
+    """Each output of a case is taken on its own, the dearest first, with the value and the script of the appendix, its fee and its deadline."""
+    found, order = penalties_of(state(told, case, curve), curve, trace), dearest(values_of(case))
+    kinds, wanted = [it["kinds"] for it in found[:-1]], [[case["outputs"][it]["kind"]] for it in order]
     count.check(kinds == wanted, f"{case['name']}: {kinds}")
     check_last_line(count, case["name"], found, range(len(wanted)))
-    for index, (it, output) in enumerate(zip(found, case["outputs"])):
+    for index, it in zip(order, found):
+        output = case["outputs"][index]
         where = f"{case['name']}: output {index}"
         count.check(it["outputs"] == [index] and it["value"] == output["value_sat"], where)
         made = read_transaction(bytes.fromhex(it["transaction"]))
@@ -138,7 +150,7 @@ def check_one(count, told, case, curve, trace):
     free = [at for at, it in enumerate(case["outputs"]) if it["kind"] in ("to_local", "to_remote") or (it["kind"] == "offered" and it["cltv_expiry"] > HEIGHT)]
     count.check(found[0]["outputs"] == free, f"{case['name']}: together {found[0]['outputs']}")
     rest = [it["outputs"] for it in found[1:-1]]
-    count.check(rest == [[at] for at in range(len(case["outputs"])) if at not in free], f"{case['name']}: one by one {rest}")
+    count.check(rest == [[at] for at in dearest(values_of(case)) if at not in free], f"{case['name']}: one by one {rest}")
 
 
 def with_outputs(case, outputs):
@@ -158,7 +170,7 @@ def check_shared_program(count, told, case, curve, trace):
             found = penalties_of(given, curve, trace, is_one=True)
             joined = [1, 2, 3, 4] if left else [3, 4]
             check_last_line(count, where, found, range(5))
-            count.check([it["outputs"] for it in found[:-1]] == [joined, *([at] for at in range(5) if at not in joined)], f"{where}: together {found[0]['outputs']}")
+            count.check([it["outputs"] for it in found[:-1]] == [joined, *([at] for at in (1, 2, 0) if at not in joined)], f"{where}: together {found[0]['outputs']}")
             alone = {it["outputs"][0]: it["deadline_blocks"] for it in penalties_of(given, curve, trace)[:-1]}
             count.check(alone == {0: 0, 1: left, 2: left, 3: None, 4: 503 + 143 - height}, f"{where}: deadlines {alone}")
 
@@ -193,7 +205,7 @@ def check_joined_outputs(count, told, case, curve, trace):
         transaction = with_outputs(case, [(value, programs[it]) for value, it in zip(values, kinds)])
         found = penalties_of(state(told, case, curve, transaction=transaction, feerate_per_kw=feerate), curve, trace, is_one=True)
         check_last_line(count, f"outputs of {values}", found, together or [], little)
-        wanted = [*([together] if together else []), *([at] for at in little)]
+        wanted = [*([together] if together else []), *([at] for at in dearest(values, little))]
         count.check([it["outputs"] for it in found[:-1]] == wanted, f"outputs of {values}: together {[it['outputs'] for it in found[:-1]]}")
 
 
@@ -207,8 +219,10 @@ def check_missing_key(count, told, case, curve, trace):
             found = penalties_of(state(told, case, curve), curve, trace, [private_key(name)], is_one=is_one)
             check_last_line(count, f"the key of {name} alone", found, mine, no_key=lost)
             lines = [it for it in found[:-1] if it["answer"] == "no key"]
-            count.check([it["outputs"] for it in lines] == [[at] for at in lost] and {it["key"] for it in lines} == {missing}, f"the key of {name} alone: {lines}")
-            count.check([it["deadline_blocks"] for it in lines] == [deadline_of(outputs[at]) for at in lost], f"the key of {name} alone: deadlines {lines}")
+            order = dearest(values_of(case), lost)
+            count.check([it["outputs"] for it in lines] == [[at] for at in order] and {it["key"] for it in lines} == {missing}, f"the key of {name} alone: {lines}")
+            count.check([it["deadline_blocks"] for it in lines] == [deadline_of(outputs[at]) for at in order], f"the key of {name} alone: deadlines {lines}")
+            count.check(punishing.is_left(found[-1]), f"the key of {name} alone: nothing is left")
 
 
 def check_dust(count, told, case, curve):
@@ -322,7 +336,7 @@ def check_legacy_key(count, told, case, curve, trace):
     given["transaction"] = given["transaction"].replace(before, after)
     count.check(penalties_of(given, curve, trace)[-1]["others"] == [at], f"{case['name']}: a derived remote key is not the base point")
     found = penalties_of(given, curve, trace, is_legacy=True)
-    count.check(found[-1]["others"] == [] and found[at]["kinds"] == ["to_remote"], f"{case['name']}: a derived remote key")
+    count.check(found[-1]["others"] == [] and [it["kinds"] for it in found[:-1] if it["outputs"] == [at]] == [["to_remote"]], f"{case['name']}: a derived remote key")
 
 
 def with_anchors(told, case):
@@ -359,7 +373,8 @@ def check_anchors(count, told, case, curve, trace):
     given = anchored_state(told, case, curve, outputs)
     found = penalties_of(given, curve, trace)
     check_last_line(count, "anchors", found, mine, others=rest, named=named)
-    for at, it in zip(mine, found):
+    count.check(not punishing.is_left(found[-1]), "anchors: what is named is not left")
+    for at, it in zip(dearest([it[1] for it in outputs], mine), found):
         kind, value, script, _ = outputs[at]
         made = read_transaction(bytes.fromhex(it["transaction"]))
         between = "01" if kind == "to_local" else told["terms"]["keys"]["local_revocation_pubkey"]
@@ -380,7 +395,7 @@ def check_waits(count, told, case, curve, trace, outputs):
         found = penalties_of(anchored_state(told, case, curve, outputs, **changes), curve, trace)
         since = height + 1 if confirmed_height is None else confirmed_height
         wanted = []
-        for at in mine:
+        for at in dearest([it[1] for it in outputs], mine):
             kind, _, _, expiry = outputs[at]
             wanted.append({"to_local": since + 143 - height, "received": least, "offered": max(least, (expiry or 0) - height)}[kind])
         count.check([it["deadline_blocks"] for it in found[:-1]] == wanted, f"anchors at {height}, in {confirmed_height}: {[it['deadline_blocks'] for it in found[:-1]]}, and not {wanted}")
@@ -424,8 +439,99 @@ def anchored_state_and_table(given, curve):
 
 
 def output_names(given, curve, others):
-    found = punishing.read_state(json.dumps(given))
-    return punishing.names_of(found, keys_at(found, curve), others)
+    found, table = anchored_state_and_table(given, curve)
+    return punishing.names_of(found, keys_at(found, curve), table, others)
+
+
+def check_added(count, told, case, curve, trace):
+    """What the owner of a channel with anchors adds to an HTLC transaction is named, and nothing is left; and not where its own output matches nothing."""
+    outputs = with_anchors(told, case)
+    second = read_transaction(bytes.fromhex(case["htlc_transactions"][0]["unsigned_tx_no_witness"]), marked=False)
+    second.inputs.append(Input(bytes(31) + b"\x07" + bytes(4), b"", 0))
+    second.outputs.append(Output(7_000, bytes.fromhex(DESTINATION)))
+    given = anchored_state(told, case, curve, outputs, transaction=second.bytes().hex())
+    found = penalties_of(given, curve, trace)
+    check_last_line(count, "anchors: an HTLC transaction with change", found, [0], others=[1], named={"added": [1]})
+    count.check(not punishing.is_left(found[-1]), "anchors: what is added is not left")
+    for changes in ({"delay_blocks": 143}, {"channel_type": "static_remotekey"}):
+        others = [1] if "channel_type" in changes else [0, 1]
+        found = penalties_of({**given, **changes}, curve, trace)
+        count.check((found[-1]["others"], found[-1].get("named", {})) == (others, {}) and punishing.is_left(found[-1]), f"anchors: an HTLC transaction with {changes}: {found[-1]}")
+
+
+def check_spent(count, told, case, curve, trace):
+    """Outputs that are told to be gone are in no transaction and no other list."""
+    given, every = state(told, case, curve), range(len(case["outputs"]))
+    for gone in ([0], [len(every) - 1, 1], [*every]):
+        for is_one in (False, True):
+            found = penalties_of({**given, "spent": gone}, curve, trace, is_one=is_one)
+            left = [at for at in every if at not in gone]
+            wanted = {"taken": left, "too_little": [], "no_key": [], "others": [], "spent": sorted(gone)}
+            last = {name: it for name, it in found[-1].items() if name != "transaction"}
+            count.check(last == wanted and not punishing.is_left(last), f"spent {gone}: {last}")
+            count.check(sorted(at for it in found[:-1] for at in it["outputs"]) == left, f"spent {gone}: {[it['outputs'] for it in found[:-1]]}")
+    for bad, place in (([len(every)], 0), ([-1], 0), ([0, 0], 1), ([True], 0), (["0"], 0), ([0.0], 0)):
+        refuses(count, f"BadShape state.spent[{place}]", lambda it=bad: punishing.read_state(json.dumps({**given, "spent": it})))
+
+
+def check_keys(count, told, case, curve, trace):
+    """A key of neither base point is told, and what the others take is taken all the same; where none is of one, the first is refused."""
+    given, keys = state(told, case, curve), [private_key("revocation"), b"\x07" * 32, private_key("payment")]
+    found = penalties_of(given, curve, trace, keys)
+    last = found.pop()
+    count.check(last.pop("unused_keys", None) == [1] and punishing.is_left({**last, "unused_keys": [1]}) and not punishing.is_left(last), f"a key that is not used: {last}")
+    check_last_line(count, "a key that is not used", [*found, last], range(len(case["outputs"])))
+    refuses(count, "UnusedKey 0", lambda: penalties_of(given, curve, trace, keys[1:2]))
+
+
+def check_feerates(count, told, case, curve):
+    """The limit of a feerate, and one that the state sets, each on both sides."""
+    given = state(told, case, curve)
+    for changes, most in (({}, 250_000), ({"most_feerate_per_kw": 300}, 300), ({"most_feerate_per_kw": 10_000_000}, 10_000_000)):
+        count.check(punishing.read_state(json.dumps({**given, **changes, "feerate_per_kw": most})).feerate_per_kw == most, f"a feerate of {most}")
+        if most < 10_000_000:
+            refuses(count, f"TooHighFeerate {most}", lambda it=changes, most=most: punishing.read_state(json.dumps({**given, **it, "feerate_per_kw": most + 1})))
+    for name in ("feerate_per_kw", "most_feerate_per_kw"):
+        refuses(count, f"BadShape state.{name}", lambda it=name: punishing.read_state(json.dumps({**given, it: 10_000_001})))
+
+
+def notes_of(given, curve, trace):
+    read = punishing.read_state(json.dumps(given))
+    return list(noting.notes_of(read, penalties_of(given, curve, trace)))
+
+
+def check_notes(count, told, case, curve, trace):
+    """Each note is said where it holds, and not on the other side of that."""
+    good, outputs = state(told, case, curve), with_anchors(told, case)
+    second = case["htlc_transactions"][0]["unsigned_tx_no_witness"]
+    anchored = {**anchored_state(told, case, curve, outputs, transaction=second), "feerate_per_kw": 0}
+    at = next(at for at, it in enumerate(case["outputs"]) if it["kind"] == "to_local")
+    fee = TO_LOCAL_WEIGHT + REST_WEIGHT
+
+    def only_local(value, **changes):
+        return {**good, "transaction": with_outputs(case, [(value, case["outputs"][at]["script_pubkey"])]), **changes}
+
+    def many(number):
+        return {**good, "transaction": with_outputs(case, [(5_000, case["outputs"][at]["script_pubkey"])] * number)}
+
+    count.check(notes_of(only_local(1_000_000), curve, trace) == [], "a state without a note")
+    rows = [
+        ("with anchors the owner may add inputs", anchored, True),
+        ("with anchors the owner may add inputs", {**anchored, "confirmed_height": HEIGHT}, False),
+        ("with anchors the owner may add inputs", {**good, "transaction": second}, False),
+        ("with anchors the owner may add inputs", anchored_state(told, case, curve, outputs), False),
+        ("nodes pass on no transaction below", {**good, "feerate_per_kw": 252}, True),
+        ("the fee is above a tenth of the value: of outputs 0", only_local(10 * fee - 1, feerate_per_kw=1_000), True),
+        ("the fee is above a tenth", only_local(10 * fee, feerate_per_kw=1_000), False),
+        ("at this feerate too little is left to be passed on: of outputs 0", only_local(fee + 293, feerate_per_kw=1_000), True),
+        ("at this feerate too little", only_local(293), False),
+        ("of 25 transactions nodes are sure to take 24", many(25), True),
+        ("of 25 transactions nodes are sure to take 24", {**many(25), "confirmed_height": HEIGHT}, False),
+        ("of 24 transactions", many(24), False),
+    ]
+    for start, given, holds in rows:
+        found = notes_of(given, curve, trace)
+        count.check(any(it.startswith(start) for it in found) == holds, f"a note that begins {start!r}: {found}")
 
 
 def refuses(count, name, make):
@@ -441,7 +547,6 @@ def check_refusals(count, told, case, curve, trace):
     good = state(told, case, curve)
     rows = [
         ("NoKey", good, []),
-        ("UnusedKey 2", good, [private_key("revocation"), private_key("payment"), b"\x07" * 32]),
         ("BadKey 0", good, [bytes(32)]),
         ("BadSecret", {**good, "secret": "00" * 32}, None),
         ("BadShape state.bases.htlc", {**good, "bases": {**good["bases"], "htlc": "05" * 33}}, None),
@@ -454,6 +559,7 @@ def check_refusals(count, told, case, curve, trace):
         ("BadShape state.?", {**good, "height\n": HEIGHT}, None),
         ("BadShape state.?", {**good, "\ud800": HEIGHT}, None),
         ("BadShape state.confirmed_height", {**good, "confirmed_height": HEIGHT + 1}, None),
+        ("BadShape state.confirmed_height", {name: it for name, it in good.items() if name != "confirmed_height"}, None),
         ("BadShape state.channel_type", {**good, "channel_type": "anchor"}, None),
         ("BadShape state.channel_type", {**good, "channel_type": 22}, None),
         ("BadShape state.funding_keys", {**good, "funding_keys": ["02" * 33]}, None),
@@ -486,4 +592,9 @@ def all_of(count, curve, trace):
     check_numbers(count, told, curve)
     check_deadlines(count, told, case, curve)
     check_anchors(count, told, case, curve, trace)
+    check_added(count, told, case, curve, trace)
+    check_spent(count, told, case, curve, trace)
+    check_keys(count, told, case, curve, trace)
+    check_feerates(count, told, case, curve)
+    check_notes(count, told, case, curve, trace)
     check_refusals(count, told, case, curve, trace)

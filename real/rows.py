@@ -287,7 +287,8 @@ def keys_of_scripts():
     yield Spend(script, [A], lambda it: [b"", it[0], it[0]]).row("one key twice", clean_answer(0))
     script = b"\x52" + push(A.public) + push(B.public) + b"\x52\xae"
     yield Spend(script, [A, B], lambda it: [b"", *it]).row("2 of 2", clean_answer(0))
-    yield Spend(script, [A], lambda it: [b"", it[0], it[0]]).row("one signature twice", stops("FalseEnd", 5))
+    twice = f"the run ends with a false entry, as after a signature that is not the key's over the digest; but two signatures are of one key, {A.public.hex()}"
+    yield Spend(script, [A], lambda it: [b"", it[0], it[0]]).row("one signature twice", {**stops("FalseEnd", 5), "says": twice})
     yield Spend(script, [A, B], lambda it: [b"\x01", *it]).row("an extra item that is not empty", stops("FailedCheck Extra", 4))
     yield Spend(script, [A, B], lambda it: it).row("no extra item", stops("MissingOperand", 4))
     yield Spend(script, [], lambda it: [b"", b"", b""]).row("two empty signatures", stops("FalseEnd", 5))
@@ -295,21 +296,28 @@ def keys_of_scripts():
 
 def relative_locks():
     """BIPs 68 and 112: blocks and units of 512 seconds, what is off, and bits that nobody looks at."""
-    stop = stops("FailedCheck Sequence", 1)
+
+    def clean(age=None):
+        return {**clean_answer(0), "age": age}
+
+    def stop(wanted, found):
+        return {**stops("FailedCheck Sequence", 1), "says": f"the script asks for {wanted}, {found}"}
+
+    blocks = "an age of 144 blocks"
     rows = [
-        ("its own", "029000", 144, 2, clean_answer(0)),
-        ("one block less", "029000", 143, 2, stop),
-        ("version 1", "029000", 144, 1, stop),
-        ("version 80000000", "029000", 144, 1 << 31, clean_answer(0)),
-        ("a sequence that is off", "029000", OFF + 144, 2, stop),
-        ("a final sequence", "029000", built.FINAL, 2, stop),
-        ("blocks, where seconds are wanted", "03900040", 144, 2, stop),
-        ("seconds, where blocks are wanted", "029000", SECONDS + 144, 2, stop),
-        ("seconds", "03900040", SECONDS + 145, 2, clean_answer(0)),
-        ("bit 16, which nobody looks at", "03900001", 144, 2, clean_answer(0)),
-        ("65,535 blocks", "03ffff00", 0xFFFF, 2, clean_answer(0)),
-        ("a lock that is off", "050000008000", built.FINAL, 1, clean_answer(0)),
-        ("a negative lock", "029080", 144, 2, stop),
+        ("its own", "029000", 144, 2, clean({"blocks": 144})),
+        ("one block less", "029000", 143, 2, stop(blocks, "and the input's sequence has 143 blocks")),
+        ("version 1", "029000", 144, 1, stop(blocks, "and the transaction's version is 1: from 2 on sequences are ages")),
+        ("version 80000000", "029000", 144, 1 << 31, clean({"blocks": 144})),
+        ("a sequence that is off", "029000", OFF + 144, 2, stop(blocks, "and the input's sequence 80000090 is none: its highest bit is set")),
+        ("a final sequence", "029000", built.FINAL, 2, stop(blocks, "and the input's sequence ffffffff is none: its highest bit is set")),
+        ("blocks, where seconds are wanted", "03900040", 144, 2, stop("an age of 144 units of 512 seconds", "and the input's sequence has 144 blocks")),
+        ("seconds, where blocks are wanted", "029000", SECONDS + 144, 2, stop(blocks, "and the input's sequence has 144 units of 512 seconds")),
+        ("seconds", "03900040", SECONDS + 145, 2, clean({"units": 145})),
+        ("bit 16, which nobody looks at", "03900001", 144, 2, clean({"blocks": 144})),
+        ("65,535 blocks", "03ffff00", 0xFFFF, 2, clean({"blocks": 65_535})),
+        ("a lock that is off", "050000008000", built.FINAL, 1, clean()),
+        ("a negative lock", "029080", 144, 2, stop("the age -144", "which is negative")),
         ("a lock of 6 bytes", "06900000000001", 144, 2, stops("FailedCheck Number", 1)),
     ]
     for name, pushed, sequence, version, answer in rows:
@@ -319,17 +327,20 @@ def relative_locks():
 
 def absolute_locks():
     """BIP 65: heights and times, and a final input."""
-    stop = stops("FailedCheck LockTime", 1)
+
+    def stop(wanted, found):
+        return {**stops("FailedCheck LockTime", 1), "says": f"the script asks for the lock {wanted}, {found}"}
+
     rows = [
         ("its own", "02f401", 500, 0, clean_answer(0)),
-        ("one block less", "02f401", 499, 0, stop),
+        ("one block less", "02f401", 499, 0, stop("500", "and the transaction's lock time is 499")),
         ("version 2 and a sequence that is off", "02f401", 500, OFF, clean_answer(0)),
-        ("a final input", "02f401", 500, built.FINAL, stop),
-        ("a time, where a height is wanted", "02f401", 500_000_000, 0, stop),
-        ("a height, where a time is wanted", "040065cd1d", 499_999_999, 0, stop),
+        ("a final input", "02f401", 500, built.FINAL, stop("500", "and the input's sequence is ffffffff, which switches the transaction's lock time 500 off")),
+        ("a time, where a height is wanted", "02f401", 500_000_000, 0, stop("500, a height", "and the transaction's lock time is 500000000, a time in seconds")),
+        ("a height, where a time is wanted", "040065cd1d", 499_999_999, 0, stop("500000000, a time in seconds", "and the transaction's lock time is 499999999, a height")),
         ("a time", "040065cd1d", 500_000_000, 0, clean_answer(0)),
         ("the last time, of 5 bytes", "05ffffffff00", 0xFFFFFFFF, 0, clean_answer(0)),
-        ("a negative lock", "02f481", 500, 0, stop),
+        ("a negative lock", "02f481", 500, 0, stop("-500", "which is negative")),
         ("a lock of 6 bytes", "06f40100000001", 500, 0, stops("FailedCheck Number", 1)),
     ]
     for name, pushed, lock_time, sequence, answer in rows:

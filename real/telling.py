@@ -30,7 +30,27 @@ def count_of(count, word):
 def whole_page(it):
     fee = "a fee that is not known" if it["fee"] is None else f"a fee of {count_of(it['fee'], 'satoshi')}"
     faults = "".join(f"  fault   {each}: {FAULTS[each]}\n" for each in it["faults"])
-    return f"transaction {it['txid']}: {count_of(it['inputs'], 'input')}, {count_of(it['outputs'], 'output')}, {fee}\n{faults}"
+    return f"transaction {it['txid']}: {count_of(it['inputs'], 'input')}, {count_of(it['outputs'], 'output')}, {fee}\n{faults}{wait_line(it.get('lock'))}"
+
+
+WAITS = {
+    "above_height": "in a block above height {}",
+    "above_time": "once the median time past is above {}, in seconds since 1970",
+    "blocks": "after {} blocks: no block less than that above the spent output's takes it",
+    "units": "after {} units of 512 seconds of median time past",
+}
+
+
+def wait_line(wait):
+    """How long a transaction or one of its inputs has to wait, if it has."""
+    return "".join(f"  when    {WAITS[name].format(number)}\n" for name, number in (wait or {}).items())
+
+
+def signature_line(it):
+    """An item that is a signature, and of which key."""
+    if it["key"]:
+        return f"  signed  item {it['item']} by {it['key']}\n"
+    return f"  invalid item {it['item']}: a signature of no compressed key that stands here\n"
 
 
 def head(it):
@@ -51,7 +71,8 @@ def page(it):
     if "txid" in it:
         return whole_page(it)
     found = head(it)
-    found += "".join(f"  signed  item {each['item']} " + (f"by {each['key']}\n" if each["key"] else "by no compressed key that stands here\n") for each in it.get("signatures", []))
+    found += "".join(signature_line(each) for each in it.get("signatures", []))
     found += "".join(f"  stack   {each or '-'}\n" for each in it.get("stack", []))
+    found += wait_line(it.get("age"))
     found += "".join(f"  relay   {each}: {RELAY[each]}\n" for each in it.get("relay", []))
     return found + (f"  digest  {it['digest']}\n" if "digest" in it else "")

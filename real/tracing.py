@@ -28,6 +28,8 @@ class Trace:
         self.note(ran.stderr.decode(errors="replace"))
         if ran.returncode not in (0, 1):
             raise NotRun(f"{self.program} answers with status {ran.returncode}")
+        if not ran.stdout and text:
+            raise NotRun(f"{self.program} answers nothing, with status {ran.returncode}; standard error has what it says")
         try:
             return [json.loads(it) for it in ran.stdout.decode().splitlines()]
         except ValueError:

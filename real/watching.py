@@ -9,6 +9,7 @@ import channels
 import numbering
 import punishing
 from channels import HEIGHT
+from command import LEFT
 from electrum import ecc
 from electrum.crypto import sha256d
 from electrum.transaction import PartialTransaction, Transaction, TxOutput
@@ -76,7 +77,7 @@ def state_of(channel, raw):
         "destination": DESTINATION.hex(),
         "feerate_per_kw": FEERATES_PER_KW[channel.number % len(FEERATES_PER_KW)],
         "height": HEIGHT,
-        **({} if confirmed_height is None else {"confirmed_height": confirmed_height}),
+        "confirmed_height": confirmed_height,
     }
 
 
@@ -89,7 +90,7 @@ def by_program(channel, raw):
     lines = [json.dumps(state_of(channel, raw)), *(it.hex() for it in private_keys_of(channel))]
     words = [REVOKED, *(["--legacy"] if channel.is_legacy else [])]
     ran = subprocess.run(words, input="".join(f"{it}\n" for it in lines), stdout=subprocess.PIPE, stderr=subprocess.PIPE, text=True, timeout=SECONDS)
-    if ran.returncode not in (0, 1):
+    if ran.returncode not in (0, LEFT):
         raise NotRun(ran.stderr.strip().removeprefix("real: not run: "))
     return [json.loads(it) for it in ran.stdout.splitlines()], ran.returncode
 
@@ -98,7 +99,7 @@ def by_call(channel, raw, curve, trace):
     """The same, without a process of its own."""
     state = punishing.read_state(json.dumps(state_of(channel, raw)))
     found = list(punishing.penalties(state, private_keys_of(channel), curve, trace, is_legacy=channel.is_legacy))
-    return found, int(bool(found[-1]["others"] or found[-1]["no_key"]))
+    return found, LEFT if punishing.is_left(found[-1]) else 0
 
 
 def is_signed(made, output, known, signature):
@@ -149,12 +150,13 @@ def compare(tally, name, known, transaction, answered):
     outputs = transaction.outputs()
     own = [at for at, it in enumerate(outputs) if it.scriptpubkey in known]
     others = [at for at, it in enumerate(outputs) if it.scriptpubkey not in known]
-    little = [at for at, it in zip(own, answers) if outputs[at].value - it["fee"] < DUST_SAT]
+    dearest = sorted(own, key=lambda it: -outputs[it].value)
+    little = sorted(at for at, it in zip(dearest, answers) if outputs[at].value - it["fee"] < DUST_SAT)
     wanted = {"transaction": transaction.txid(), "taken": [at for at in own if at not in little], "too_little": little, "no_key": [], "others": others}
     tally.check(last == wanted, f"{name}: {last}, and not {wanted}")
-    tally.check(status == int(bool(others)), f"{name}: status {status}")
+    tally.check(status == (LEFT if others else 0), f"{name}: status {status}")
     tally.check(len(answers) == len(own), f"{name}: {len(answers)} answers")
-    for at, answer in zip(own, answers):
+    for at, answer in zip(dearest, answers):
         faults = faults_of(answer, transaction, at, known[outputs[at].scriptpubkey])
         tally.check(not faults, f"{name}: output {at}: {faults}")
     return answers, others
@@ -186,7 +188,7 @@ def check_itself(tally, answered, transaction, known):
         tally.check(found == [name], f"the comparison itself: {found}, and not {name}")
     wrong = {**last, "taken": last["taken"][1:], "others": last["taken"][:1]}
     little = {**last, "taken": last["taken"][1:], "too_little": [*last["taken"][:1], *last["too_little"]]}
-    rows = (([*answers[1:], last], status), ([*answers, last], 1 - status), ([*answers, wrong], status), ([*answers, little], status), ([*answers[::-1], last], status))
+    rows = (([*answers[1:], last], status), ([*answers, last], LEFT - status), ([*answers, wrong], status), ([*answers, little], status), ([*answers[::-1], last], status))
     for it in rows:
         quiet = Tally(is_quiet=True)
         compare(quiet, "", known, transaction, it)

@@ -1,5 +1,6 @@
 """What consensus refuses of a transaction as a whole, whatever its inputs' scripts say. Tested, not proved."""
 import scripts
+import waiting
 from transaction import MAX_MONEY
 
 # limits of a block, and so of each transaction in it (BIP 141)
@@ -63,4 +64,4 @@ def summary_of(transaction, spent):
         "TooManySigops": cost(transaction, spent) > MAX_SIGOPS,
     }
     found = {"txid": transaction.txid(), "wtxid": transaction.wtxid(), "inputs": len(transaction.inputs), "outputs": len(transaction.outputs), "fee": fee}
-    return {**found, "faults": [name for name, holds in faults.items() if holds]}
+    return {**found, "lock": waiting.lock_of(transaction), "faults": [name for name, holds in faults.items() if holds]}

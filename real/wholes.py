@@ -69,6 +69,26 @@ def check_outpoints(count):
     count.check(faults(same, spent_outputs(same)) == ["SameOutpoint"], "one outpoint twice")
 
 
+def check_locks(count):
+    """What a lock time asks for: nothing where all inputs are final."""
+    final = 0xFFFFFFFF
+    for lock_time, sequences, wanted in (
+        (0, (0,), None),
+        (1, (0,), {"above_height": 1}),
+        (499_999_999, (final - 1,), {"above_height": 499_999_999}),
+        (500_000_000, (0,), {"above_time": 500_000_000}),
+        (7, (final, final), None),
+        (7, (final, 0), {"above_height": 7}),
+    ):
+        it = transaction([(5, b"")], count=len(sequences))
+        it.lock_time = lock_time
+        for each, sequence in zip(it.inputs, sequences):
+            each.sequence = sequence
+        count.check(whole.summary_of(it, spent_outputs(it))["lock"] == wanted, f"a lock time of {lock_time} with {sequences}")
+    told = telling.page({**whole.summary_of(transaction([(5, b"")]), [None]), "lock": {"above_time": 9}})
+    count.check(told.endswith("  when    once the median time past is above 9, in seconds since 1970\n"), told)
+
+
 def check_sigops(count):
     """What signature checks cost: 4 in a program or an input's script, 1 in a witness."""
     for outputs, script, witness, wanted in (
@@ -95,4 +115,5 @@ def all_of(count):
     check_sums(count)
     check_outpoints(count)
     check_sigops(count)
+    check_locks(count)
     count.check(SEEN == set(telling.FAULTS), f"each fault is seen, and told in words: {SEEN}")
