@@ -246,7 +246,7 @@ def cut_lines(told):
         shown = list(map(id, few))
         rest = [it for it in told if id(it) not in shown]
         most = satoshis(max(worth for _, worth in rest))
-        lines.append(f"and 1 more of {most}" if len(rest) == 1 else f"and {len(rest):,} more of at most {most} each")
+        lines.append(f"and {len(rest):,} more of at most {most} each")
     return [line for said, _ in told for line in said], lines
 
 
@@ -695,7 +695,8 @@ def tell_look(story, line, event, before):
     few, rest = lines[:WHOLE_LISTS], ordered[WHOLE_LISTS:]
     if rest:
         left = [it["value"] for it, gone in rest if not gone]
-        few.append(f"and {len(rest):,} more, " + (f"of at most {satoshis(max(left))} each" if left else "spent or never to come"))
+        few += [f"and {len(left):,} more of at most {satoshis(max(left))} each"] if left else []
+        few += [f"and {len(rest) - len(left):,} more, spent or never to come"] if len(left) < len(rest) else []
     return f"{event[1]} looks: {quantity(len(claims), 'claim')}", lines, [("from chain", event[1])], few
 
 
