@@ -262,9 +262,10 @@ class Bench:
             return None
         # a hole that can't stand for the proof of its function
         odd = {tuple(it[1].split("/")) for it in (re.match(r"(?:\./)?proofs/(\S+)/Proof\.antt:.*error", line) for line in lines) if it} & (self.names - self.tried)
-        if odd and again:
-            self.tried |= odd
-            return self.fault(paths, again - 1)
+        if again:
+            # or all of them, where it is something else
+            self.tried |= odd or self.names
+            return self.fault(paths, again - 1 if odd else 0)
         said = [line for line in lines if "error" in line] or lines[-3:]
         return f"{'::'.join(wrong[0]) if wrong else self.crate} is not proved as it stands: {' '.join(said)[:300]}"
 
