@@ -206,7 +206,8 @@ impl Book {
         Ok(message)
     }
 
-    /// Receives a `revoke_and_ack` (BOLT 2) and returns the number of the revoked commitment. Refused with `NoSuchChannel`, else with the channel's refusal. A refusal leaves the book as it was.
+    /// Receives the peer's `revoke_and_ack` (BOLT 2), and revokes nothing of this side's own: that is what `step` answers to a signature. Returns the number of the revoked commitment. Refused with
+    /// `NoSuchChannel`, else with the channel's refusal. A refusal leaves the book as it was.
     pub fn revoke(
         &mut self,
         seat: u32,
@@ -256,8 +257,9 @@ impl Book {
         Ok(message)
     }
 
-    /// Keeps the penalties of the peer's revoked commitment of this number: accepted claims on exactly what it lets this side claim. Refused, in this order, with `NoSuchChannel`, `NotRevoked`,
-    /// `AlreadyKept`, and `OtherState` where the claims are not its penalty set. A refusal leaves the book as it was.
+    /// Keeps the penalties of the peer's revoked commitment of this number as claims, where `keep_set` keeps the same as a set: not two things, but one. They are accepted claims on exactly what
+    /// the commitment lets this side claim. Refused, in this order, with `NoSuchChannel`, `NotRevoked`, `AlreadyKept`, and `OtherState` where the claims are not its penalty set. A refusal leaves the
+    /// book as it was.
     pub fn keep(
         &mut self,
         seat: u32,
@@ -292,8 +294,8 @@ impl Book {
         Ok(())
     }
 
-    /// Keeps a penalty set that was built outside the book, as `keep` does its claims, with the same refusals in the same order. A set on the book's own revoked state of that number is not built again. A
-    /// refusal leaves the book as it was.
+    /// Keeps a penalty set that was built outside the book, as `keep` does its claims: one entry and the same refusals in the same order, so not both are called. A set on the book's own revoked
+    /// state of that number is not built again. A refusal leaves the book as it was.
     pub fn keep_set(
         &mut self,
         seat: u32,

@@ -16,7 +16,7 @@ use std::collections::{BTreeMap, BTreeSet};
 use std::marker::Model;
 use tx::{OutPoint, Tx, TxOut};
 
-/// A chain that finds outputs and ids by an index, in time logarithmic in their number. A block changes only the entries of its own
+/// A whole chain, and not only an index: it finds outputs and ids by an index, in time logarithmic in their number. A block changes only the entries of its own
 /// transactions: the outputs that they create, and those that their inputs spend. So the cost of connecting a block or taking it off depends
 /// on the block, not on the chain.
 #[derive(Drop)]

@@ -440,8 +440,8 @@ impl Channel {
         }
     }
 
-    /// Signs the peer's next commitment (BOLT 2, `commitment_signed`), and returns the message: refused as by [`ready`](Channel::ready). A refusal leaves the
-    /// channel as it was.
+    /// Signs the peer's next commitment (BOLT 2, `commitment_signed`), and returns the message: no question about the channel, but a step of it. Refused as
+    /// by [`ready`](Channel::ready). A refusal leaves the channel as it was.
     pub fn signed(&mut self) -> Result<Message, ChannelError>
         ensures message { IfOk result (λ m. m ≡ signature_message tokens_of self.old) }
         ensures ok { IfOk result (λ _. self.new ≡ after_sign self.old) }

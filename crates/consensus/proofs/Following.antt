@@ -1,5 +1,5 @@
 -- What each opcode leaves in consensus fits what the walk leaves.
-use Rattle.std.proofs.Common.{◌≡◌, ℕ, zero, suc, ◌+◌, ◌≤◌, Bool, true, false, not, ◌&&◌, ◌||◌, ◌==◌, List, [], ◌∷◌, length, take, drop, Option, Some, None, Result, Ok, Err, sym, ap, ◌∙◌, subst, refl, arith}
+use Rattle.std.proofs.Common.{◌≡◌, ℕ, zero, suc, ◌+◌, ◌≤◌, Bool, true, false, not, ◌&&◌, ◌==◌, List, [], ◌∷◌, length, take, drop, Option, Some, None, Result, Ok, Err, sym, ap, ◌∙◌, subst, refl, arith}
 use Rattle.std.specs.Prelude.{if◌then◌else◌, is_some, nat_lt, nat_le}
 use Rattle.std.specs.List.{list_any}
 use Rattle.std.specs.Str.{bytes_eq}
@@ -16,7 +16,8 @@ use Rattle.script.specs.Number.{number_of}
 use Rattle.script.specs.Step.{Elements, truth, flag, lock_passes, age_passes}
 use Rattle.consensus.specs.Values.{natural_of, is_der}
 use Rattle.consensus.specs.Machine.{Oracle, Left, leaves, ◌>>=◌, only_if, topmost, top_elements, count_of as count_in, answer_of, answer_of_all, multi_sig, check_lock as lock_checked, effect}
-use Rattle.consensus.specs.Words.{Word, item, known, hashed, sized, answer, top_of, below, known_flag, equal_of, truth_of}
+use Rattle.consensus.specs.Words.{Word, item, known, hashed, sized, answer, constant, shown, top_of, below, known_flag, equal_of, truth_of}
+use Rattle.consensus.specs.declared.faults.Fault.TheVariants as faults
 use Rattle.consensus.specs.Turns.{Step, next, ends, stops, goes, if_held, is_refused, is_no_key, check_sig, count_by, count_of, with_count, is_full, has_refused, signatures_turn, keys_turn, check_multi_sig, lock_by, check_lock, turn_of}
 use Rattle.consensus.proofs.Standing.{Stands, Fits, popped, dropped, known_is, flag_is, equal_is, size_is, hash_is}
 
@@ -39,26 +40,26 @@ follows_if true t o f = f
 follows_if false t o f = tt
 
 -- EQUALVERIFY
-held_is : (v : Word) (b : Bool) (w : List Word) (xs : Elements) → Stands v (flag b) → Fits w xs → Follows (if_held (truth_of v), w) (only_if b (leaves xs))
-held_is v false w xs s f = tt
-held_is item true w xs s f = f
-held_is (known c) true w xs s f = by_truth (truth c) (ap truth (sym s.0))
+held_is : (y : List ℕ) (v : Word) (b : Bool) (w : List Word) (xs : Elements) → Stands v (flag b) → Fits w xs → Follows (if_held y (truth_of v), w) (only_if b (leaves xs))
+held_is y v false w xs s f = tt
+held_is y item true w xs s f = f
+held_is y (known c) true w xs s f = by_truth (truth c) (ap truth (sym s.0))
   where
-    by_truth : (t : Bool) → t ≡ true → Follows (if_held (Some t), w) (leaves xs)
+    by_truth : (t : Bool) → t ≡ true → Follows (if_held y (Some t), w) (leaves xs)
     by_truth true e = f
     by_truth false e = absurd (false≢true e)
-held_is hashed true w xs s f = f
-held_is sized true w xs s f = f
-held_is answer true w xs s f = f
+held_is y hashed true w xs s f = f
+held_is y sized true w xs s f = f
+held_is y answer true w xs s f = f
 
 -- CHECKSIG
-known_signature : (e d n h : Bool) (w : List Word) (xs : Elements) → Fits w xs
-    → Follows (if not e && not d then (ends, w) else if n then (stops, w) else (if e then goes (known_flag false ∷ w) else (stops, w))) ((if e then Some false else only_if d (Some h)) >>= λ b. leaves (flag b ∷ xs))
-known_signature true d true h w xs f = tt
-known_signature true d false h w xs f = (flag_is false, f)
-known_signature false true true h w xs f = tt
-known_signature false true false h w xs f = tt
-known_signature false false n h w xs f = tt
+known_signature : (y : Step) (e d n h : Bool) (w : List Word) (xs : Elements) → Fits w xs
+    → Follows (if not e && not d then (y, w) else if n then (stops, w) else (if e then goes (known_flag false ∷ w) else (stops, w))) ((if e then Some false else only_if d (Some h)) >>= λ b. leaves (flag b ∷ xs))
+known_signature y true d true h w xs f = tt
+known_signature y true d false h w xs f = (flag_is false, f)
+known_signature y false true true h w xs f = tt
+known_signature y false true false h w xs f = tt
+known_signature y false false n h w xs f = tt
 
 any_signature : (n : Bool) (o : Option Bool) (w : List Word) (xs : Elements) → Fits w xs → Follows (if n then (stops, w) else goes (answer ∷ w)) (o >>= λ b. leaves (flag b ∷ xs))
 any_signature n None w xs f = tt
@@ -68,7 +69,7 @@ any_signature false (Some b) w xs f = (tt, f)
 signature_is : (holds : Oracle) (key sig : Word) (w : List Word) (k s : List ℕ) (xs : Elements) → Stands sig s → Fits w xs → Follows (check_sig key sig w) (answer_of holds k s >>= λ b. leaves (flag b ∷ xs))
 signature_is holds key (known b) w k s xs p f =
     let P : List ℕ → Type 0 = λ z. Follows (check_sig key (known b) w) (answer_of holds k z >>= λ a. leaves (flag a ∷ xs)) in
-    subst P (sym p.0) (known_signature (length b == 0) (is_der b) (is_no_key key) (holds k b) w xs f)
+    subst P (sym p.0) (known_signature (ends faults.Signature b) (length b == 0) (is_der b) (is_no_key key) (holds k b) w xs f)
 signature_is holds key item w k s xs p f = any_signature (is_no_key key) (answer_of holds k s) w xs f
 signature_is holds key hashed w k s xs p f = any_signature (is_no_key key) (answer_of holds k s) w xs f
 signature_is holds key sized w k s xs p f = any_signature (is_no_key key) (answer_of holds k s) w xs f
@@ -202,14 +203,14 @@ answer_stands : (m : ℕ) (z a : Bool) → (m == 0) ≡ z → (z ≡ true → So
 answer_stands m true a e h = let s : a ≡ true = ap (λ (o : Option Bool). unwrap_or o false) (h refl) in subst (λ (b : Bool). Stands (known_flag true) (flag b)) (sym s) (flag_is true)
 answer_stands m false a e h = tt
 
-ended_is : (r fu nk e z : Bool) (A : Option Bool) (m n : ℕ) (w : List Word) (xs : Elements) → (r ≡ true → A ≡ None) → (fu ≡ true → e ≡ false) → (m == 0) ≡ z → (z ≡ true → A ≡ Some true) → Fits w xs
-    → Follows (if r || fu then (ends, w) else if nk then (stops, w) else goes ((if z then known_flag true else answer) ∷ w)) (A >>= λ a. only_if e (Some (flag a ∷ xs, n)))
-ended_is r fu nk e z None m n w xs hr hf ez hz f = tt
-ended_is true fu nk e z (Some a) m n w xs hr hf ez hz f = absurd (none-some a (sym (hr refl)))
-ended_is false true nk true z (Some a) m n w xs hr hf ez hz f = absurd (true≢false (hf refl))
-ended_is false true nk false z (Some a) m n w xs hr hf ez hz f = tt
-ended_is false false true e z (Some a) m n w xs hr hf ez hz f = stops_follow w (only_if e (Some (flag a ∷ xs, n)))
-ended_is false false false e z (Some a) m n w xs hr hf ez hz f =
+ended_is : (y u : Step) (r fu nk e z : Bool) (A : Option Bool) (m n : ℕ) (w : List Word) (xs : Elements) → (r ≡ true → A ≡ None) → (fu ≡ true → e ≡ false) → (m == 0) ≡ z → (z ≡ true → A ≡ Some true) → Fits w xs
+    → Follows (if r then (y, w) else if fu then (u, w) else if nk then (stops, w) else goes ((if z then known_flag true else answer) ∷ w)) (A >>= λ a. only_if e (Some (flag a ∷ xs, n)))
+ended_is y u r fu nk e z None m n w xs hr hf ez hz f = tt
+ended_is y u true fu nk e z (Some a) m n w xs hr hf ez hz f = absurd (none-some a (sym (hr refl)))
+ended_is y u false true nk true z (Some a) m n w xs hr hf ez hz f = absurd (true≢false (hf refl))
+ended_is y u false true nk false z (Some a) m n w xs hr hf ez hz f = tt
+ended_is y u false false true e z (Some a) m n w xs hr hf ez hz f = stops_follow w (only_if e (Some (flag a ∷ xs, n)))
+ended_is y u false false false e z (Some a) m n w xs hr hf ez hz f =
     follows_if e (goes ((if z then known_flag true else answer) ∷ w)) (Some (flag a ∷ xs, n)) (answer_stands m z a ez hz, f)
 
 -- the extra item, given the keys and the signatures
@@ -217,7 +218,7 @@ extra_is : (holds : Oracle) (no_key : Bool) (n m : ℕ) (ks ss : Elements) (w : 
     → Follows (signatures_turn no_key m w) (topmost (drop m ss) >>= λ extra. answer_of_all holds (take n ks) (take m ss) >>= λ a. only_if (length extra.0 == 0) (Some (flag a ∷ extra.1, n)))
 extra_is holds no_key n m ks ss w f l a b =
     top_is (drop m w) (drop m ss) _ (signatures_turn no_key m w) (dropped m w ss f b) (λ x rest p g.
-    ended_is (has_refused m w) (is_full (top_of (drop m w))) no_key (length x == 0) (m == 0) (answer_of_all holds (take n ks) (take m ss)) m n (below (drop m w)) rest
+    ended_is (ends faults.Signature (constant (top_of w))) (ends faults.Extra (constant (top_of (drop m w)))) (has_refused m w) (is_full (top_of (drop m w))) no_key (length x == 0) (m == 0) (answer_of_all holds (take n ks) (take m ss)) m n (below (drop m w)) rest
     (refused_all holds n m ks ss w f l a b) (full_is (top_of (drop m w)) x p) refl (λ e. no_signatures holds (take n ks) ss m (eqb-true m 0 e)) g)
 
 -- the signatures, given the keys
@@ -250,7 +251,7 @@ follows holds s counted Size w (x ∷ xs) v f = let p = popped w x xs f in (size
 follows holds s counted Equal w (x ∷ y ∷ xs) v f = let p = popped w x (y ∷ xs) f in let q = popped (below w) y xs p.1 in (equal_is (top_of (below w)) (top_of w) y x q.0 p.0, q.1)
 follows holds s counted EqualVerify w (x ∷ y ∷ xs) v f =
     let p = popped w x (y ∷ xs) f in let q = popped (below w) y xs p.1 in
-    held_is (equal_of (top_of (below w)) (top_of w)) (bytes_eq y x) (below (below w)) xs (equal_is (top_of (below w)) (top_of w) y x q.0 p.0) q.1
+    held_is (shown (top_of w) (top_of (below w))) (equal_of (top_of (below w)) (top_of w)) (bytes_eq y x) (below (below w)) xs (equal_is (top_of (below w)) (top_of w) y x q.0 p.0) q.1
 follows holds s counted Hash160 w (x ∷ xs) v f = let p = popped w x xs f in (hash_is (top_of w) x p.0, p.1)
 follows holds s counted CheckSig w (k ∷ g ∷ xs) v f =
     let p = popped w k (g ∷ xs) f in let q = popped (below w) g xs p.1 in

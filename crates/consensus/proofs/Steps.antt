@@ -25,7 +25,7 @@ taken go next w t e = ap (λ (p : Step × List Word). by_step go p.0 p.1) e
 taken go after_else w t e = ap (λ (p : Step × List Word). by_step go p.0 p.1) e
 taken go after_end w t e = ap (λ (p : Step × List Word). by_step go p.0 p.1) e
 taken go both w t e = ap (λ (p : Step × List Word). by_step go p.0 p.1) e
-taken go ends w t e = ap (λ (s : Step). by_step go s t.1) e
+taken go (ends fault b) w t e = ap (λ (s : Step). by_step go s t.1) e
 taken go stops w t e = ap (λ (s : Step). by_step go s t.1) e
 
 -- a step and a stack are a turn to them
@@ -34,7 +34,7 @@ turn_is next w = refl
 turn_is after_else w = refl
 turn_is after_end w = refl
 turn_is both w = refl
-turn_is ends w = refl
+turn_is (ends fault b) w = refl
 turn_is stops w = refl
 
 pub turned : (s s' : Step) (w w' : List Word) → s ≡ s' → w ≡ w' → IsTurn s w (s', w')

@@ -41,7 +41,7 @@ low (Some p) go n = by_height (nat_le (length p.stack) MAX_STACK_SIZE)
     by_height true = n
     by_height false = refl
 
-limited : (b : Bool) (p : State) (f : State → Option State) (go : State → Bool) → Never (f p) go → onward ((only_if b (Some p) >>= f) >>= if_low) go ≡ false
+pub limited : (b : Bool) (p : State) (f : State → Option State) (go : State → Bool) → Never (f p) go → onward ((only_if b (Some p) >>= f) >>= if_low) go ≡ false
 limited true p f go n = low (f p) go n
 limited false p f go n = refl
 
@@ -62,17 +62,17 @@ IsPlace Running ifs branches = Runs ifs branches
 IsPlace (Skipping depth to_else) ifs branches = Skips depth to_else ifs branches
 IsPlace Lost ifs branches = Unit {0}
 
-runs_true : (ifs branches : List Bool) → Runs ifs branches → runs branches ≡ true
+pub runs_true : (ifs branches : List Bool) → Runs ifs branches → runs branches ≡ true
 runs_true [] [] r = refl
 runs_true (e ∷ ifs) (b ∷ branches) r = ap (λ (c : Bool). c && runs branches) r.0 ∙ runs_true ifs branches r.1
 runs_true [] (b ∷ branches) r = absurd r
 runs_true (e ∷ ifs) [] r = absurd r
 
-and_false_right : (a b : Bool) → b ≡ false → (a && b) ≡ false
+pub and_false_right : (a b : Bool) → b ≡ false → (a && b) ≡ false
 and_false_right true b e = e
 and_false_right false b e = refl
 
-runs_false : (depth : ℕ) (to_else : Bool) (ifs branches : List Bool) → Skips depth to_else ifs branches → runs branches ≡ false
+pub runs_false : (depth : ℕ) (to_else : Bool) (ifs branches : List Bool) → Skips depth to_else ifs branches → runs branches ≡ false
 runs_false zero t (e ∷ ifs) (b ∷ branches) r = ap (λ (c : Bool). c && runs branches) r.0
 runs_false (suc d) t (e ∷ ifs) (b ∷ branches) r = and_false_right b (runs branches) (runs_false d t ifs branches r)
 runs_false zero t [] branches r = absurd r
@@ -81,7 +81,7 @@ runs_false (suc d) t [] branches r = absurd r
 runs_false (suc d) t (e ∷ ifs) [] r = absurd r
 
 -- at the end
-end_is : (branches : List Bool) (xs : Elements) (w : List Word) → is_refused_end w ≡ true → Fits w xs → is_clean_end branches xs ≡ false
+pub end_is : (branches : List Bool) (xs : Elements) (w : List Word) → is_refused_end w ≡ true → Fits w xs → is_clean_end branches xs ≡ false
 end_is (b ∷ branches) xs w e f = refl
 end_is [] [] w e f = refl
 end_is [] (x ∷ y ∷ xs) w e f = refl
@@ -102,7 +102,7 @@ abbrev pub mode_if : Bool → Mode
 mode_if true = Running
 mode_if false = Skipping 0 true
 
-opened_place : (t : Bool) (ifs branches : List Bool) → Runs ifs branches → IsPlace (mode_if t) (false ∷ ifs) (t ∷ branches)
+pub opened_place : (t : Bool) (ifs branches : List Bool) → Runs ifs branches → IsPlace (mode_if t) (false ∷ ifs) (t ∷ branches)
 opened_place true ifs branches r = (refl, r)
 opened_place false ifs branches r = (refl, (λ e. absurd (true≢false e)), r)
 
@@ -132,13 +132,13 @@ not_if_is go w hashed x p e = either_way go w (not (truth x)) e
 not_if_is go w sized x p e = either_way go w (not (truth x)) e
 not_if_is go w answer x p e = either_way go w (not (truth x)) e
 
-opened_runs : (test : List ℕ → Bool) (r : Bool) (branches : List Bool) (xs : Elements) (c : ℕ) (w : List Word) (go : State → Bool) → r ≡ true → Fits w xs
+pub opened_runs : (test : List ℕ → Bool) (r : Bool) (branches : List Bool) (xs : Elements) (c : ℕ) (w : List Word) (go : State → Bool) → r ≡ true → Fits w xs
     → ((x : List ℕ) (rest : Elements) → Stands (top_of w) x → Fits (below w) rest → go (state (test x ∷ branches) rest c) ≡ false) → Never (opened test r (state branches xs c)) go
 opened_runs test false branches xs c w go e f h = absurd (false≢true e)
 opened_runs test true branches [] c w go e f h = tt
 opened_runs test true branches (x ∷ xs) c w go e f h = let p = popped w x xs f in h x xs p.0 p.1
 
-opened_skips : (test : List ℕ → Bool) (r : Bool) (branches : List Bool) (xs : Elements) (c : ℕ) (go : State → Bool) → r ≡ false
+pub opened_skips : (test : List ℕ → Bool) (r : Bool) (branches : List Bool) (xs : Elements) (c : ℕ) (go : State → Bool) → r ≡ false
     → go (state (false ∷ branches) xs c) ≡ false → Never (opened test r (state branches xs c)) go
 opened_skips test true branches xs c go e h = absurd (true≢false e)
 opened_skips test false branches xs c go e h = h
@@ -151,22 +151,22 @@ ran_is go next w (Some l) branches c last f e h = h l.0 l.1 e f
 ran_is go stops w (Some l) branches c last f e h = absurd (false≢true e)
 ran_is go s w (Some l) branches c last f e h = absurd f
 
-ran_runs : (holds : Oracle) (s : Spend) (op : Op) (r : Bool) (branches : List Bool) (xs : Elements) (c : ℕ) (go : State → Bool) → r ≡ true
+pub ran_runs : (holds : Oracle) (s : Spend) (op : Op) (r : Bool) (branches : List Bool) (xs : Elements) (c : ℕ) (go : State → Bool) → r ≡ true
     → Never (effect holds s c op xs >>= λ l. Some (state branches l.0 (c + l.1))) go → Never (ran holds s op r (state branches xs c)) go
 ran_runs holds s op true branches xs c go e n = n
 ran_runs holds s op false branches xs c go e n = absurd (false≢true e)
 
-ran_skips : (holds : Oracle) (s : Spend) (op : Op) (r : Bool) (p : State) (go : State → Bool) → r ≡ false → go p ≡ false → Never (ran holds s op r p) go
+pub ran_skips : (holds : Oracle) (s : Spend) (op : Op) (r : Bool) (p : State) (go : State → Bool) → r ≡ false → go p ≡ false → Never (ran holds s op r p) go
 ran_skips holds s op true p go e n = absurd (true≢false e)
 ran_skips holds s op false p go e n = n
 
 next_op : (holds : Oracle) (s : Spend) (op : Op) (ops : List Op) (branches : List Bool) (xs : Elements) (c : ℕ) → Never (past holds s op (state branches xs (c + op_count op))) (ends_well holds s ops) → ends_well holds s (op ∷ ops) (state branches xs c) ≡ false
 next_op holds s op ops branches xs c n = limited (nat_le (c + op_count op) MAX_OPS_PER_SCRIPT) (state branches xs (c + op_count op)) (past holds s op) (ends_well holds s ops) n
 
-deeper : (d : ℕ) → suc d ≡ d + 1
+pub deeper : (d : ℕ) → suc d ≡ d + 1
 deeper d = omega arith
 
-not_zero : (d : ℕ) → (suc d == 0) ≡ false
+pub not_zero : (d : ℕ) → (suc d == 0) ≡ false
 not_zero d = ne_eqb (suc d) 0 (λ e. omega (arith, e))
 
 module _ (holds : Oracle) (s : Spend) where
@@ -233,7 +233,7 @@ short_onto : (witness below : List (List ℕ)) → list_any is_long witness ≡ 
 short_onto [] below e a = a
 short_onto (x ∷ witness) below e a = let n = neither (is_long x) (list_any is_long witness) e in short_onto witness (x ∷ below) n.1 (ltb-false MAX_SCRIPT_ELEMENT_SIZE (length x) n.0, a)
 
-short_items : (witness : List (List ℕ)) → list_any is_long witness ≡ false → AreShort (reverse witness)
+pub short_items : (witness : List (List ℕ)) → list_any is_long witness ≡ false → AreShort (reverse witness)
 short_items witness e = short_onto witness [] e tt
 
 pub nobody : (ops : List Op) → All IsOp ops → is_balanced ops [] ≡ true → ends_as_in_consensus ops ≡ true → NobodySpends ops

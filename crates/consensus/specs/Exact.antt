@@ -24,7 +24,7 @@ by_step go next w = go Running w
 by_step go after_else w = go (Skipping 0 true) w
 by_step go after_end w = go (Skipping 0 false) w
 by_step go both w = go Running w && go (Skipping 0 true) w
-by_step go ends w = true
+by_step go (ends fault b) w = true
 by_step go stops w = false
 
 -- an entry is false whatever the witness has

@@ -4,3 +4,4 @@ pub mod Balance
 pub mod Words
 pub mod Turns
 pub mod Exact
+pub mod Ways

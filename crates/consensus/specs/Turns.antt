@@ -1,5 +1,5 @@
 -- Where a branch goes after an opcode, by what its stack has; and where it ends by a rule that is stricter than consensus.
-use Rattle.std.specs.Prelude.{◌≡◌, ℕ, ◌≤◌, Bool, true, false, ◌&&◌, ◌||◌, ◌==◌, not, nat_lt, is_some, if◌then◌else◌, List, [], ◌∷◌, length, take, drop, Option, Some, None, Result, Ok, Err}
+use Rattle.std.specs.Prelude.{◌≡◌, ℕ, ◌≤◌, Bool, true, false, ◌&&◌, ◌==◌, not, nat_lt, is_some, if◌then◌else◌, List, [], ◌∷◌, length, take, drop, Option, Some, None, Result, Ok, Err}
 use Rattle.std.specs.List.{list_any}
 use Rattle.script.specs.declared.opcode.Op.{Op}
 use Rattle.script.specs.declared.opcode.Op.TheVariants.{Push, Number, If, NotIf, Else, EndIf, Drop, Dup, Swap, Size, Equal, EqualVerify, Hash160, CheckSig, CheckMultiSig, CheckLockTimeVerify, CheckSequenceVerify}
@@ -9,17 +9,19 @@ use Rattle.consensus.specs.declared.branches.Turn.{Turn}
 use Rattle.consensus.specs.declared.branches.Turn.TheVariants as turns
 use Rattle.consensus.specs.declared.branches.Count.{Count}
 use Rattle.consensus.specs.declared.branches.Count.TheVariants as counts
-use Rattle.consensus.specs.Words.{Word, known, answer, first_bytes, known_flag, top_of, below, truth_of, size_of, hash_of, equal_of}
+use Rattle.consensus.specs.declared.faults.Fault.{Fault}
+use Rattle.consensus.specs.declared.faults.Fault.TheVariants as faults
+use Rattle.consensus.specs.Words.{Word, known, answer, first_bytes, bytes_of, constant, shown, known_flag, top_of, below, truth_of, size_of, hash_of, equal_of}
 use Rattle.consensus.specs.Values.{natural_of, is_der}
 use Rattle.consensus.specs.Machine.{count_of as count_in}
 
--- to the next opcode; after the ELSE; after the ENDIF; both to the next opcode and after the ELSE; nowhere, as in consensus; nowhere, by a stricter rule, or the script does not determine where
+-- to the next opcode; after the ELSE; after the ENDIF; both to the next opcode and after the ELSE; nowhere, as in consensus, by a fault of these bytes; nowhere, by a stricter rule, or the script does not determine where
 pub data Step : Type 0 where
   next : Step
   after_else : Step
   after_end : Step
   both : Step
-  ends : Step
+  ends : Fault → List ℕ → Step
   stops : Step
 
 abbrev pub step_of : Turn → Step
@@ -27,7 +29,7 @@ step_of turns.Next = next
 step_of turns.AfterElse = after_else
 step_of turns.AfterEndIf = after_end
 step_of turns.Splits = both
-step_of turns.Ends = ends
+step_of (turns.Ends fault bytes) = ends fault (bytes_of bytes)
 step_of (turns.EndsStrictly rule bytes) = stops
 step_of turns.Lost = stops
 
@@ -42,7 +44,7 @@ IsWithin limit (counts.Ends t) = Unit {0}
 
 -- a turn and the stack after it, of which nothing is said where the branch ends
 abbrev pub IsTurn : Step → List Word → Step × List Word → Type 0
-IsTurn ends w t = t.0 ≡ ends
+IsTurn (ends fault b) w t = t.0 ≡ ends fault b
 IsTurn stops w t = t.0 ≡ stops
 IsTurn next w t = t ≡ (next, w)
 IsTurn after_else w t = t ≡ (after_else, w)
@@ -58,10 +60,10 @@ if_truth runs None = both
 if_truth runs (Some true) = if runs then next else after_else
 if_truth runs (Some false) = if runs then after_else else next
 
--- at EQUALVERIFY
-abbrev pub if_held : Option Bool → Step
-if_held (Some false) = ends
-if_held o = next
+-- at EQUALVERIFY, of which these bytes are shown
+abbrev pub if_held : List ℕ → Option Bool → Step
+if_held b (Some false) = ends faults.Unequal b
+if_held b o = next
 
 -- bytes of the script that consensus takes as no signature of any key (BIP 66)
 abbrev pub is_refused : Word → Bool
@@ -78,11 +80,11 @@ signature_turn x w = goes (answer ∷ w)
 
 -- CHECKSIG, by the key, the signature and what is below
 abbrev pub check_sig : Word → Word → List Word → Step × List Word
-check_sig key signature w = if is_refused signature then (ends, w) else if is_no_key key then (stops, w) else signature_turn signature w
+check_sig key signature w = if is_refused signature then (ends faults.Signature (constant signature), w) else if is_no_key key then (stops, w) else signature_turn signature w
 
 -- the number that consensus takes is one here if it is minimally encoded
 abbrev pub count_by : List ℕ → Option ℕ → Result ℕ Step
-count_by b None = Err ends
+count_by b None = Err (ends faults.Count b)
 count_by b (Some n) = if is_some (number_of 4 b) then Ok n else Err stops
 
 -- the count from 0 to a limit that an entry encodes
@@ -106,11 +108,13 @@ signatures_answer m = if m == 0 then known_flag true else answer
 abbrev pub has_refused : ℕ → List Word → Bool
 has_refused m w = nat_lt 0 m && is_refused (top_of w)
 
-abbrev pub extra_turn : Bool → Bool → ℕ → Word → List Word → Step × List Word
-extra_turn refused no_key m extra w = if refused || is_full extra then (ends, w) else if no_key then (stops, w) else goes (signatures_answer m ∷ w)
+-- by the topmost signature and the extra item
+abbrev pub extra_turn : Bool → Bool → ℕ → Word → Word → List Word → Step × List Word
+extra_turn refused no_key m signature extra w = if refused then (ends faults.Signature (constant signature), w) else if is_full extra then (ends faults.Extra (constant extra), w)
+    else if no_key then (stops, w) else goes (signatures_answer m ∷ w)
 
 abbrev pub signatures_turn : Bool → ℕ → List Word → Step × List Word
-signatures_turn no_key m w = extra_turn (has_refused m w) no_key m (top_of (drop m w)) (below (drop m w))
+signatures_turn no_key m w = extra_turn (has_refused m w) no_key m (top_of w) (top_of (drop m w)) (below (drop m w))
 
 abbrev pub keys_turn : ℕ → List Word → Step × List Word
 keys_turn n w = with_count (count_of n (top_of (drop n w))) (λ m. signatures_turn (list_any is_no_key (take n w)) m (below (drop n w)))
@@ -120,7 +124,7 @@ abbrev pub check_multi_sig : List Word → Step × List Word
 check_multi_sig w = with_count (count_of 20 (top_of w)) (λ n. keys_turn n (below w))
 
 abbrev pub lock_by : List ℕ → Option ℕ → Step
-lock_by b None = ends
+lock_by b None = ends faults.Lock b
 lock_by b (Some n) = if is_some (number_of 5 b) then next else stops
 
 -- CHECKLOCKTIMEVERIFY and CHECKSEQUENCEVERIFY, which leave the lock
@@ -140,7 +144,7 @@ turn_of Dup w = goes (top_of w ∷ top_of w ∷ below w)
 turn_of Swap w = goes (top_of (below w) ∷ top_of w ∷ below (below w))
 turn_of Size w = goes (size_of (top_of w) ∷ top_of w ∷ below w)
 turn_of Equal w = goes (equal_of (top_of (below w)) (top_of w) ∷ below (below w))
-turn_of EqualVerify w = (if_held (truth_of (equal_of (top_of (below w)) (top_of w))), below (below w))
+turn_of EqualVerify w = (if_held (shown (top_of w) (top_of (below w))) (truth_of (equal_of (top_of (below w)) (top_of w))), below (below w))
 turn_of Hash160 w = goes (hash_of (top_of w) ∷ below w)
 turn_of CheckSig w = check_sig (top_of w) (top_of (below w)) (below (below w))
 turn_of CheckMultiSig w = check_multi_sig w

@@ -35,6 +35,15 @@ word_of Answer = answer
 abbrev pub words : List Entry → List Word
 words entries = map word_of entries
 
+-- the bytes of an entry that the script determines, and none of another one
+abbrev pub constant : Word → List ℕ
+constant (known b) = b
+constant x = []
+
+-- the bytes of the lower of two entries, or of the upper one where the lower one has none
+abbrev pub shown : Word → Word → List ℕ
+shown top second = if length (constant second) == 0 then constant top else constant second
+
 -- the entry on top, below the last of which are the items of the witness
 abbrev pub top_of : List Word → Word
 top_of [] = item

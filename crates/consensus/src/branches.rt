@@ -8,11 +8,12 @@ ghost use Rattle.script.specs.Spelling.{IsOp};
 ghost use Rattle.consensus.specs.Balance.{is_balanced};
 ghost use Rattle.consensus.specs.Machine.{NobodySpends};
 ghost use Rattle.consensus.specs.Values.{natural_of};
-ghost use Rattle.consensus.specs.Words.{bytes_of, words, word_of, truth_of, top_of, below};
+ghost use Rattle.consensus.specs.Words.{bytes_of, words, word_of, constant, shown as shown_of, truth_of, top_of, below};
 ghost use Rattle.consensus.specs.Turns.{step_of, count_step, IsWithin, IsTurn, goes, keys_turn, signatures_turn, if_truth, if_held, is_refused as is_refused_of, is_no_key, signature_turn, check_sig as checked_sig, count_by, lock_by, count_of as counted, is_full as is_full_of, has_refused, check_multi_sig as checked_multi_sig, check_lock as checked_lock, turn_of};
 ghost use Rattle.consensus.specs.Exact.{depth_of, mode_at_first, mode_after, by_step, is_exact, goes_on, is_exact_from, are_exact_from, is_false as is_false_word, ends_refused, ends_as_in_consensus};
 
-use crate::entries::{Bytes, Entry, pop, push};
+use crate::entries::{Bytes, Entry, pop, push, shown};
+use crate::faults::Fault;
 use crate::numbers::read_natural;
 use crate::signatures::is_der;
 use lists::Stack;
@@ -63,8 +64,8 @@ pub enum Turn {
     AfterEndIf,
     /// Both to the next opcode and after the ELSE.
     Splits,
-    /// It ends, as in consensus.
-    Ends,
+    /// It ends, as in consensus, by a fault of these bytes.
+    Ends(Fault, Bytes),
     /// It ends by a rule that is stricter than consensus.
     EndsStrictly(Rule, Bytes),
     /// The script does not determine where: a count is not one of its constants. A listed script has no such count.
@@ -249,8 +250,8 @@ fn go_on(
     }
 }
 
-// How a branch goes on after an opcode that it skips.
-fn skipped(op: &Op, depth: usize, to_else: bool) -> Mode
+/// How a branch goes on after an opcode that it skips.
+pub fn skipped(op: &Op, depth: usize, to_else: bool) -> Mode
     requires { depth + 1 < 2 ^ 64 }
     ensures mode { result ≡ mode_after op.now depth to_else }
     ensures depth { depth_of result ≤ depth + 1 }
@@ -297,7 +298,7 @@ fn take_turn(
             wait(waiting, index + 1, stack)?;
             Ok(Some(Mode::Running))
         }
-        Turn::Ends => Ok(None),
+        Turn::Ends(_, _) => Ok(None),
         Turn::Lost => Ok(Some(Mode::Lost)),
         Turn::EndsStrictly(rule, bytes) => {
             let op = index;
@@ -341,8 +342,8 @@ fn is_kept(ends: &[StrictEnd], end: StrictEnd) -> bool
     false
 }
 
-// Applies an opcode to a stack, and returns where the branch goes.
-fn make_turn(op: &Op, stack: &mut Stack<Entry>) -> Result<Turn, AllocError>
+/// Applies an opcode to a stack, and returns where the branch goes.
+pub fn make_turn(op: &Op, stack: &mut Stack<Entry>) -> Result<Turn, AllocError>
     ensures { IfOk result (λ t. IsTurn (step_of t) (words stack.new)
         (turn_of op.now (words stack.old))) }
 {
@@ -450,7 +451,7 @@ fn insist(stack: &mut Stack<Entry>) -> Turn
 {
     let top = pop(stack);
     let second = pop(stack);
-    insisted(&second.equal(&top))
+    insisted(&second.equal(&top), shown(&top, &second))
 }
 
 // Where a branch goes at an IF (`runs` is true) or a NOTIF (`runs` is false).
@@ -464,12 +465,12 @@ fn branched(runs: bool, condition: &Entry) -> Turn
     }
 }
 
-// The branch goes on only if the condition holds.
-fn insisted(condition: &Entry) -> Turn
-    ensures { step_of result ≡ if_held (truth_of (word_of condition.now)) }
+// The branch goes on only if the condition holds, of which these bytes are shown.
+fn insisted(condition: &Entry, bytes: Bytes) -> Turn
+    ensures { step_of result ≡ if_held (bytes_of bytes) (truth_of (word_of condition.now)) }
 {
     match condition.truth() {
-        Some(false) => Turn::Ends,
+        Some(false) => Turn::Ends(Fault::Unequal, bytes),
         _ => Turn::Next,
     }
 }
@@ -510,7 +511,7 @@ fn check_sig(stack: &mut Stack<Entry>) -> Result<Turn, AllocError>
     let key = pop(stack);
     let signature = pop(stack);
     if is_refused_signature(&signature) {
-        return Ok(Turn::Ends);
+        return Ok(Turn::Ends(Fault::Signature, signature.constant()));
     }
     match bad_key(&key) {
         Some(bytes) => Ok(Turn::EndsStrictly(Rule::Key, bytes)),
@@ -555,10 +556,10 @@ fn count_of(limit: usize, entry: &Entry) -> Count
             if count <= limit as u64 {
                 minimal_count(count as usize, bytes)
             } else {
-                Count::Ends(Turn::Ends)
+                Count::Ends(Turn::Ends(Fault::Count, *bytes))
             }
         }
-        None => Count::Ends(Turn::Ends),
+        None => Count::Ends(Turn::Ends(Fault::Count, *bytes)),
     }
 }
 
@@ -610,6 +611,16 @@ fn pop_signatures(stack: &mut Stack<Entry>, count: usize) -> bool
     is_refused
 }
 
+// The bytes of the entry on top that the script determines.
+fn top_constant(stack: &Stack<Entry>) -> Bytes
+    ensures { bytes_of result ≡ constant (top_of (words stack.now)) }
+{
+    match stack.top() {
+        Some(entry) => entry.constant(),
+        None => Bytes::new(&[]),
+    }
+}
+
 // Whether an extra item of the script is not empty (BIP 147).
 fn is_full(extra: &Entry) -> bool
     ensures { result ≡ is_full_of (word_of extra.now) }
@@ -650,10 +661,14 @@ fn take_signatures(
 ) -> Result<Turn, AllocError>
     ensures { IfOk result (λ t. IsTurn (step_of t) (words stack.new) (signatures_turn (is_some no_key) count (words stack.old))) }
 {
+    let signature = top_constant(stack);
     let is_refused = pop_signatures(stack, count);
     let extra = pop(stack);
-    if is_refused || is_full(&extra) {
-        return Ok(Turn::Ends);
+    if is_refused {
+        return Ok(Turn::Ends(Fault::Signature, signature));
+    }
+    if is_full(&extra) {
+        return Ok(Turn::Ends(Fault::Extra, extra.constant()));
     }
     if let Some(bytes) = no_key {
         return Ok(Turn::EndsStrictly(Rule::Key, bytes));
@@ -688,6 +703,6 @@ fn lock_turn(bytes: &Bytes) -> Turn
             Some(_) => Turn::Next,
             None => Turn::EndsStrictly(Rule::Number, *bytes),
         },
-        None => Turn::Ends,
+        None => Turn::Ends(Fault::Lock, *bytes),
     }
 }

@@ -3,7 +3,7 @@
 
 ghost use Rattle.std.specs.Prelude.{◌≡◌, ◌≤◌, OnOk, ◌∷◌, length};
 ghost use Rattle.script.specs.Number.{number_of};
-ghost use Rattle.consensus.specs.Words.{bytes_of, first_bytes, word_of, words, known, known_flag, truth_of, size_of, hash_of, equal_of, answer_if as answered_if, is_length, top_of, below};
+ghost use Rattle.consensus.specs.Words.{bytes_of, constant, shown as shown_of, first_bytes, word_of, words, known, known_flag, truth_of, size_of, hash_of, equal_of, answer_if as answered_if, is_length, top_of, below};
 
 use digest::hash160;
 use lists::Stack;
@@ -73,6 +73,16 @@ impl Entry {
             Entry::known(&[1])
         } else {
             Entry::known(&[])
+        }
+    }
+
+    /// The bytes that the script determines; none if it does not.
+    pub fn constant(&self) -> Bytes
+        ensures { bytes_of result ≡ constant (word_of self.now) }
+    {
+        match self {
+            Entry::Known(bytes) => *bytes,
+            _ => Bytes::new(&[]),
         }
     }
 
@@ -157,6 +167,18 @@ fn is_size(bytes: &[u8]) -> bool
     match read(bytes, Limit::Count) {
         Some(number) => { !number.negative && number.magnitude <= MAX_SCRIPT_ELEMENT_SIZE as u64 }
         None => false,
+    }
+}
+
+/// The bytes of the lower of two entries, or of the upper one where the lower one has none.
+pub fn shown(top: &Entry, second: &Entry) -> Bytes
+    ensures { bytes_of result ≡ shown_of (word_of top.now) (word_of second.now) }
+{
+    let bytes = second.constant();
+    if bytes.as_slice().is_empty() {
+        top.constant()
+    } else {
+        bytes
     }
 }
 

@@ -1,9 +1,9 @@
 //! Notes on the output of the program `enforce`, for a person at a prompt.
 //!
 //! [`notes_of`] makes a text from the words of a call, its status and the input that was read. It says where a script or a scenario is at fault, what bytes and texts look
-//! like that are no witness script, which branches ended by a rule that is stricter than consensus, which paths no witness meets, and what endangers money. It is a pure
-//! function, proved not to panic. What it says is tested, not proved. [`scenario_notes`] is the part of it that reads a scenario. [`Kept`] is a reader that keeps what passes
-//! through it.
+//! like that are no witness script, which branches ended by a rule that is stricter than consensus, which paths no witness meets, what endangers money, which
+//! member of a scenario stands twice, and which HTLC of a payment in parts is not fulfilled. It is a pure function, proved not to panic. What it says is tested, not proved, but for whether a member stands twice (`json_names`).
+//! [`scenario_notes`] is the part of it that reads a refused scenario, and [`repeat_notes`] the part on members. [`Kept`] is a reader that keeps what passes through it.
 //!
 //! `script_notes` makes the notes on scripts, messages and wrong words. `enforce` writes the notes on standard error, after all that `enforce_words` printed. They change no status.
 //! `trace` has them in what it tells.
@@ -17,11 +17,18 @@
 #![tactic(auto)]
 
 mod forms;
+mod fulfils;
+mod names;
+mod played;
 mod proposals;
 mod readers;
+mod repeats;
 mod scenarios;
+mod uncounted;
 
+use played::played_notes;
 pub use readers::Kept;
+pub use repeats::repeat_notes;
 pub use scenarios::scenario_notes;
 use script_notes::call_notes;
 use std::alloc::{AllocError, Global};
@@ -35,16 +42,24 @@ pub fn notes_of(
     input: Option<&[u8]>,
 ) -> Result<String, AllocError> {
     match words {
-        [name] if name.as_str() == "run" && status == 1 => refusal_notes(alloc, input),
-        [name, _] if name.as_str() == "node" && status == 1 => refusal_notes(alloc, input),
+        [name] if name.as_str() == "run" && status <= 1 => input_notes(alloc, status, false, input),
+        [name, _] if name.as_str() == "node" && status <= 1 => input_notes(
+            alloc, status, true, input,
+        ),
         _ => call_notes(alloc, words, status),
     }
 }
 
-// The notes on a refused scenario; none if it could not be read.
-fn refusal_notes(alloc: Global, input: Option<&[u8]>) -> Result<String, AllocError> {
+// The notes on the text of a scenario, which threads may have played; none if it could not be read.
+fn input_notes(
+    alloc: Global,
+    status: u8,
+    in_threads: bool,
+    input: Option<&[u8]>,
+) -> Result<String, AllocError> {
     match input {
-        Some(input) => scenario_notes(alloc, input),
+        Some(input) if status == 1 => scenario_notes(alloc, input),
+        Some(input) => played_notes(alloc, in_threads, input),
         None => Ok(String::new(alloc)),
     }
 }

@@ -1,22 +1,22 @@
 // Notes on a text that is not a scenario.
 
 use crate::forms::{MEMBERS, Part, TERMS, event_parts};
+use crate::names::{MAX_INPUT, is_plain};
 use crate::proposals::note_scenario;
+use crate::repeats::note_repeat;
 use json_value::{ReadError, Value};
 use serde_json::Error;
 use std::alloc::{AllocError, Global};
 use std::fmt::Write;
 use texts::tag_of;
 
-// The most bytes that are read of a scenario.
-const MAX_INPUT: usize = 4_194_304;
-
 /// The notes on a text that is refused as a scenario, a line each: where it is invalid JSON, which of its parts does not have its shape, which limit it exceeds, or on which terms the two
-/// sides can't agree. The only error is that memory ran out.
+/// sides can't agree; and a member that stands twice. The only error is that memory ran out.
 pub fn scenario_notes(alloc: Global, input: &[u8]) -> Result<String, AllocError> {
     let mut notes = String::new(alloc);
     if input.len() <= MAX_INPUT {
         note_text(&mut notes, alloc, input)?;
+        note_repeat(&mut notes, alloc, input)?;
     }
     Ok(notes)
 }
@@ -120,13 +120,6 @@ fn write_fault(notes: &mut String, fault: &Fault, value: &Value) -> Result<(), A
             writeln!(notes, ": its {name} is not {kind}")
         }
     }
-}
-
-// Whether a name can be written into a line: 1 to 40 characters of ASCII that are seen.
-fn is_plain(name: &str) -> bool {
-    !name.is_empty()
-        && name.len() <= 40
-        && name.as_bytes().iter().all(|byte| byte.is_ascii_graphic())
 }
 
 // Writes which member does not belong to an object.

@@ -66,7 +66,7 @@ fn resume(channel: &Channel, hello: &Reestablish) -> Result<Option<Vec<Message>>
 }
 
 // How many messages a side sends again.
-fn resent(rt: &impl Abort, channel: &Channel, hello: &Reestablish) -> usize {
+pub fn resent(rt: &impl Abort, channel: &Channel, hello: &Reestablish) -> usize {
     let messages = resume(channel, hello).expect(rt, "an answer");
     messages.expect(rt, "messages").len()
 }

@@ -1,9 +1,11 @@
-//! Worked calls of the crates that a node calls, as tests: a script is listed, a claim accepted and filled, a channel
-//! and a book go a few steps, and a watch reads a block.
+//! Worked calls of the crates that a node calls, as tests.
+//!
+//! A script is listed, a claim accepted and filled, and a channel and a book go a few steps. A history is kept in a
+//! file, and two nodes open a channel on a chain and close it.
 //!
 //! Each block of code of `docs/LIBRARY.md` stands here word for word, but the one on threads, which `desk_tests` has.
 //!
-//! The calls are of `paths`, `claim`, `filling`, `channel`, `book`, `book_dump`, `least` and `watch`, and `book_peers` makes the peers.
+//! The calls are of `paths`, `claim`, `filling`, `channel`, `book`, `book_dump`, `least`, `side` and `publish`, and `book_peers` makes the peers.
 #![tactic(auto)]
 
 #[cfg(test)]
@@ -15,4 +17,10 @@ mod claims;
 #[cfg(test)]
 mod listings;
 #[cfg(test)]
-mod watches;
+mod nodes;
+#[cfg(test)]
+mod openings;
+#[cfg(test)]
+mod reactions;
+#[cfg(test)]
+mod stores;

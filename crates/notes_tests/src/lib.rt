@@ -10,6 +10,8 @@ mod looks;
 #[cfg(test)]
 mod places;
 #[cfg(test)]
+mod played;
+#[cfg(test)]
 mod readers;
 #[cfg(test)]
 mod refusals;

@@ -65,8 +65,20 @@ const ENVELOPES: [(&str, &str); 2] = [
     ),
 ];
 
+// The note on a private key.
+const PRIVATE_KEY: &str =
+    "note: this looks like a private key, which nothing here asks for: it stands in the history of the shell now, so delete it there, and move what it guards to another key\n";
+
 // Texts of scripts that are not hexadecimal, and the notes on them.
-const TEXTS: [(&str, &str); 11] = [
+const TEXTS: [(&str, &str); 13] = [
+    (
+        "L1aW4aubDFB7yfras2S1mN3bqg9nwySY8nkoLmJebSLD5BWv3ENZ",
+        PRIVATE_KEY,
+    ),
+    (
+        "wsh(pk(xprv9s21ZrQH143K3QTDL4LXw2F7HEK3wJUD2nW2nRk4stbPy6cq3jPPqjiChkVvvNKmPGJxWUtg6LnF5kejMRNNU3TGtRBeJgk33yuGBxrMPHi))",
+        PRIVATE_KEY,
+    ),
     (
         "cHNidP8BAHUCAAAAASaBcTce3/KF6Tet7qSze3gADAVmy7OtZGQXE8pCFxv2AAAAAAD+////",
         "note: this looks like a PSBT in Base64 (BIP 174): give the witness script of one of its inputs, in hexadecimal\n",
@@ -111,7 +123,11 @@ const TEXTS: [(&str, &str); 11] = [
 ];
 
 // Texts of messages, and the notes on them. What they look like as a script is not said.
-const MESSAGES: [(&str, &str); 5] = [
+const MESSAGES: [(&str, &str); 6] = [
+    (
+        "L1aW4aubDFB7yfras2S1mN3bqg9nwySY8nkoLmJebSLD5BWv3ENZ",
+        PRIVATE_KEY,
+    ),
     ("5151", ""),
     (
         "515",
@@ -149,6 +165,25 @@ fn tells_programs_of_outputs(rt: HostRuntime) {
     for (pieces, form, rest) in &PROGRAMS {
         noted_on_program(&rt, rt.alloc(), pieces, form, rest);
     }
+}
+
+// A script of two keys with its length before it, and the empty script with a length of none: OP_VERIFY has the byte 69, and the byte 1 is a push.
+#[test]
+fn tells_a_length_before_a_script(rt: HostRuntime) {
+    let key = "21021111111111111111111111111111111111111111111111111111111111111111";
+    let long = joined(&rt, rt.alloc(), &["6952", key, key, key, "53ae"]);
+    noted_of(
+        &rt,
+        rt.alloc(),
+        long.as_str(),
+        "note: these bytes begin with the length of the 105 bytes after it, as a script stands in serialisations: leave the length out\nnote: byte 0 is 69, OP_VERIFY in Bitcoin, which is not in the table\nnote: nothing is pushed before it\n",
+    );
+    noted_of(
+        &rt,
+        rt.alloc(),
+        "0151",
+        "note: these bytes begin with the length of the 1 byte after it, as a script stands in serialisations: leave the length out\nnote: anyone can spend by path 0: no signature of a key that the script fixes is asked for\n",
+    );
 }
 
 #[test]

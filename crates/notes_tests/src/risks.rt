@@ -26,7 +26,7 @@ struct Case {
     notes: &'static [&'static str],
 }
 
-const RISKS: [Case; 16] = [
+const RISKS: [Case; 19] = [
     // the number 1; the empty script; IF 1 ELSE 2 ENDIF
     Case {
         code: &["51"],
@@ -80,6 +80,7 @@ const RISKS: [Case; 16] = [
         code: &["03010041b27521", KEY, "ac"],
         notes: &[
             "note: opcode 1, CHECKSEQUENCEVERIFY of 4259841, asks for an age of 1 unit of 512 seconds: of a number only bits 0 to 15, 22 and 31 count (BIP 68)\n",
+            "note: path 0 waits 1 unit of 512 seconds, which its age does not tell: that is in blocks (BIP 68)\n",
         ],
     },
     // 65537 CHECKSEQUENCEVERIFY: bit 16, and an age of 1
@@ -92,7 +93,9 @@ const RISKS: [Case; 16] = [
     // 4294967295 and 4294967296 CHECKLOCKTIMEVERIFY, and the latter where anyone could spend
     Case {
         code: &["05ffffffff00b17521", KEY, "ac"],
-        notes: &[],
+        notes: &[
+            "note: path 0 waits until the median time past is above 4294967295: its lock is a time, in seconds since 1970 (BIP 113)\n",
+        ],
     },
     Case {
         code: &["050000000001b17521", KEY, "ac"],
@@ -114,6 +117,23 @@ const RISKS: [Case; 16] = [
     },
     Case {
         code: &["03ffff00b27521", KEY, "ac"],
+        notes: &[],
+    },
+    // a key, or another one after 5063 units of 512 seconds; the same from a time on; and after 499999999 blocks, which is none
+    Case {
+        code: &["6321", KEY, "ac6703c71340b27521", OTHER_KEY, "ac68"],
+        notes: &[
+            "note: path 1 waits 5063 units of 512 seconds, which its age does not tell: that is in blocks (BIP 68)\n",
+        ],
+    },
+    Case {
+        code: &["6321", KEY, "ac6704803bb16ab17521", OTHER_KEY, "ac68"],
+        notes: &[
+            "note: path 1 waits until the median time past is above 1790000000: its lock is a time, in seconds since 1970 (BIP 113)\n",
+        ],
+    },
+    Case {
+        code: &["04ff64cd1db17521", KEY, "ac"],
         notes: &[],
     },
 ];

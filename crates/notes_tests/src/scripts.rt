@@ -45,18 +45,99 @@ const OPCODES: [(&str, &str); 7] = [
     ),
 ];
 
-// Scripts without a path whose branches end as they do in consensus.
-const EXACT: [&str; 7] = [
-    // false at the end, two entries at the end, a negative lock, 21 keys
-    "00",
-    "5151",
-    "0181b27551",
-    "00000115ae",
-    // a comparison of constants
-    "515288",
-    // 5 bytes as a count, and a signature that is not in DER
-    "0000050100000000ae",
-    "02aabb7cac",
+// Scripts without a path whose only branch ends as it does in consensus, and what is noted of its end.
+const EXACT: [(&str, &str); 13] = [
+    // false at the end, two entries at the end, and two items of the witness
+    (
+        "00",
+        "after the last opcode it leaves the empty item, which is false",
+    ),
+    (
+        "5151",
+        "after the last opcode it leaves two or more elements, 01 (1 byte) among them, and BIP 141 wants one: is a DROP missing?",
+    ),
+    (
+        "7676",
+        "after the last opcode it leaves two or more elements, and BIP 141 wants one: is a DROP missing?",
+    ),
+    // locks: -1 in one byte and in two, and one of six bytes
+    (
+        "0181b27551",
+        "it ends at opcode 1, where 81 (1 byte) is -1, and no lock is negative (a number is little-endian)",
+    ),
+    (
+        "020180b17551",
+        "it ends at opcode 1, where 0180 (2 bytes) is negative, and no lock is (a number is little-endian)",
+    ),
+    (
+        "06010000000000b27551",
+        "it ends at opcode 1, where 010000000000 (6 bytes) is no lock, which has at most 5 bytes",
+    ),
+    // 21 keys, 5 bytes as a count, and a key where the number of signatures is looked for
+    (
+        "00000115ae",
+        "it ends at opcode 3, where 15 (1 byte) is no number of keys (0 to 20), nor of signatures (0 to that of the keys)",
+    ),
+    (
+        "0000050100000000ae",
+        "it ends at opcode 3, where 0100000000 (5 bytes) is no number of keys (0 to 20), nor of signatures (0 to that of the keys)",
+    ),
+    (
+        "5202aaaa02bbbb02cccc52ae",
+        "it ends at opcode 5, where aaaa (2 bytes) is no number of keys (0 to 20), nor of signatures (0 to that of the keys)",
+    ),
+    // an extra item that is not empty, and a signature that is not in DER
+    (
+        "51002102111111111111111111111111111111111111111111111111111111111111111151ae",
+        "it ends at opcode 4, where 01 (1 byte) is the extra item of CHECKMULTISIG, which has to be empty (BIP 147)",
+    ),
+    (
+        "02aabb7cac",
+        "it ends at opcode 2, where aabb (2 bytes) is no signature in DER (BIP 66): is a DROP missing?",
+    ),
+    // a comparison of constants, and of a hash with 32 bytes
+    (
+        "515288",
+        "it ends at opcode 2, where 01 (1 byte) never equals what it is compared with",
+    ),
+    (
+        "a920333333333333333333333333333333333333333333333333333333333333333388",
+        "it ends at opcode 2, where 3333333333333333333333333333333333333333333333333333333333333333 (32 bytes) never equals what it is compared with: a HASH160 has 20 bytes",
+    ),
+];
+
+// Scripts of which somebody can spend by one branch and nobody by another, the branch, and its end.
+struct DeadEnd {
+    code: &'static [&'static str],
+    branch: &'static str,
+    end: &'static str,
+}
+
+const DEAD_ENDS: [DeadEnd; 4] = [
+    // IF a key CHECKSIG ELSE 144 CHECKSEQUENCEVERIFY a key CHECKSIG ENDIF: a DROP is missing
+    DeadEnd {
+        code: &["6321", KEY, "ac67029000b221", KEY, "ac68"],
+        branch: "ELSE at opcode 3",
+        end: "it ends at opcode 7, where 9000 (2 bytes) is no signature in DER (BIP 66): is a DROP missing?",
+    },
+    // with the DROP and an age of -144
+    DeadEnd {
+        code: &["6321", KEY, "ac67029080b27521", KEY, "ac68"],
+        branch: "ELSE at opcode 3",
+        end: "it ends at opcode 5, where 9080 (2 bytes) is -144, and no lock is negative (a number is little-endian)",
+    },
+    // NOTIF 875000, its bytes turned round, CHECKLOCKTIMEVERIFY DROP a key CHECKSIG ELSE a key CHECKSIG ENDIF
+    DeadEnd {
+        code: &["64030d59f8b17521", KEY, "ac6721", KEY, "ac68"],
+        branch: "NOTIF at opcode 0",
+        end: "it ends at opcode 2, where 0d59f8 (3 bytes) is -7887117, and no lock is negative (a number is little-endian)",
+    },
+    // IF a key CHECKSIG ELSE IF 1 a key CHECKSIG ELSE a key CHECKSIG ENDIF ENDIF
+    DeadEnd {
+        code: &["6321", KEY, "ac67635121", KEY, "ac6721", KEY, "ac6868"],
+        branch: "ELSE at opcode 3, then the IF at opcode 4",
+        end: "it ends at opcode 7, where 01 (1 byte) is no signature in DER (BIP 66): is a DROP missing?",
+    },
 ];
 
 // Scripts with facts that no witness meets together, and the notes on them.
@@ -103,6 +184,14 @@ fn names_opcodes_outside_the_table(rt: HostRuntime) {
         noted_of(&rt, rt.alloc(), code, notes);
     }
 }
+
+// The note on a script whose branches all end as in consensus, and how the notes begin on its only branch and on one of several.
+const ALL_END: &str =
+    "note: no witness satisfies the script by the rules of this profile: each branch ends as in consensus\n";
+
+const ONLY: &str = "note: nobody can spend by the only branch: ";
+
+const AFTER: &str = "note: nobody can spend by the branch after the ";
 
 // The note on a script without a path, where some branch is stricter than consensus.
 const NONE: &str =
@@ -209,21 +298,42 @@ fn tells_ends(rt: HostRuntime) {
 // Branches that end as they do in consensus.
 #[test]
 fn tells_exact_ends(rt: HostRuntime) {
-    let exact =
-        "note: no witness satisfies the script by the rules of this profile: each branch ends as in consensus\n";
-    for code in &EXACT {
-        noted_of(&rt, rt.alloc(), code, exact);
+    for (code, end) in &EXACT {
+        let notes = joined(&rt, rt.alloc(), &[ALL_END, ONLY, end, "\n"]);
+        noted_of(&rt, rt.alloc(), code, notes.as_str());
     }
-    // both branches of an IF, and a branch that is never run
-    let anyone =
-        "note: anyone can spend by path 0: no signature of a key that the script fixes is asked for\n";
-    noted_of(&rt, rt.alloc(), "6351670068", anyone);
+    // a branch that is never run
     let dead = joined(
         &rt,
         rt.alloc(),
         &["006341", LONG_KEY, "ac6721", KEY, "ac68"],
     );
     noted_of(&rt, rt.alloc(), dead.as_str(), "");
+}
+
+// Asserts the notes on a script of which nobody can spend by one branch.
+fn has_dead_end(rt: &impl Abort, alloc: Global, dead: &DeadEnd) {
+    let code = joined(rt, alloc, dead.code);
+    let notes = joined(rt, alloc, &[AFTER, dead.branch, ": ", dead.end, "\n"]);
+    noted_of(rt, alloc, code.as_str(), notes.as_str());
+}
+
+#[test]
+fn tells_branches_by_which_nobody_can_spend(rt: HostRuntime) {
+    for dead in &DEAD_ENDS {
+        has_dead_end(&rt, rt.alloc(), dead);
+    }
+    // IF IF 1 ELSE 0 ENDIF ELSE 0 ENDIF, and 0 SWAP IF DROP ENDIF
+    let anyone =
+        "note: anyone can spend by path 0: no signature of a key that the script fixes is asked for\n";
+    let end = ": after the last opcode it leaves the empty item, which is false\n";
+    let inner = "IF at opcode 0, then the ELSE at opcode 3";
+    let both = [AFTER, inner, end, AFTER, "ELSE at opcode 6", end, anyone];
+    let both = joined(&rt, rt.alloc(), &both);
+    noted_of(&rt, rt.alloc(), "636351670068670068", both.as_str());
+    let skipped = [AFTER, "ENDIF at opcode 4", end, anyone];
+    let skipped = joined(&rt, rt.alloc(), &skipped);
+    noted_of(&rt, rt.alloc(), "007c637568", skipped.as_str());
 }
 
 #[test]

@@ -1,8 +1,9 @@
 // Notes on bytes and texts that are no witness script.
 
-use std::alloc::AllocError;
+use script::Script;
+use std::alloc::{AllocError, Global};
 use std::fmt::Write;
-use warnings::{Look, TextFault, look_of, text_fault};
+use warnings::{Look, TextFault, length_before, look_of, text_fault};
 
 /// Notes what bytes look like that are no witness script, and returns whether that is a transaction or a PSBT, and not an output's program.
 pub fn note_look(notes: &mut String, bytes: &[u8]) -> Result<bool, AllocError> {
@@ -58,9 +59,35 @@ fn text_of_look(look: Look) -> &'static str {
     }
 }
 
+// The note on a private key.
+const PRIVATE_KEY: &str =
+    "note: this looks like a private key, which nothing here asks for: it stands in the history of the shell now, so delete it there, and move what it guards to another key\n";
+
+/// Notes a length before a script, as serialisations have it.
+pub fn note_length_before(
+    notes: &mut String,
+    alloc: Global,
+    bytes: &[u8],
+) -> Result<(), AllocError> {
+    let Some(size) = length_before(bytes) else {
+        return Ok(());
+    };
+    let rest = &bytes[size.min(bytes.len())..];
+    if Script::parse(alloc, rest).is_err() {
+        return Ok(());
+    }
+    let len = rest.len();
+    let end = if len == 1 { "" } else { "s" };
+    writeln!(
+        notes,
+        "note: these bytes begin with the length of the {len} byte{end} after it, as a script stands in serialisations: leave the length out"
+    )
+}
+
 /// Notes why the text of a script is not hexadecimal.
 pub fn note_text(notes: &mut String, text: &str) -> Result<(), AllocError> {
     match text_fault(text) {
+        Some(TextFault::PrivateKey) => notes.push_str(PRIVATE_KEY),
         Some(TextFault::Psbt) => notes.push_str(
             "note: this looks like a PSBT in Base64 (BIP 174): give the witness script of one of its inputs, in hexadecimal\n",
         ),
@@ -81,6 +108,7 @@ pub fn note_text(notes: &mut String, text: &str) -> Result<(), AllocError> {
 /// Notes why the text of a message is not hexadecimal.
 pub fn note_message(notes: &mut String, text: &str) -> Result<(), AllocError> {
     match text_fault(text) {
+        Some(TextFault::PrivateKey) => notes.push_str(PRIVATE_KEY),
         Some(fault) => note_digits(notes, text, fault),
         None => Ok(()),
     }

@@ -1,13 +1,14 @@
-// Notes on what endangers money: paths that others can take too, and locks that ask for less than they say.
+// Notes on what endangers money: paths that others can take too, locks that ask for less than they say, and locks by time.
 
 use crate::conflicts::conflict_in;
 use paths::{Checked, Path};
 use script::Op;
+use script::limits::LOCKTIME_THRESHOLD;
 use std::alloc::{AllocError, Global};
 use std::fmt::Write;
 use warnings::{
-    LockWarning, SequenceLock, Taker, has_unreachable_lock, is_offered_htlc, lock_warnings,
-    taker_of, takes_hashed_key,
+    LockWarning, SequenceLock, Taker, greatest_units, has_unreachable_lock, is_offered_htlc,
+    lock_warnings, taker_of, takes_hashed_key,
 };
 
 /// Notes on the paths of a listed script.
@@ -18,6 +19,7 @@ pub fn note_risks(notes: &mut String, alloc: Global, checked: &Checked) -> Resul
     note_paths(notes, paths, Risk::Finder)?;
     note_paths(notes, paths, Risk::HashedKey)?;
     note_locks(notes, alloc, checked.script().ops())?;
+    note_waits(notes, paths)?;
     // with keys that have another form than a key's, it has fewer paths
     if paths.len() == 3 && is_offered_htlc(checked.script().bytes()) {
         note_timeout(notes)?;
@@ -138,6 +140,43 @@ fn note_lock(notes: &mut String, warning: &LockWarning) -> Result<(), AllocError
 // The end of the word for what there are this many of.
 fn plural(count: u16) -> &'static str {
     if count == 1 { "" } else { "s" }
+}
+
+// Notes the paths that somebody may meet and whose lock is a time, which their line does not tell.
+fn note_waits(notes: &mut String, paths: &[Path]) -> Result<(), AllocError> {
+    for (index, path) in paths.iter().enumerate() {
+        let facts = path.facts.values();
+        if !has_unreachable_lock(facts) && conflict_in(facts).is_none() {
+            note_time(notes, index, path.lock)?;
+            note_units(notes, index, greatest_units(facts))?;
+        }
+    }
+    Ok(())
+}
+
+// Notes a path whose absolute lock is a time.
+fn note_time(notes: &mut String, index: usize, lock: Option<u64>) -> Result<(), AllocError> {
+    match lock {
+        Some(lock) if lock >= LOCKTIME_THRESHOLD => writeln!(
+            notes,
+            "note: path {index} waits until the median time past is above {lock}: its lock is a time, in seconds since 1970 (BIP 113)"
+        ),
+        _ => Ok(()),
+    }
+}
+
+// Notes a path whose relative lock is in units of time.
+fn note_units(notes: &mut String, index: usize, units: Option<u16>) -> Result<(), AllocError> {
+    match units {
+        Some(units) if units > 0 => {
+            let end = plural(units);
+            writeln!(
+                notes,
+                "note: path {index} waits {units} unit{end} of 512 seconds, which its age does not tell: that is in blocks (BIP 68)"
+            )
+        }
+        _ => Ok(()),
+    }
 }
 
 // Notes which path of an offered HTLC has a lock that does not stand in the script.

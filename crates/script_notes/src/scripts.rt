@@ -3,7 +3,8 @@
 ghost use Rattle.consensus.specs.Machine.{NobodySpends};
 
 use crate::conflicts::{conflict_in, is_of_token_size};
-use crate::looks::{note_look, note_message, note_text};
+use crate::dead_ends::note_dead_ends;
+use crate::looks::{note_length_before, note_look, note_message, note_text};
 use crate::pushes::note_pushes;
 use crate::refusals::note_refusal;
 use crate::risks::note_risks;
@@ -15,6 +16,7 @@ use paths::{Checked, Path, check};
 use script::{Op, ParseError, Script};
 use std::alloc::{AllocError, Global};
 use std::fmt::Write;
+use warnings::look_of;
 
 /// The notes on a version 0 witness script that is written in hexadecimal, a line each; empty if there are none. The only error is that memory ran out.
 pub fn notes(alloc: Global, text: &str) -> Result<String, AllocError> {
@@ -36,6 +38,7 @@ pub fn message_notes(alloc: Global, text: &str) -> Result<String, AllocError> {
 // Notes on bytes: what they look like, and what they are as a script. Why a transaction or a PSBT is no script is not said.
 fn note_bytes(notes: &mut String, alloc: Global, bytes: &[u8]) -> Result<(), AllocError> {
     let is_other = note_look(notes, bytes)?;
+    note_length_before(notes, alloc, bytes)?;
     match Script::parse(alloc, bytes) {
         Ok(script) => note_script(notes, alloc, bytes, script),
         Err(_) if is_other => Ok(()),
@@ -115,6 +118,10 @@ fn note_listing(notes: &mut String, alloc: Global, checked: &Checked) -> Result<
     }
     for end in &ends.strict {
         note_end(notes, end)?;
+    }
+    // of an output's program it is said what it looks like
+    if look_of(checked.script().bytes()).is_none() {
+        note_dead_ends(notes, alloc, ops)?;
     }
     for (index, path) in checked.paths().iter().enumerate() {
         note_conflict(notes, index, path)?;

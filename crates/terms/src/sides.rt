@@ -2,7 +2,7 @@
 
 ghost use Rattle.std.specs.Prelude.{◌≡◌};
 
-/// One of the two sides of a channel.
+/// One of the two sides of a channel: a letter on which both nodes agree, neither who opened it (`Terms::opener`) nor who is local.
 #[derive(Clone, Copy, Debug, PartialEq, Eq, Drop)]
 pub enum Side {
     A,

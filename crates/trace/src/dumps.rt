@@ -24,6 +24,7 @@ use crate::dumps::telling::tell_book;
 use crate::replies::WRONG_WORDS;
 use book_dump::Dump as _;
 use book_dump::errors::LoadError;
+use enforce_notes::repeat_notes;
 use loading::load_dump;
 use page::Page;
 use page::Piece::Count;
@@ -64,7 +65,10 @@ fn tell_dump(alloc: Global, line: &mut Page, bytes: &[u8]) -> u8
 {
     match load_dump(alloc, bytes) {
         Ok(book) => {
-            tell_book(alloc, line, &book);
+            match repeat_notes(alloc, bytes) {
+                Ok(notes) => tell_book(alloc, line, &book, notes.as_str()),
+                Err(_) => line.fail(),
+            }
             book.leak();
             0
         }

@@ -38,7 +38,7 @@ use crate::scenarios::openings::tell_opening;
 use crate::scenarios::playing::played;
 use crate::scenarios::wishes::Wish;
 use chain::Coins as _;
-use enforce_notes::scenario_notes;
+use enforce_notes::{repeat_notes, scenario_notes};
 use page::Page;
 use page::Piece::Count;
 use scenario::{Event, Scenario, ScenarioError};
@@ -82,10 +82,11 @@ fn tell_events(
     told: &mut Told,
     events: &[Event],
     words: &[Value],
+    notes: &str,
 ) -> u8
     ensures { result ≤ 1 }
 {
-    tell_opening(line, told, world, events.len());
+    tell_opening(line, told, world, events.len(), notes);
     if write_told(out, line, 0) == 1 {
         return 1;
     }
@@ -121,6 +122,7 @@ fn tell_world(
     world: &mut World,
     events: &[Event],
     words: &[Value],
+    notes: &str,
     wish: Wish,
 ) -> u8
     ensures { result ≤ 1 }
@@ -131,7 +133,9 @@ fn tell_world(
         return write_told(out, &mut line, 0);
     }
     let mut told = Told::new(alloc);
-    let status = tell_events(alloc, out, &mut line, world, &mut told, events, words);
+    let status = tell_events(
+        alloc, out, &mut line, world, &mut told, events, words, notes,
+    );
     match wish {
         Wish::Strictly if told.has_refused => 1,
         _ => status,
@@ -160,6 +164,7 @@ fn tell_scenario(
     out: &mut dyn Write,
     scenario: &Scenario,
     value: &Value,
+    notes: &str,
     bytes: &[u8],
     wish: Wish,
 ) -> u8
@@ -168,7 +173,7 @@ fn tell_scenario(
     match World::new(alloc, &scenario.seeds, scenario.channels.values()) {
         Ok(mut world) => {
             let (events, words) = (scenario.events.values(), words_in(value));
-            let status = tell_world(alloc, out, &mut world, events, words, wish);
+            let status = tell_world(alloc, out, &mut world, events, words, notes, wish);
             world.leak();
             status
         }
@@ -177,17 +182,32 @@ fn tell_scenario(
     }
 }
 
+// Writes what is wished of a scenario that was read from these bytes, on which there are these notes, and returns the status.
+fn tell_read(
+    alloc: Global,
+    out: &mut dyn Write,
+    scenario: &Scenario,
+    notes: &str,
+    bytes: &[u8],
+    wish: Wish,
+) -> u8
+    ensures { result ≤ 1 }
+{
+    match Value::from_slice(alloc, bytes) {
+        Ok(value) => tell_scenario(alloc, out, scenario, &value, notes, bytes, wish),
+        Err(_) => refuse_memory(out),
+    }
+}
+
 // Writes what is wished of the scenario in the bytes, and returns the status.
 fn tell_bytes(alloc: Global, out: &mut dyn Write, bytes: &[u8], wish: Wish) -> u8
     ensures { result ≤ 1 }
 {
     match Scenario::read(alloc, bytes) {
-        Ok(scenario) => {
-            match Value::from_slice(alloc, bytes) {
-                Ok(value) => tell_scenario(alloc, out, &scenario, &value, bytes, wish),
-                Err(_) => refuse_memory(out),
-            }
-        }
+        Ok(scenario) => match repeat_notes(alloc, bytes) {
+            Ok(notes) => tell_read(alloc, out, &scenario, notes.as_str(), bytes, wish),
+            Err(_) => refuse_memory(out),
+        },
         Err(ScenarioError::NoMemory) => refuse_memory(out),
         Err(error) => refuse_scenario(alloc, out, &error, bytes),
     }

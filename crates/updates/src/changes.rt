@@ -2,7 +2,7 @@
 
 use terms::Htlc;
 
-/// An update of a channel (BOLT 2, "Normal Operation").
+/// An update of a channel (BOLT 2, "Normal Operation"), and no message yet: its sender's is `Message::Step(PeerStep::Update(..))`.
 #[derive(Clone, Copy, Debug, PartialEq, Eq, Drop)]
 pub enum Update {
     /// `update_add_htlc`: offers an HTLC.
@@ -15,7 +15,7 @@ pub enum Update {
     Fee { feerate_per_kw: u32 },
 }
 
-/// An update as the side that makes it decides on it. The channel gives an offer its id.
+/// An update as the side that makes it decides on it, and not as it is sent: an offer becomes `Update::Add`, to which the channel gives an id, and a feerate `Update::Fee`.
 #[derive(Clone, Copy, Debug, PartialEq, Eq, Drop)]
 pub enum OwnUpdate {
     /// Offers an HTLC.

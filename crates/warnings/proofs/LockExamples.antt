@@ -1,5 +1,5 @@
 -- Relative locks, by the bits of BIP 68.
-use Rattle.std.proofs.Common.{◌≡◌, ℕ, Bool, true, false, [], ◌∷◌, map, refl, None}
+use Rattle.std.proofs.Common.{◌≡◌, ℕ, Bool, true, false, [], ◌∷◌, map, refl, Some, None}
 use Rattle.script.specs.declared.opcode.Op.TheVariants.{Push, Number, Drop, CheckLockTimeVerify, CheckSequenceVerify}
 use Rattle.script.specs.Number.{number_of}
 use Rattle.facts.specs.Symbols.{Fact, Stated}
@@ -7,7 +7,7 @@ use Rattle.facts.specs.declared.symbols.FactOver.TheVariants.{Lock, Age}
 use Rattle.warnings.specs.declared.locks.SequenceLock.{SequenceLock}
 use Rattle.warnings.specs.declared.locks.SequenceLock.TheVariants.{Off, Blocks, Units}
 use Rattle.warnings.specs.declared.locks.LockWarning.{LockWarning}
-use Rattle.warnings.specs.Locks.{sequence_lock, is_plain, number_pushed, warned_at, warnings_in, has_unreachable_lock}
+use Rattle.warnings.specs.Locks.{sequence_lock, is_plain, number_pushed, warned_at, warnings_in, has_unreachable_lock, greatest_units}
 
 -- bits 0 to 15, 16, 21, 22, 23, 30, 31 and 32
 locks : map sequence_lock (
@@ -44,3 +44,10 @@ beyond : map has_unreachable_lock (
     ∷ (stated (Lock 500) true ∷ stated (Lock 0x100000001) true ∷ []) ∷ (stated (Age 0x40ffff) true ∷ []) ∷ [] ∷ []) ≡
     false ∷ true ∷ true ∷ false ∷ true ∷ false ∷ false ∷ []
 beyond = refl
+
+-- no fact, blocks, a lock time, one unit and all of them, bits 16 and 23 beside, bit 23 alone, and the greatest of three, in either order and beside blocks
+units : map greatest_units (
+    [] ∷ (stated (Age 144) true ∷ []) ∷ (stated (Lock 0x400005) true ∷ []) ∷ (stated (Age 0x400001) true ∷ []) ∷ (stated (Age 0x40ffff) true ∷ []) ∷ (stated (Age 0xc10005) true ∷ []) ∷ (stated (Age 0x800005) true ∷ [])
+    ∷ (stated (Age 0x400005) true ∷ stated (Age 0x400090) true ∷ stated (Age 0x400007) true ∷ []) ∷ (stated (Age 0x400090) true ∷ stated (Age 0xffff) true ∷ stated (Age 0x400005) true ∷ []) ∷ []) ≡
+    None ∷ None ∷ None ∷ Some 1 ∷ Some 0xffff ∷ Some 5 ∷ None ∷ Some 0x90 ∷ Some 0x90 ∷ []
+units = refl

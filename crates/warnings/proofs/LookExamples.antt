@@ -2,7 +2,7 @@
 use Rattle.std.proofs.Common.{◌≡◌, ℕ, List, [], ◌∷◌, ◌++◌, map, refl, Some, None}
 use Rattle.std.specs.Prelude.{replicate}
 use Rattle.warnings.specs.declared.looks.Look.TheVariants.{KeyHash, ScriptHash, Key, WitnessKeyHash, WitnessScriptHash, Taproot, WitnessProgram, Transaction, Psbt}
-use Rattle.warnings.specs.Looks.{look_of, is_key_hash, is_script_hash, is_key, witness_version, kind_of, program_of, is_psbt, is_transaction}
+use Rattle.warnings.specs.Looks.{look_of, length_before, is_key_hash, is_script_hash, is_key, witness_version, kind_of, program_of, is_psbt, is_transaction}
 
 -- the hash of the key in BIP 173, and its script hash in a network for tests
 abbrev key_hash : List ℕ
@@ -48,3 +48,10 @@ envelopes : map look_of (
     Some Psbt ∷ None ∷ Some Transaction ∷ Some Transaction ∷ Some Transaction ∷ None ∷ None ∷ None ∷ None ∷ None ∷ []
 unfolding is_key_hash is_script_hash is_key witness_version kind_of program_of is_psbt is_transaction
 envelopes = refl
+
+-- no byte, a length of none, lengths of 1 and of one byte more than there are, 252 and 253 in one byte, 253 and 300 in two, and 300 with the bytes turned round
+lengths : map length_before (
+    [] ∷ (0 ∷ []) ∷ (1 ∷ 0x51 ∷ []) ∷ (2 ∷ 0x51 ∷ []) ∷ (252 ∷ replicate 252 7) ∷ (253 ∷ replicate 253 7) ∷ (253 ∷ 253 ∷ 0 ∷ replicate 253 7) ∷ (253 ∷ 44 ∷ 1 ∷ replicate 300 7) ∷ (253 ∷ 1 ∷ 44 ∷ replicate 300 7) ∷ []) ≡
+    None ∷ None ∷ Some 1 ∷ None ∷ Some 1 ∷ None ∷ Some 3 ∷ Some 3 ∷ None ∷ []
+unfolding length_before
+lengths = refl

@@ -1,8 +1,8 @@
 -- Relative locks (BIP 68, BIP 112), and absolute ones that no transaction reaches (BIP 65).
-use Rattle.std.specs.Prelude.{ℕ, ◌+◌, ◌%◌, ◌/◌, Bool, false, ◌&&◌, ◌||◌, ◌==◌, nat_lt, if◌then◌else◌, List, [], ◌∷◌, ◌++◌, Option, Some, None, option_and_then, option_to_list}
+use Rattle.std.specs.Prelude.{ℕ, ◌+◌, ◌%◌, ◌/◌, Bool, false, ◌&&◌, ◌||◌, ◌==◌, nat_lt, if◌then◌else◌, List, [], ◌∷◌, ◌++◌, Option, Some, None, option_and_then, option_to_list, max}
 use Rattle.std.specs.List.{list_any}
 use Rattle.facts.specs.Symbols.{Fact, Stated}
-use Rattle.facts.specs.declared.symbols.FactOver.TheVariants.{Lock}
+use Rattle.facts.specs.declared.symbols.FactOver.TheVariants.{Lock, Age}
 use Rattle.script.specs.declared.opcode.Op.{Op}
 use Rattle.script.specs.declared.opcode.Op.TheVariants.{Push, Number, CheckSequenceVerify}
 use Rattle.script.specs.declared.num.Number.{Number as Signed}
@@ -56,3 +56,18 @@ asks_beyond s = s.holds && is_beyond s.fact
 -- the path asks for such a lock time
 abbrev pub has_unreachable_lock : List Stated → Bool
 has_unreachable_lock facts = list_any asks_beyond facts
+
+-- the units of 512 seconds that a fact asks for: of a relative lock with bit 22, the low 16 bits (BIP 68)
+abbrev pub units_of : Fact → Option ℕ
+units_of (Age n) = if n / 4194304 % 2 == 1 then Some (n % 65536) else None
+units_of fact = None
+
+abbrev pub greater : Option ℕ → Option ℕ → Option ℕ
+greater None other = other
+greater (Some n) None = Some n
+greater (Some n) (Some m) = Some (max m n)
+
+-- the greatest number of them that facts ask for
+abbrev pub greatest_units : List Stated → Option ℕ
+greatest_units [] = None
+greatest_units (s ∷ facts) = greater (units_of s.fact) (greatest_units facts)

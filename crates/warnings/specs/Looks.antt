@@ -1,5 +1,5 @@
 -- Bytes that are no witness script: programs of outputs, transactions (BIP 144) and PSBTs (BIP 174).
-use Rattle.std.specs.Prelude.{ℕ, ◌-◌, Bool, ◌&&◌, ◌||◌, not, ◌==◌, nat_le, if◌then◌else◌, List, [], ◌∷◌, length, slice_index, Option, Some, None, option_map}
+use Rattle.std.specs.Prelude.{ℕ, ◌+◌, ◌-◌, ◌*◌, Bool, ◌&&◌, ◌||◌, not, ◌==◌, nat_le, nat_lt, if◌then◌else◌, List, [], ◌∷◌, length, slice_index, Option, Some, None, option_map}
 use Rattle.warnings.specs.Parts.{has_at}
 use Rattle.warnings.specs.declared.looks.Look.{Look}
 use Rattle.warnings.specs.declared.looks.Look.TheVariants.{KeyHash, ScriptHash, Key, WitnessKeyHash, WitnessScriptHash, Taproot, WitnessProgram, Transaction, Psbt}
@@ -56,3 +56,11 @@ is_transaction bytes =
 -- what the bytes look like
 abbrev pub look_of : List ℕ → Option Look
 look_of bytes = if is_psbt bytes then Some Psbt else if is_transaction bytes then Some Transaction else program_of bytes
+
+-- the number of bytes of a length at the front that is that of all bytes after it: below 253 it is one byte, and from then on fd and two, the lower one first
+unfoldable pub length_before : List ℕ → Option ℕ
+length_before bytes =
+    if nat_le (length bytes) 1 then None
+    else if nat_lt (slice_index bytes 0) 253 && slice_index bytes 0 + 1 == length bytes then Some 1
+    else if slice_index bytes 0 == 253 && slice_index bytes 1 + 256 * slice_index bytes 2 + 3 == length bytes then Some 3
+    else None

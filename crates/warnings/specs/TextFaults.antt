@@ -4,7 +4,7 @@ use Rattle.std.specs.Option.{option_map_or}
 use Rattle.std.specs.List.{list_all, position_from}
 use Rattle.warnings.specs.Parts.{has_at, has_part}
 use Rattle.warnings.specs.declared.text_faults.TextFault.{TextFault}
-use Rattle.warnings.specs.declared.text_faults.TextFault.TheVariants.{Psbt, Address, Descriptor, Assembly, Prefix, Blank, NoDigit, Odd}
+use Rattle.warnings.specs.declared.text_faults.TextFault.TheVariants.{PrivateKey, Psbt, Address, Descriptor, Assembly, Prefix, Blank, NoDigit, Odd}
 
 -- 0 to 9, A to F, a to f
 abbrev pub is_digit : ℕ → Bool
@@ -32,10 +32,22 @@ is_segwit_address text =
     has_at 0 (codes "bc1") text || has_at 0 (codes "BC1") text || has_at 0 (codes "tb1") text
     || has_at 0 (codes "TB1") text || has_at 0 (codes "bcrt1") text || has_at 0 (codes "BCRT1") text
 
+-- 51 or 52 of them, of which the first is 5, K or L, or 9 or c in networks for tests: a private key in WIF
+unfoldable pub is_wif : List ℕ → Bool
+is_wif text =
+    nat_le 51 (length text) && nat_le (length text) 52
+    && (has_at 0 (codes "5") text || has_at 0 (codes "K") text || has_at 0 (codes "L") text || has_at 0 (codes "9") text || has_at 0 (codes "c") text)
+    && list_all is_base58 text
+
+-- such a key, or an extended private key anywhere, as in a descriptor (BIP 32)
+unfoldable pub has_private_key : List ℕ → Bool
+has_private_key text = is_wif text || has_part (codes "xprv") text || has_part (codes "tprv") text
+
 -- what the text looks like; the first letters of a PSBT are those of its magic bytes in Base64 (BIP 174)
 unfoldable pub form_of : List ℕ → Option TextFault
 form_of text =
-    if has_at 0 (codes "cHNidP") text then Some Psbt
+    if has_private_key text then Some PrivateKey
+    else if has_at 0 (codes "cHNidP") text then Some Psbt
     else if is_segwit_address text || is_base58_address text then Some Address
     else if has_part (codes "(") text then Some Descriptor
     else if has_part (codes "OP_") text then Some Assembly

@@ -1,7 +1,7 @@
-// Relative locks that ask for less than their number says, and locks that no transaction reaches.
+// Relative locks that ask for less than their number says, or are by time, and locks that no transaction reaches.
 
 ghost use Rattle.std.specs.Prelude.{◌≡◌, ◌++◌, IfOk, OnOk, None, option_to_list};
-ghost use Rattle.warnings.specs.Locks.{sequence_lock, is_plain, number_pushed, warned_at, warnings_in, is_beyond, asks_beyond, has_unreachable_lock};
+ghost use Rattle.warnings.specs.Locks.{sequence_lock, is_plain, number_pushed, warned_at, warnings_in, is_beyond, asks_beyond, has_unreachable_lock, units_of, greater, greatest_units};
 
 use facts::{Fact, Stated};
 use script::Op;
@@ -146,4 +146,42 @@ pub fn has_unreachable_lock(facts: &[Stated]) -> bool
     ensures { result ≡ has_unreachable_lock facts.now }
 {
     facts.iter().any(|stated| asks_beyond(stated))
+}
+
+// The units of 512 seconds that a fact asks for, if it is a relative lock by time.
+fn units_of(fact: &Fact) -> Option<u16>
+    ensures { result ≡ units_of fact.now }
+{
+    match fact {
+        Fact::Age(number) => {
+            if *number / 4_194_304 % 2 == 1 {
+                Some((*number % 65_536) as u16)
+            } else {
+                None
+            }
+        }
+        _ => None,
+    }
+}
+
+// The greater of two numbers that may be there.
+fn greater(one: Option<u16>, other: Option<u16>) -> Option<u16>
+    ensures { result ≡ greater one other }
+{
+    match (one, other) {
+        (Some(n), Some(m)) => Some(m.max(n)),
+        (Some(n), None) => Some(n),
+        _ => other,
+    }
+}
+
+/// The greatest number of units of 512 seconds that a path with these facts asks for (BIP 68); `None` where it has no relative lock by time.
+pub fn greatest_units(facts: &[Stated]) -> Option<u16>
+    ensures { result ≡ greatest_units facts.now }
+{
+    let mut units = None;
+    for stated in facts.iter().rev() {
+        units = greater(units_of(&stated.fact), units);
+    }
+    units
 }

@@ -1,9 +1,9 @@
 // Bytes that are no witness script.
 
 ghost use Rattle.std.specs.Prelude.{◌≡◌};
-ghost use Rattle.warnings.specs.Looks.{is_key_hash, is_script_hash, is_key, version_of, witness_version, kind_of, program_of, is_psbt, is_transaction, look_of};
+ghost use Rattle.warnings.specs.Looks.{is_key_hash, is_script_hash, is_key, version_of, witness_version, kind_of, program_of, is_psbt, is_transaction, look_of, length_before};
 
-use crate::parts::has_at;
+use crate::parts::{byte_at, has_at};
 
 /// What bytes look like that are no witness script.
 #[derive(Clone, Copy, Debug, PartialEq, Eq, Drop)]
@@ -141,5 +141,22 @@ pub fn look_of(bytes: &[u8]) -> Option<Look>
         Some(Look::Transaction)
     } else {
         program_of(bytes)
+    }
+}
+
+/// The number of bytes of the length at the front, if it is that of all bytes after it; `None` where no such length stands there.
+#[tactic(auto, unfolding(crate::specs::Looks::length_before))]
+pub fn length_before(bytes: &[u8]) -> Option<usize>
+    ensures { result ≡ length_before bytes.now }
+{
+    let first = byte_at(bytes, 0);
+    if bytes.len() <= 1 {
+        None
+    } else if first < 253 && first + 1 == bytes.len() {
+        Some(1)
+    } else if first == 253 && byte_at(bytes, 1) + 256 * byte_at(bytes, 2) + 3 == bytes.len() {
+        Some(3)
+    } else {
+        None
     }
 }

@@ -2,13 +2,15 @@
 
 ghost use Rattle.std.specs.Prelude.{◌≡◌, not};
 ghost use Rattle.std.specs.List.{list_all, position_from};
-ghost use Rattle.warnings.specs.TextFaults.{is_digit, is_blank, is_base58, is_base58_address, is_segwit_address, form_of, odd_of, fault_at, text_fault};
+ghost use Rattle.warnings.specs.TextFaults.{is_digit, is_blank, is_base58, is_base58_address, is_segwit_address, is_wif, has_private_key, form_of, odd_of, fault_at, text_fault};
 
 use crate::parts::{has_at, has_part};
 
 /// Why a text is not hexadecimal. Bytes are counted from 0.
 #[derive(Clone, Copy, Debug, PartialEq, Eq, Drop)]
 pub enum TextFault {
+    /// It looks like a private key, in WIF, or has an extended one in it (BIP 32).
+    PrivateKey,
     /// It begins as a PSBT in Base64 does (BIP 174).
     Psbt,
     /// It looks like an address (Base58, or BIP 173).
@@ -85,12 +87,37 @@ fn is_segwit_address(text: &[u8]) -> bool
         || has_at(text, 0, b"BCRT1")
 }
 
+// Whether bytes have the form of a private key in WIF, of Bitcoin or of a network for tests.
+#[tactic(auto, unfolding(crate::specs::TextFaults::is_wif))]
+fn is_wif(text: &[u8]) -> bool
+    ensures { result ≡ is_wif text.now }
+{
+    51 <= text.len()
+        && text.len() <= 52
+        && (has_at(text, 0, b"5")
+            || has_at(text, 0, b"K")
+            || has_at(text, 0, b"L")
+            || has_at(text, 0, b"9")
+            || has_at(text, 0, b"c"))
+        && are_base58(text)
+}
+
+// Whether bytes look like a private key, or have an extended one in them.
+#[tactic(auto, unfolding(crate::specs::TextFaults::has_private_key))]
+fn has_private_key(text: &[u8]) -> bool
+    ensures { result ≡ has_private_key text.now }
+{
+    is_wif(text) || has_part(text, b"xprv") || has_part(text, b"tprv")
+}
+
 // What a text looks like; `None` where it looks like none of these.
 #[tactic(auto, unfolding(crate::specs::TextFaults::form_of))]
 fn form_of(text: &[u8]) -> Option<TextFault>
     ensures { result ≡ form_of text.now }
 {
-    if has_at(text, 0, b"cHNidP") {
+    if has_private_key(text) {
+        Some(TextFault::PrivateKey)
+    } else if has_at(text, 0, b"cHNidP") {
         Some(TextFault::Psbt)
     } else if is_segwit_address(text) || is_base58_address(text) {
         Some(TextFault::Address)

@@ -156,7 +156,7 @@ impl Watch {
         due_by(alloc, known, self.spends.as_slice())
     }
 
-    /// Forgets what it read and gave for the blocks above a height, which were taken off. What was learnt from them belongs to the caller, and stays.
+    /// Forgets what it read and gave for the blocks above a height, which were taken off, and reads none again. What was learnt from them belongs to the caller, and stays.
     pub fn back(&mut self, height: u64)
         ensures { self.new ≡ seen_up_to height self.old }
     {

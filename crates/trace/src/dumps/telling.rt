@@ -2,7 +2,9 @@
 
 use crate::dumps::claims::{Alone, Claimable, Close, OutputName, Way, claims_of, hashes_of};
 use crate::dumps::standing::{Source, closed_with, commitment, htlcs, is_new, stands};
+use crate::formats::Form;
 use crate::names::{explorer_id, side_name};
+use crate::notes::tell_notes;
 use book::Book;
 use channel::{Channel, CommitmentState};
 use commit::commitment_amounts;
@@ -222,8 +224,8 @@ fn tell_channel(alloc: Global, line: &mut Page, book: &Book, index: u64, channel
     line.push("]}\n");
 }
 
-/// Writes the lines of a book: one for each of its channels, and one for the book.
-pub fn tell_book(alloc: Global, line: &mut Page, book: &Book) {
+/// Writes the lines of a book: one for each of its channels, and one for the book, with the notes on the text of its dump.
+pub fn tell_book(alloc: Global, line: &mut Page, book: &Book, notes: &str) {
     let channels = book.channel_count();
     for index in 0..channels {
         if let Some(channel) = book.channel(index) {
@@ -231,7 +233,9 @@ pub fn tell_book(alloc: Global, line: &mut Page, book: &Book) {
         }
     }
     line.write(
-        "{\"entries\":%,\"channels\":%}\n",
+        r#"{"entries":%,"channels":%"#,
         &[Count(book.entries().len() as u64), Count(channels)],
     );
+    tell_notes(line, Form::Json, notes);
+    line.push("}\n");
 }

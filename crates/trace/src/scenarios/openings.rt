@@ -1,6 +1,8 @@
 //! The line that opens a trace.
 
+use crate::formats::Form;
 use crate::names::{explorer_id, side_name};
+use crate::notes::tell_notes;
 use crate::scenarios::coins::{Coin, Kind, Told};
 use page::Page;
 use page::Piece::{Count, Hash};
@@ -43,9 +45,9 @@ fn tell_channel(line: &mut Page, told: &mut Told, channel: u64, terms: &Terms) {
     told.begin(line, &terms.funding, coin);
 }
 
-/// Writes the opening: the terms of each channel,
-/// whose funding outputs are on the chain.
-pub fn tell_opening(line: &mut Page, told: &mut Told, world: &World, events: usize) {
+/// Writes the opening: the terms of each channel, whose funding outputs are on the chain,
+/// and the notes on the text.
+pub fn tell_opening(line: &mut Page, told: &mut Told, world: &World, events: usize, notes: &str) {
     let book = world.book(Side::A);
     line.write(
         r#"{"opening":{"events":%,"channels":["#,
@@ -56,5 +58,7 @@ pub fn tell_opening(line: &mut Page, told: &mut Told, world: &World, events: usi
             tell_channel(line, told, index, channel.terms());
         }
     }
-    line.push("]}}\n");
+    line.push("]");
+    tell_notes(line, Form::Json, notes);
+    line.push("}}\n");
 }

@@ -9,7 +9,8 @@ use facts::{Fact, KeySource, Stated};
 use page::Piece::{Count, Hash, Sum, Text};
 use page::{Page, Piece};
 use paths::Path;
-use warnings::{Look, Taker, look_of, taker_of, takes_hashed_key};
+use script::limits::LOCKTIME_THRESHOLD;
+use warnings::{Look, Taker, greatest_units, look_of, taker_of, takes_hashed_key};
 
 // Writes the keys of a fact, elements of an array: texts in hexadecimal, or the numbers of the slots that have them.
 fn tell_keys(line: &mut Page, fact: &Fact) {
@@ -76,21 +77,31 @@ fn tell_fact(line: &mut Page, stated: &Stated) {
     line.push(r#""}"#);
 }
 
+// A number that may be there.
+fn short(number: Option<u16>) -> Piece {
+    match number {
+        Some(number) => Count(u64::from(number)),
+        None => Text("null"),
+    }
+}
+
 /// Writes a path through a script of this number of bytes, an element of an array.
 pub fn tell_path(line: &mut Page, path: &Path, size: usize) {
     let facts = path.facts.values();
-    let age = match path.age {
-        Some(age) => Count(u64::from(age)),
-        None => Text("null"),
+    let time = match path.lock {
+        Some(lock) if lock >= LOCKTIME_THRESHOLD => Count(lock),
+        _ => Text("null"),
     };
     line.element(
-        r#"{"arity":%,"counted":%,"height":%,"lock":%,"age":%,"weight":%,"token_weight":%,"witness":["#,
+        r#"{"arity":%,"counted":%,"height":%,"lock":%,"median_time":%,"age":%,"age_units":%,"weight":%,"token_weight":%,"witness":["#,
         &[
             Count(path.arity as u64),
             Count(path.ops as u64),
             Count(path.height as u64),
             Piece::or_null(path.lock),
-            age,
+            time,
+            short(path.age),
+            short(greatest_units(facts)),
             Sum(witness_weight(facts, path.arity, size, SIGNATURE_SIZE)),
             Sum(witness_weight(facts, path.arity, size, TOKEN_SIZE)),
         ],
