@@ -1,8 +1,10 @@
 mod Values
+mod Elements
 mod Counts
 mod Sizes
 mod SameWeights
 mod Planned
 mod WeightExamples
 mod DustExamples
+mod DestinationExamples
 mod PlanExamples

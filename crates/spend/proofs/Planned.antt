@@ -13,8 +13,7 @@ use Rattle.spend.specs.declared.asking.Asked.{Asked}
 use Rattle.spend.specs.declared.plans.Plan.{Plan}
 use Rattle.spend.specs.Refusals.{plan_error}
 use Rattle.spend.specs.Weights.{greatest_weight, fee_at}
-use Rattle.spend.specs.Dust.{dust_threshold}
-use Rattle.spend.specs.Planning.{paying, spend_refusal, asked_weight, asked_fee, left_refusal, first_of, payment_refusal, IsPlan, UnlessMemory}
+use Rattle.spend.specs.Planning.{paying, spend_refusal, asked_weight, asked_fee, first_of, payment_refusal, IsPlan, UnlessMemory}
 use Rattle.spend.proofs.SameWeights.{same_weight}
 
 -- ---- refusals
@@ -40,17 +39,14 @@ spent a claims outputs ps v t ms c o p h =
 
 -- ---- the plan
 
-later_same : (a : Asked) (fee : ℕ) → fee ≡ asked_fee a → payment_refusal a ≡ left_refusal (total_claimed a.claims) fee (dust_threshold a.destination)
-later_same a fee f = ap (λ n. left_refusal (total_claimed a.claims) n (dust_threshold a.destination)) (sym f)
-
 pub planned : (a : Asked) (p : Plan) (v : ℕ) → spend_refusal a 0 ≡ None → p.weight ≡ asked_weight a → p.fee_sat ≡ fee_at a.feerate_per_kw p.weight
-    → left_refusal (total_claimed a.claims) p.fee_sat (dust_threshold a.destination) ≡ None → v ≡ total_claimed a.claims - p.fee_sat
+    → payment_refusal a p.fee_sat ≡ None → v ≡ total_claimed a.claims - p.fee_sat
     → IsUnsignedSpend a.claims (paying v a.destination) a.preimages p.spend.tx p.spend.signatures → IsPlan a p
-planned a p v passed w f left is s =
+planned a p v passed w f paid is s =
     let same = same_weight a.claims a.destination a.preimages 0 v in
     let fee : p.fee_sat ≡ asked_fee a = f ∙ ap (fee_at a.feerate_per_kw) w in
     record {
-      passed = ap (λ o. first_of o (payment_refusal a)) passed ∙ later_same a p.fee_sat fee ∙ left;
+      passed = ap (λ o. first_of o (payment_refusal a (asked_fee a))) passed ∙ ap (payment_refusal a) (sym fee) ∙ paid;
       weight = w ∙ same ∙ sym (ap (λ u. greatest_weight u p.spend.signatures) s.unsigned ∙ ap (greatest_weight (unsigned_spend_of a.claims (paying v a.destination) a.preimages)) s.missing);
       fee = f;
       spends = subst (λ n. IsUnsignedSpend a.claims (paying n a.destination) a.preimages p.spend.tx p.spend.signatures) is s;

@@ -38,16 +38,20 @@ if_within r = if is_within (length r.claims) (length r.destination) then Ok r el
 abbrev pub shaped : Data → Result Request PlanError
 shaped d = ok_or (request_of d) BadShape
 
--- the request that bytes spell: they are valid JSON, the whole value has the shape, and it is within the limits
+-- what is answered where some object has a name twice
+abbrev pub twice_in : {X : Type 0} → List ℕ → Result X PlanError
+twice_in bytes = ok_or (value_in bytes) NotJson >>= (λ d. Err BadShape)
+
+-- the request that bytes spell, where no object has a name twice: they are valid JSON, the whole value has the shape, and it is within the limits
 abbrev pub request_in : List ℕ → Result Request PlanError
 request_in bytes = ok_or (value_in bytes) NotJson >>= shaped >>= if_within
 
 -- the request with its claims accepted anew, if they are
 abbrev pub asked_with : Request → Result Asked PlanError
 asked_with r = ok_or (claims_of r.claims) BadClaim
-    >>= (λ claims. Ok (record { claims = claims; preimages = r.preimages; destination = r.destination; feerate_per_kw = r.feerate_per_kw }))
+    >>= (λ claims. Ok (record { claims = claims; preimages = r.preimages; destination = r.destination; feerate_per_kw = r.feerate_per_kw; most_feerate_per_kw = r.most_feerate_per_kw }))
 
--- what bytes ask for
+-- what bytes ask for, where no object has a name twice
 unfoldable pub asked_in : List ℕ → Result Asked PlanError
 asked_in bytes = request_in bytes >>= asked_with
 

@@ -1,6 +1,9 @@
 pub mod Refusals
+pub mod Outputs
+pub mod Limits
 pub mod Requests
 pub mod Asking
 pub mod Weights
 pub mod Dust
+pub mod Destinations
 pub mod Planning

@@ -1,17 +1,18 @@
 -- What is planned for what is asked: the unsigned spend that pays what the fee leaves, or why there is none.
-use Rattle.std.specs.Prelude.{◌≡◌, ℕ, ◌-◌, nat_lt, nat_le, if◌then◌else◌, List, [], ◌∷◌, Option, Some, None, option_map, Result, Ok, Err}
+use Rattle.std.specs.Prelude.{◌≡◌, ℕ, ◌-◌, not, nat_lt, nat_le, if◌then◌else◌, List, [], ◌∷◌, Option, Some, None, option_map, Result, Ok, Err}
 use Rattle.tx.specs.declared.limits.TheConstants.{MAX_VALUE}
 use Rattle.tx.specs.Parts.{Output}
 use Rattle.filling.specs.declared.spends.UnsignedSpend.{UnsignedSpend}
 use Rattle.filling.specs.Refusals.{total_claimed}
 use Rattle.filling.specs.Spends.{unsigned_spend_of, missing_of, first_spend_refusal, IsUnsignedSpend}
 use Rattle.spend.specs.declared.errors.PlanError.{PlanError}
-use Rattle.spend.specs.declared.errors.PlanError.TheVariants.{NoMemory, ValueTooLarge, NothingLeft, Dust}
+use Rattle.spend.specs.declared.errors.PlanError.TheVariants.{NoMemory, ValueTooLarge, NothingLeft, Dust, BadDestination, TooHighFeerate}
 use Rattle.spend.specs.declared.asking.Asked.{Asked}
 use Rattle.spend.specs.declared.plans.Plan.{Plan}
 use Rattle.spend.specs.Refusals.{plan_error}
 use Rattle.spend.specs.Weights.{greatest_weight, fee_at}
 use Rattle.spend.specs.Dust.{dust_threshold}
+use Rattle.spend.specs.Destinations.{is_destination}
 
 -- one output
 abbrev pub paying : ℕ → List ℕ → List Output
@@ -40,13 +41,20 @@ abbrev pub first_of : Option PlanError → Option PlanError → Option PlanError
 first_of (Some e) later = Some e
 first_of None later = later
 
--- why what the fee leaves can't be paid
-abbrev pub payment_refusal : Asked → Option PlanError
-payment_refusal a = left_refusal (total_claimed a.claims) (asked_fee a) (dust_threshold a.destination)
+-- why the destination or the feerate is refused
+abbrev pub given_refusal : Asked → Option PlanError
+given_refusal a =
+    if not (is_destination a.destination) then Some BadDestination
+    else if nat_lt a.most_feerate_per_kw a.feerate_per_kw then Some TooHighFeerate
+    else None
+
+-- why what a fee leaves can't be paid
+abbrev pub payment_refusal : Asked → ℕ → Option PlanError
+payment_refusal a fee = first_of (left_refusal (total_claimed a.claims) fee (dust_threshold a.destination)) (given_refusal a)
 
 -- the first refusal that holds: that of a spend that pays nothing yet, and then that of what is paid
 abbrev pub plan_refusal : Asked → Option PlanError
-plan_refusal a = first_of (spend_refusal a 0) (payment_refusal a)
+plan_refusal a = first_of (spend_refusal a 0) (payment_refusal a (asked_fee a))
 
 -- the spend is that of the claims, and pays what the fee leaves. The fee is that of the weight that this very transaction has at most
 pub record IsPlan (a : Asked) (p : Plan) : Type 0 where
@@ -76,6 +84,11 @@ Weighs (Err e) a = UnlessMemory e (spend_refusal a 0 ≡ Some e)
 abbrev pub Leaves : Result ℕ PlanError → ℕ → ℕ → ℕ → Type 0
 Leaves (Ok n) total fee threshold = (left_refusal total fee threshold ≡ None) × (n ≡ total - fee)
 Leaves (Err e) total fee threshold = left_refusal total fee threshold ≡ Some e
+
+-- what a fee leaves of what is asked, or why it can't be paid
+abbrev pub Pays : Result ℕ PlanError → Asked → ℕ → Type 0
+Pays (Ok n) a fee = (payment_refusal a fee ≡ None) × (n ≡ total_claimed a.claims - fee)
+Pays (Err e) a fee = payment_refusal a fee ≡ Some e
 
 -- the plan, or the first refusal that holds
 abbrev pub Plans : Result Plan PlanError → Asked → Type 0

@@ -1,18 +1,20 @@
 //! What is asked for: outputs to spend, whose claims are accepted anew.
 
-ghost use Rattle.std.specs.Prelude.{◌≡◌, true, length, ok_or, IfOk};
+ghost use Rattle.std.specs.Prelude.{◌≡◌, true, length, ok_or, MatchBool, IfOk};
+ghost use Rattle.json_names.specs.Repeats.{RepeatsMember};
 ghost use Rattle.json_value.specs.View.{view};
 ghost use Rattle.spend.specs.declared.errors.PlanError.TheVariants.{NotJson, BadClaim};
-ghost use Rattle.spend.specs.Asking.{Answers, value_in, shaped, request_in, is_within, IsWithin, asked_with, asked_in};
+ghost use Rattle.spend.specs.Asking.{Answers, value_in, shaped, twice_in, request_in, is_within, IsWithin, asked_with, asked_in};
 ghost use Rattle.plain_claims.specs.Claims.{claims_of};
 
 use crate::errors::PlanError;
 use crate::requests::Request;
 use claim::Claim;
+use json_names::first_repeated_member;
 use json_value::{ReadError, Value};
 use lists::{ByteString, List};
 use plain_claims::ClaimError;
-use std::alloc::Global;
+use std::alloc::{AllocError, Global};
 use texts::{PlainClaim, ReadValue, ShapeError};
 use tx::{MAX_BYTES, MAX_INPUTS};
 
@@ -27,6 +29,8 @@ pub struct Asked {
     pub destination: ByteString,
     /// Satoshis for each 1,000 units of weight.
     pub feerate_per_kw: u32,
+    /// The greatest feerate that is taken.
+    pub most_feerate_per_kw: u32,
 }
 
 // Parses bytes as a JSON value.
@@ -61,12 +65,28 @@ fn is_within(request: &Request) -> bool
     count > 0 && count <= MAX_INPUTS && request.destination.len() <= MAX_BYTES
 }
 
-// Reads a request that is within the limits.
+// Whether some object has a name twice. The only error is that memory ran out.
+fn repeats(alloc: Global, bytes: &[u8]) -> Result<bool, AllocError>
+    ensures { IfOk result
+        (λ b. MatchBool b (RepeatsMember bytes.now) (¬ RepeatsMember bytes.now)) }
+{
+    match first_repeated_member(alloc, bytes)? {
+        Some(_) => Ok(true),
+        None => Ok(false),
+    }
+}
+
+// Reads a request that is within the limits, and in which no object has a name twice.
 fn request_in(alloc: Global, bytes: &[u8]) -> Result<Request, PlanError>
-    ensures value { Answers (λ r. r) result (request_in bytes.now) }
+    ensures once { ¬ RepeatsMember bytes.now → Answers (λ r. r) result (request_in bytes.now) }
+    ensures twice { RepeatsMember bytes.now → Answers (λ r. r) result (twice_in bytes.now) }
     ensures within { IfOk result (λ r. is_within (length r.claims) (length r.destination) ≡ true) }
 {
+    let repeats = repeats(alloc, bytes)?;
     let value = value_in(alloc, bytes)?;
+    if repeats {
+        return Err(PlanError::BadShape);
+    }
     let request = shaped(alloc, &value)?;
     if !is_within(&request) {
         return Err(PlanError::BadShape);
@@ -100,20 +120,23 @@ fn asked_with(alloc: Global, request: Request) -> Result<Asked, PlanError>
         preimages,
         destination,
         feerate_per_kw,
+        most_feerate_per_kw,
     } = request;
     Ok(Asked {
         claims: accepted(alloc, claims)?,
         preimages,
         destination,
         feerate_per_kw,
+        most_feerate_per_kw,
     })
 }
 
-/// What bytes ask for. Refused with the first that holds of `NotJson`, `BadShape` and `BadClaim`. `BadShape` is also for no output, for more than 4,000, and for a
-/// destination of more than 10,000 bytes.
+/// What bytes ask for. Refused with the first that holds of `NotJson`, `BadShape` and `BadClaim`. `BadShape` is also for no output, for more than 4,000, for a
+/// destination of more than 10,000 bytes, and where some object has a name twice.
 #[tactic(auto, unfolding(crate::specs::Asking::asked_in))]
 pub fn asked_in(alloc: Global, bytes: &[u8]) -> Result<Asked, PlanError>
-    ensures value { Answers (λ a. a) result (asked_in bytes.now) }
+    ensures once { ¬ RepeatsMember bytes.now → Answers (λ a. a) result (asked_in bytes.now) }
+    ensures twice { RepeatsMember bytes.now → Answers (λ a. a) result (twice_in bytes.now) }
     ensures within { IfOk result (λ a. IsWithin a) }
 {
     let request = request_in(alloc, bytes)?;

@@ -1,6 +1,6 @@
 // Which outputs are too small for nodes to relay.
 
-ghost use Rattle.std.specs.Prelude.{◌≡◌, ◌≤◌, length, nat_lt, if◌then◌else◌};
+ghost use Rattle.std.specs.Prelude.{◌≡◌, ◌≤◌, length, nat_lt, IsTrue, if◌then◌else◌};
 ghost use Rattle.tx.specs.declared.limits.TheConstants.{MAX_BYTES as max_bytes};
 ghost use Rattle.spend.specs.Dust.{is_version, is_witness_program, is_unspendable, spending_size, output_size, dust_threshold};
 
@@ -14,9 +14,10 @@ fn is_version(code: u8) -> bool
     code == 0x00 || (0x51 <= code && code <= 0x60)
 }
 
-// Whether the script is a witness program (BIP 141).
-fn is_witness_program(script: &[u8]) -> bool
-    ensures { result ≡ is_witness_program script.now }
+/// Whether the script is a witness program (BIP 141).
+pub fn is_witness_program(script: &[u8]) -> bool
+    ensures value { result ≡ is_witness_program script.now }
+    ensures long { IsTrue result → 4 ≤ length script.now }
 {
     let size = script.len();
     4 <= size && size <= 42 && is_version(script[0]) && usize::from(script[1]) + 2 == size

@@ -7,14 +7,14 @@ ghost use Rattle.spend.specs.declared.errors.PlanError.TheVariants.{NoMemory};
 use filling::SpendError;
 use std::alloc::AllocError;
 
-/// Why no spend is made. Checked in this order; memory may run out at any time.
+/// Why no spend is made. Checked in this order; memory may run out at any time. The numbers 11 and 12 are those of input that can't be read.
 #[derive(Clone, Copy)]
 pub enum PlanError {
     /// Memory ran out.
     NoMemory,
     /// Invalid JSON.
     NotJson,
-    /// The value does not have the shape, or it has no output, more than 4,000, or a destination of more than 10,000 bytes.
+    /// The value does not have the shape, an object has a name twice, or there is no output, more than 4,000, or a destination of more than 10,000 bytes.
     BadShape,
     /// A claim is not accepted, or its script is refused by `parse` or `check`.
     BadClaim,
@@ -32,6 +32,10 @@ pub enum PlanError {
     NothingLeft,
     /// What the fee leaves is too little for nodes to relay.
     Dust,
+    /// The destination is no program that wallets have an address for.
+    BadDestination,
+    /// The feerate is above the limit.
+    TooHighFeerate,
 }
 
 impl PlanError {
@@ -51,6 +55,8 @@ impl PlanError {
             PlanError::ValueTooLarge => 8,
             PlanError::NothingLeft => 9,
             PlanError::Dust => 10,
+            PlanError::BadDestination => 13,
+            PlanError::TooHighFeerate => 14,
         }
     }
 
@@ -70,6 +76,8 @@ impl PlanError {
             PlanError::ValueTooLarge => "ValueTooLarge",
             PlanError::NothingLeft => "NothingLeft",
             PlanError::Dust => "Dust",
+            PlanError::BadDestination => "BadDestination",
+            PlanError::TooHighFeerate => "TooHighFeerate",
         }
     }
 }

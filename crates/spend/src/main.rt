@@ -9,10 +9,15 @@
 #![tactic(auto)]
 
 mod asking;
+mod causes;
+mod destinations;
 mod dust;
 mod errors;
+mod notes;
+mod outputs;
 mod plans;
 mod requests;
+mod shapes;
 mod telling;
 mod weights;
 
@@ -24,7 +29,7 @@ use std::process::ExitCode;
 use streams::{refuse_memory, written};
 
 /// The line that is printed for wrong words.
-const USAGE: &str = "usage: spend\n";
+const USAGE: &str = "usage: spend, with a request on standard input\n";
 
 /// The words after the program's name.
 fn words(rt: &HostRuntime) -> io::Result<Vec<String>> {
@@ -42,7 +47,7 @@ fn run_words(
     match words {
         Ok(words) => {
             if words.is_empty() {
-                run(alloc, input, out)
+                run(alloc, input, out, err)
             } else {
                 written(err, USAGE, 2)
             }

@@ -5,9 +5,10 @@ ghost use Rattle.tx.specs.declared.limits.TheConstants.{MAX_INPUTS as max_inputs
 ghost use Rattle.filling.specs.Refusals.{total_claimed};
 ghost use Rattle.spend.specs.Asking.{IsWithin};
 ghost use Rattle.spend.specs.Dust.{dust_threshold};
-ghost use Rattle.spend.specs.Planning.{paying, Spends, Weighs, Leaves, Plans};
+ghost use Rattle.spend.specs.Planning.{paying, given_refusal, Spends, Weighs, Leaves, Pays, Plans};
 
 use crate::asking::Asked;
+use crate::destinations::is_destination;
 use crate::dust::dust_threshold;
 use crate::errors::PlanError;
 use crate::weights::{fee_sat, greatest_weight};
@@ -100,23 +101,36 @@ fn left(total: u128, fee: u128, threshold: u64) -> Result<u64, PlanError>
     Ok((total - fee) as u64)
 }
 
-// What the fee leaves of what is claimed.
+// Why the destination or the feerate is refused, if one is.
+fn given_refusal(asked: &Asked) -> Option<PlanError>
+    ensures { result ≡ given_refusal asked.now }
+{
+    if !is_destination(asked.destination.bytes()) {
+        return Some(PlanError::BadDestination);
+    }
+    if asked.feerate_per_kw > asked.most_feerate_per_kw {
+        return Some(PlanError::TooHighFeerate);
+    }
+    None
+}
+
+// What the fee leaves of what is claimed, if the destination and the feerate are taken.
 fn payment(claims: &[&Claim], asked: &Asked, fee: u128) -> Result<u64, PlanError>
     requires lent { map (λ c. c.now) claims.now ≡ asked.now.claims }
     requires script { length asked.now.destination ≤ max_bytes }
-    ensures value { Leaves result (total_claimed asked.now.claims) fee
-        (dust_threshold asked.now.destination) }
+    ensures value { Pays result asked.now fee }
     ensures bound { IfOk result (λ n. n ≤ max_value) }
 {
-    left(
-        total_claimed(claims),
-        fee,
-        dust_threshold(asked.destination.bytes()),
-    )
+    let threshold = dust_threshold(asked.destination.bytes());
+    let value_sat = left(total_claimed(claims), fee, threshold)?;
+    match given_refusal(asked) {
+        Some(error) => Err(error),
+        None => Ok(value_sat),
+    }
 }
 
 /// The spend of what is asked, which pays all but the fee. Refused with the first that holds of `FixedTransaction`, `SameOutpoint`, `MeasuredSignature`, `NoPreimage`,
-/// `ValueTooLarge`, `NothingLeft` and `Dust`. `NoMemory` may come at any time.
+/// `ValueTooLarge`, `NothingLeft`, `Dust`, `BadDestination` and `TooHighFeerate`. `NoMemory` may come at any time.
 pub fn plan_of(alloc: Global, asked: &Asked) -> Result<Plan, PlanError>
     requires { IsWithin asked.now }
     ensures { Plans result asked.now }

@@ -5,6 +5,8 @@ ghost use Rattle.spend.specs.Asking.{IsWithin};
 
 use crate::asking::{Asked, asked_in};
 use crate::errors::PlanError;
+use crate::notes::{say_input, say_plan, say_refusal};
+use crate::outputs::reversed;
 use crate::plans::{Plan, plan_of};
 use claim::Claim;
 use filling::MissingSignature;
@@ -15,15 +17,15 @@ use std::alloc::Global;
 use std::io::{Read, Write};
 use std::mem;
 use streams::{InputError, read_all, refuse_memory, write_refusal, write_told};
-use tx::{TxIn, encode_stripped};
+use tx::{TxIn, encode_stripped, txid};
 
 /// Reads what is asked for, and writes the plan: one JSON object on a line. Returns the status: 0 when it is written, 1 for refused input, a failed write, or if memory ran out. The whole line is made
-/// before its first byte is written. A refusal is written with its number: that of `PlanError`, or for input that can't be read one after them.
-pub fn run(alloc: Global, input: &mut dyn Read, out: &mut dyn Write) -> u8
+/// before its first byte is written. A refusal is written with its number: that of `PlanError`, or for input that can't be read 11 or 12. Notes follow on the other stream, and change no status.
+pub fn run(alloc: Global, input: &mut dyn Read, out: &mut dyn Write, err: &mut dyn Write) -> u8
     ensures { result ≤ 1 }
 {
     match read_all(alloc, input) {
-        Ok(bytes) => tell_bytes(alloc, bytes.as_slice(), out),
+        Ok(bytes) => tell_bytes(alloc, bytes.as_slice(), out, err),
         Err(InputError::NoMemory) => refuse_memory(out),
         Err(error) => {
             let number = u64::from(error.number()) + 10;
@@ -43,22 +45,26 @@ fn refuse(alloc: Global, error: PlanError, out: &mut dyn Write) -> u8
 }
 
 // Writes the plan for what bytes ask for, and returns the status.
-fn tell_bytes(alloc: Global, bytes: &[u8], out: &mut dyn Write) -> u8
+fn tell_bytes(alloc: Global, bytes: &[u8], out: &mut dyn Write, err: &mut dyn Write) -> u8
     ensures { result ≤ 1 }
 {
     match asked_in(alloc, bytes) {
         Ok(asked) => {
-            let status = tell_asked(alloc, &asked, out);
+            let status = tell_asked(alloc, &asked, out, err);
             // not dropped: the program ends now, which frees all at once
             mem::forget(asked);
             status
         }
-        Err(error) => refuse(alloc, error, out),
+        Err(error) => {
+            let status = refuse(alloc, error, out);
+            say_input(alloc, bytes, error, err);
+            status
+        }
     }
 }
 
 // Writes the plan for what is asked, and returns the status.
-fn tell_asked(alloc: Global, asked: &Asked, out: &mut dyn Write) -> u8
+fn tell_asked(alloc: Global, asked: &Asked, out: &mut dyn Write, err: &mut dyn Write) -> u8
     requires { IsWithin asked.now }
     ensures { result ≤ 1 }
 {
@@ -66,10 +72,16 @@ fn tell_asked(alloc: Global, asked: &Asked, out: &mut dyn Write) -> u8
         Ok(plan) => {
             let mut line = Page::new(alloc);
             tell_plan(alloc, &mut line, asked.claims.values(), &plan);
+            let status = write_told(out, &mut line, 0);
+            say_plan(alloc, asked, &plan, err);
             mem::forget(plan);
-            write_told(out, &mut line, 0)
+            status
         }
-        Err(error) => refuse(alloc, error, out),
+        Err(error) => {
+            let status = refuse(alloc, error, out);
+            say_refusal(alloc, asked, error, err);
+            status
+        }
     }
 }
 
@@ -81,8 +93,12 @@ fn tell_plan(alloc: Global, line: &mut Page, claims: &[Claim], plan: &Plan) {
         Err(_) => line.fail(),
     }
     line.write(
-        "\",\"fee\":%,\"weight\":%,\"inputs\":[",
-        &[Sum(plan.fee_sat), Sum(plan.weight)],
+        "\",\"explorer\":\"%\",\"fee\":%,\"weight\":%,\"inputs\":[",
+        &[
+            Hash(reversed(txid(tx))),
+            Sum(plan.fee_sat),
+            Sum(plan.weight),
+        ],
     );
     let signatures = plan.spend.signatures.values();
     for (index, (input, claim)) in tx.inputs().iter().zip(claims).enumerate() {
@@ -99,7 +115,14 @@ fn tell_input(
     claim: &Claim,
     signatures: &[MissingSignature],
 ) {
-    line.element("{\"value\":%", &[Count(claim.place().value)]);
+    line.element(
+        "{\"explorer\":\"%:%\",\"value\":%",
+        &[
+            Hash(reversed(input.outpoint.txid)),
+            Count(u64::from(input.outpoint.index)),
+            Count(claim.place().value),
+        ],
+    );
     line.hex(",\"program\":\"", claim.place().program.bytes());
     line.hex("\",\"script\":\"", claim.script());
     line.write(

@@ -1,0 +1,226 @@
+// Which part of a request does not have its shape, and what is wanted there.
+
+use claim::{Shell, Slot};
+use json_value::Value;
+use page::Page;
+use page::Piece::Count;
+use std::alloc::Global;
+use texts::{FromValue, ReadValue};
+use tx::{MAX_INPUTS, OutPoint};
+use warnings::{TextFault, text_fault};
+
+// What a value is to be.
+#[derive(Clone, Copy)]
+enum Kind {
+    Satoshis,
+    Feerate,
+    Path,
+    Bytes,
+    Outpoint,
+    Shell,
+    Slot,
+    Preimage,
+    Output,
+}
+
+// How many values a member has.
+#[derive(Clone, Copy)]
+enum Number {
+    One,
+    AtMostOne,
+    Array,
+}
+
+// A member.
+#[derive(Clone, Copy)]
+struct Member(&'static str, Kind, Number);
+
+static REQUEST: [Member; 5] = [
+    Member("destination", Kind::Bytes, Number::One),
+    Member("feerate_per_kw", Kind::Feerate, Number::One),
+    Member("most_feerate_per_kw", Kind::Feerate, Number::AtMostOne),
+    Member("preimages", Kind::Preimage, Number::Array),
+    Member("outputs", Kind::Output, Number::Array),
+];
+
+static OUTPUT: [Member; 8] = [
+    Member("outpoint", Kind::Outpoint, Number::AtMostOne),
+    Member("explorer", Kind::Outpoint, Number::AtMostOne),
+    Member("path", Kind::Path, Number::One),
+    Member("program", Kind::Bytes, Number::One),
+    Member("script", Kind::Bytes, Number::One),
+    Member("shell", Kind::Shell, Number::One),
+    Member("slots", Kind::Slot, Number::Array),
+    Member("value", Kind::Satoshis, Number::One),
+];
+
+impl Kind {
+    // Whether a value is of this kind. What an output has in it is not asked.
+    fn fits(self, alloc: Global, value: &Value) -> bool {
+        match self {
+            Kind::Satoshis | Kind::Path => value.as_u64().is_some(),
+            Kind::Feerate => u32::from_value(value).is_some(),
+            Kind::Bytes => match value.as_str() {
+                Some(text) => text_fault(text).is_none(),
+                None => false,
+            },
+            Kind::Outpoint => OutPoint::from_value(value).is_some(),
+            Kind::Shell => Shell::read_value(alloc, value).is_ok(),
+            Kind::Slot => Slot::read_value(alloc, value).is_ok(),
+            Kind::Preimage => <[u8; 32]>::from_value(value).is_some(),
+            Kind::Output => value.as_object().is_some(),
+        }
+    }
+
+    // What is wanted, in words.
+    fn text(self) -> &'static str {
+        match self {
+            Kind::Satoshis => "satoshis, as an integer without point, sign and quotes",
+            Kind::Feerate => {
+                "satoshis for 1,000 units of weight, as an integer of at most 32 bits without quotes"
+            }
+            Kind::Path => "the number of a path from 0, without quotes",
+            Kind::Bytes => "bytes in hexadecimal, in quotes",
+            Kind::Outpoint => {
+                "\"TXID:INDEX\", with 64 hexadecimal digits and an index below 2^32"
+            }
+            Kind::Shell => "null",
+            Kind::Slot => {
+                "[\"sig\",KEY], [\"preimage\",SHA256] or [\"exact\",BYTES], with a compressed key, a hash of 32 bytes or at most 520 bytes in hexadecimal"
+            }
+            Kind::Preimage => "32 bytes in hexadecimal",
+            Kind::Output => "an object",
+        }
+    }
+}
+
+// Begins a note on the whole request, or on an output.
+fn begin(notes: &mut Page, output: Option<u64>, name: &str) {
+    notes.push("note: ");
+    if let Some(output) = output {
+        notes.write("outputs[%]", &[Count(output)]);
+        notes.push(if name.is_empty() { "" } else { "." });
+    }
+    notes.push(name);
+}
+
+// Ends a note on a value with what is wanted in its place.
+fn wanted(notes: &mut Page, kind: Kind, value: &Value) {
+    notes.push(": wanted: ");
+    notes.push(kind.text());
+    if let Kind::Bytes = kind {
+        if let Some(text) = value.as_str() {
+            match text_fault(text) {
+                Some(TextFault::Address) => notes.push(
+                    "; of an address, those that bitcoin-cli validateaddress ADDRESS has as scriptPubKey",
+                ),
+                Some(TextFault::Prefix) => notes.push("; without 0x"),
+                Some(TextFault::Odd(_)) => notes.push("; two digits for each byte"),
+                _ => {}
+            }
+        }
+    }
+    notes.push("\n");
+}
+
+// Notes the value of a member, or the first of its array, if it is of another kind.
+fn note_value(alloc: Global, notes: &mut Page, output: Option<u64>, member: Member, value: &Value) {
+    let Member(name, kind, number) = member;
+    let Number::Array = number else {
+        if !kind.fits(alloc, value) {
+            begin(notes, output, name);
+            wanted(notes, kind, value);
+        }
+        return;
+    };
+    let Some(items) = value.as_array() else {
+        begin(notes, output, name);
+        notes.push(": wanted: an array\n");
+        return;
+    };
+    for (index, item) in items.iter().enumerate() {
+        if !kind.fits(alloc, item) {
+            begin(notes, output, name);
+            notes.write("[%]", &[Count(index as u64)]);
+            wanted(notes, kind, item);
+            return;
+        }
+    }
+}
+
+/// The name as it is said: a question mark for one that is long, or has characters that are not seen.
+pub fn said(name: &str) -> &str {
+    if name.len() <= 40 && name.as_bytes().iter().all(|byte| byte.is_ascii_graphic()) {
+        name
+    } else {
+        "?"
+    }
+}
+
+// Notes the first member of an object that does not belong to it, is missing, or is of another kind.
+fn note_object(
+    alloc: Global,
+    notes: &mut Page,
+    output: Option<u64>,
+    value: &Value,
+    members: &[Member],
+) {
+    for (name, _) in value.as_object().unwrap_or(&[]) {
+        if notes.text().is_empty() && !members.iter().any(|member| member.0 == name.as_str()) {
+            begin(notes, output, said(name.as_str()));
+            notes.push(": no member of this name belongs here\n");
+        }
+    }
+    for member in members {
+        if notes.text().is_empty() {
+            match (value.member(member.0), member.2) {
+                (Some(found), _) => note_value(alloc, notes, output, *member, found),
+                (None, Number::AtMostOne) => {}
+                (None, _) => {
+                    begin(notes, output, member.0);
+                    notes.push(": it is missing\n");
+                }
+            }
+        }
+    }
+}
+
+// Notes an output that has no outpoint, or two.
+fn note_outpoint(notes: &mut Page, output: u64, value: &Value) {
+    if notes.text().is_empty()
+        && value.member("outpoint").is_some() == value.member("explorer").is_some()
+    {
+        begin(notes, Some(output), "");
+        notes.push(
+            ": wanted: either outpoint, with the id in the hash's own byte order, or explorer, with the id as explorers show it\n",
+        );
+    }
+}
+
+/// Notes the first part of a request that does not have its shape.
+pub fn note_shape(alloc: Global, notes: &mut Page, value: &Value) {
+    if value.as_object().is_none() {
+        notes.push("note: the request: wanted: an object\n");
+        return;
+    }
+    note_object(alloc, notes, None, value, &REQUEST);
+    let outputs = match value.member("outputs") {
+        Some(outputs) => outputs.as_array().unwrap_or(&[]),
+        None => &[],
+    };
+    let mut index: u64 = 0;
+    for output in outputs {
+        if notes.text().is_empty() {
+            note_object(alloc, notes, Some(index), output, &OUTPUT);
+            note_outpoint(notes, index, output);
+        }
+        index = index.wrapping_add(1);
+    }
+    if notes.text().is_empty() {
+        if outputs.is_empty() || outputs.len() > MAX_INPUTS {
+            notes.push("note: outputs: wanted: 1 to 4000 of them\n");
+        } else {
+            notes.push("note: destination: wanted: at most 10000 bytes\n");
+        }
+    }
+}
