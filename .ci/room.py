@@ -65,9 +65,30 @@ def kit_of(root):
     return {name: [it for it in deps.split() if it not in crates] for name, deps in found}
 
 
+def folder_of_kit():
+    """The folder of the toolchain."""
+    return os.path.dirname(os.path.dirname(os.path.realpath(shutil.which("rt"))))
+
+
+def source_words(root, crate):
+    """The words that give a compiler the sources of all that a crate stands on."""
+    kit, uses, listed = folder_of_kit(), graph(root), kit_of(root)
+    below, words = crates_below(uses, {crate}), []
+    for name in below:
+        words += ["--lib", f"{name}:{','.join(['core', 'std', *listed[name], *uses[name]])}={root}/crates/{name}/src/lib.rt"]
+    names = list(dict.fromkeys(["std", *(it for name in [crate, *below] for it in listed[name])]))
+    for name in names:
+        with open(f"{kit}/rlibs/{name}.rlib/format", encoding="utf-8") as file:
+            found = re.findall(r"^dep (\w+)$", file.read(), re.M)
+        # the loop comes to these too
+        names += [it for it in found if it not in names]
+        words += ["--lib", f"{name}:{','.join(found)}={kit}/rattle/{name}/src/lib.rt"]
+    return words
+
+
 def check_words(root, crate):
     """The words of a check of a crate in a folder of its own, over the libraries that are finished there."""
-    kit, uses = os.path.dirname(os.path.dirname(os.path.realpath(shutil.which("rt")))), graph(root)
+    kit, uses = folder_of_kit(), graph(root)
     words = ["--crate-name", crate, "src/main.rt" if os.path.isfile(f"{root}/crates/{crate}/src/main.rt") else "src/lib.rt"]
     for name in dict.fromkeys(["core", "std", *kit_of(root)[crate]]):
         words += ["--extern", f"{name}={kit}/rlibs/{name}.rlib"]

@@ -59,7 +59,8 @@ def program_of(script):
 
 
 ANYONE = "note: anyone can spend by path 0: no signature of a key that the script fixes is asked for\n"
-NO_PATH = "note: no witness satisfies the script by the rules of this profile: each branch ends as in consensus\n"
+FALSE_END = "after the last opcode it leaves the empty item, which is false\n"
+NO_PATH = "note: no witness satisfies the script by the rules of this profile: each branch ends as in consensus\n" + f"note: nobody can spend by the only branch: {FALSE_END}"
 # an IF with a lock of 144 blocks in its first branch, a script with a fault, one without a path, and a line that is not hexadecimal
 PAGES = f"""script 0
     0  IF
@@ -74,7 +75,7 @@ path 0: 1 item, 12 weight units (12 with tokens)
   who   anyone
   with  slot 0 is true
   when  after 144 blocks
-{ANYONE}
+note: nobody can spend by the branch after the ELSE at opcode 3: {FALSE_END}{ANYONE}
 script 1
     0  PUSH 81 (number -1)
 program {program_of("0181ff")}
@@ -114,6 +115,8 @@ path 0: 1 item, 28 weight units (28 with tokens)
   who   anyone
   with  slot 0 is false, as the empty item is
   when  at once
+note: nobody can spend by the branch after the IF at opcode 0, then the NOTIF at opcode 1: it ends at opcode 7, where ffffff7f (4 bytes) never equals what it is compared with
+note: nobody can spend by the branch after the IF at opcode 0, then the ELSE at opcode 3: it ends at opcode 7, where ffffffffff (5 bytes) never equals what it is compared with
 {ANYONE}"""
 # a number that the script takes, with and without what may stand around it
 ONE_PAGE = f"""    0  PUSH 01 (number 1)
@@ -129,6 +132,10 @@ LINES = """{"opening":{"events":2,"channels":[]}}
 {"end":{"height":2,"unspent":0,"value":0,"fees":0,"kept":{"A":[],"B":[]},"history":{"A":0,"B":0},"onchain":{"A":0,"B":0}}}
 """
 
+
+def again(name, at):
+    """The note on a member that stands again at a byte of a text of one line."""
+    return f"the member {name} stands twice in its object, and the last one counts: again at byte {at}: line 1, column {at + 1}"
 
 
 def opening_texts():
@@ -166,6 +173,10 @@ ROWS = [
     # a refused event, and none
     ("scenario --strict", SCENARIO, LINES, 1),
     ("scenario --strict", *opening_texts(), 0),
+    # a member that stands twice
+    ("scenario", SCENARIO[:-1] + ',"channels":[]}', LINES.replace('"channels":[]', f'"channels":[],"notes":["{again("channels", len(SCENARIO))}"]'), 0),
+    ("dump", '{"history":1,"version":2,"history":[]}', f'{{"entries":0,"channels":0,"notes":["{again("history", 25)}"]}}\n', 0),
+    ("scenario", '{"a":1,"a":2}', f'{{"refused":"BadShape","notes":["the scenario has no member seeds","{again("a", 7)}"]}}\n', 1),
     ("scenario --dump A", SCENARIO, '{"history":[],"version":2}\n', 0),
     ("scenario --dump B", SCENARIO, '{"history":[],"version":2}\n', 0),
     ("scenario --dump A", "{}", '{"refused":"BadShape","notes":["the scenario has no member seeds"]}\n', 1),

@@ -171,9 +171,8 @@ def witnesses(tried, most):
         yield from itertools.product(tried, repeat=count)
 
 
-def is_taken(script, tried, most):
-    """Whether a run over some of these items ends with one element, a true one (BIP 141)."""
-    ops = opcodes(script)
+def is_taken(ops, tried, most):
+    """Whether a run of opcodes over some of these items ends with one element, a true one (BIP 141)."""
     return any(stack is not None and len(stack) == 1 and is_true(stack[0]) for items in witnesses(tried, most) for _, stack in stops(ops, items))
 
 

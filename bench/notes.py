@@ -3,8 +3,8 @@
 
   bench/notes.py    status 1 where a call notes something else
 
-Opcodes have the names of Bitcoin Core's script.h. Which branches end by a rule that is stricter than consensus is worked by hand from BIPs 65, 66, 112, 141 and 147, and from docs/ENFORCE.md. A script whose branches all end as in
-consensus is run by consensus, on items that are unlike: none of its runs may end well. That two facts of a path contradict
+Opcodes have the names of Bitcoin Core's script.h. Which branches end by a rule that is stricter than consensus is worked by hand from BIPs 65, 66, 112, 141 and 147, and from docs/ENFORCE.md. By which branches nobody can spend is
+worked out here with symbols for what a witness has. Scripts are run by consensus too, on items that are unlike: no run may end well that goes the way of such a branch. That two facts of a path contradict
 each other is found by trying items that are unlike in their bytes, their length, what they hash to, and whether they are true, a key or a token. The parts of scenarios are those of docs/SCENARIOS.md.
 """
 import json
@@ -14,7 +14,8 @@ import subprocess
 import sys
 
 from answers import LIMIT, program
-from consensus import HASHES, goes_past, is_taken
+from consensus import CHECKLOCKTIMEVERIFY, CHECKMULTISIG, CHECKSEQUENCEVERIFY, CHECKSIG, DROP, DUP, ELSE, ENDIF, EQUAL, EQUALVERIFY, HASH160, HASHES, IF, MARK, NOTIF, SIZE, SWAP, Fails, goes_past, is_in_der, is_taken, is_true, opcodes
+from consensus import number as number_of
 from histories import hash160
 
 TOP = os.path.dirname(os.path.dirname(os.path.abspath(__file__)))
@@ -215,7 +216,218 @@ ENDS += [
     for it in ("310602010102010101", "300702010102010101", "300502010102010101", "300602018002010101", "30070202000102010101", "3005020002010101", "300602010103010101", "30070201010201010101", "30060201010201")
 ]
 
+# ---- branches by which nobody can spend
+
+# what a witness decides: an item of it, the hash or the length of one, and the answer of a check
+ITEM, HASHED, LENGTH, ANSWER = "item", "hash", "length", "answer"
+
+
+class Dies(Exception):
+    """Consensus refuses each run of a branch."""
+
+
+class Strict(Exception):
+    """A branch ends by a stricter rule."""
+
+
+def counted(item):
+    return f"{item.hex()} ({len(item)} byte{'s' * (len(item) != 1)})" if item else "the empty item"
+
+
+def is_minimal(item):
+    return not item or item[-1] & 0x7F or len(item) > 1 and item[-2] & 0x80
+
+
+def shown(top, below):
+    """What is shown of two entries: the lower one, or the upper one where the lower one has no bytes of the script."""
+    return next((it for it in (below, top) if isinstance(it, bytes) and it), b"")
+
+
+def equal(one, other):
+    """What EQUAL leaves of two entries."""
+    if not isinstance(one, bytes):
+        one, other = other, one
+    if not isinstance(one, bytes) or other in (ITEM, ANSWER):
+        return ANSWER
+    if isinstance(other, bytes):
+        may_hold = one == other
+        return b"\1" if may_hold else b""
+    fits = len(one) == 20 if other == HASHED else len(one) <= 4 and is_minimal(one) and 0 <= number_of(one, 4) <= 520
+    return ANSWER if fits else b""
+
+
+def check_signature(stack):
+    key, signature = stack.pop(), stack.pop()
+    if isinstance(signature, bytes) and signature and not is_in_der(signature):
+        raise Dies(f"{counted(signature)} is no signature in DER (BIP 66): is a DROP missing?")
+    if isinstance(key, bytes) and not is_key(key) or isinstance(signature, bytes) and signature:
+        raise Strict
+    return b"" if signature == b"" else ANSWER
+
+
+def is_key(item):
+    return len(item) == 33 and item[0] in (2, 3)
+
+
+def count_in(stack, limit):
+    """The number on top, of what CHECKMULTISIG counts."""
+    item = stack.pop()
+    if not isinstance(item, bytes):
+        raise Strict
+    if len(item) > 4 or not 0 <= number_of(item, 4) <= limit:
+        raise Dies(f"{counted(item)} is no number of keys (0 to 20), nor of signatures (0 to that of the keys)")
+    if not is_minimal(item):
+        raise Strict
+    return number_of(item, 4)
+
+
+def check_signatures(stack):
+    keys = [stack.pop() for _ in range(count_in(stack, 20))]
+    signatures = [stack.pop() for _ in range(count_in(stack, len(keys)))]
+    extra = stack.pop()
+    if signatures and isinstance(signatures[0], bytes) and signatures[0] and not is_in_der(signatures[0]):
+        raise Dies(f"{counted(signatures[0])} is no signature in DER (BIP 66): is a DROP missing?")
+    if isinstance(extra, bytes) and extra:
+        raise Dies(f"{counted(extra)} is the extra item of CHECKMULTISIG, which has to be empty (BIP 147)")
+    if any(isinstance(it, bytes) and not is_key(it) for it in keys):
+        raise Strict
+    return ANSWER if signatures else b"\1"
+
+
+def check_lock(item):
+    if len(item) > 5:
+        raise Dies(f"{counted(item)} is no lock, which has at most 5 bytes")
+    if number_of(item, 5) < 0:
+        says = f"is {number_of(item, 5)}, and no lock is negative" if is_minimal(item) else "is negative, and no lock is"
+        raise Dies(f"{counted(item)} {says} (a number is little-endian)")
+    if not is_minimal(item):
+        raise Strict
+
+
+class Symbols(list):
+    """A stack, below which are the items of the witness."""
+
+    def pop(self):
+        return super().pop() if self else ITEM
+
+
+def run_opcode(op, stack):
+    """Runs an opcode that opens, turns and closes no branch."""
+    if isinstance(op, bytes):
+        stack.append(op)
+    elif op in (CHECKSIG, CHECKMULTISIG):
+        stack.append(check_signature(stack) if op == CHECKSIG else check_signatures(stack))
+    elif op in (EQUAL, EQUALVERIFY):
+        top, below = stack.pop(), stack.pop()
+        found = equal(below, top)
+        if op == EQUAL:
+            stack.append(found)
+        elif found == b"":
+            item = shown(top, below)
+            raise Dies(f"{counted(item)} never equals what it is compared with" + ": a HASH160 has 20 bytes" * (len(item) == 32))
+    else:
+        top = stack.pop()
+        if op == HASH160:
+            stack.append(hash160(top) if isinstance(top, bytes) else HASHED if top == ITEM else ANSWER)
+        elif op == SWAP:
+            below = stack.pop()
+            stack += [top, below]
+        elif op != DROP:
+            stack.append(top)
+            if op in (CHECKLOCKTIMEVERIFY, CHECKSEQUENCEVERIFY) and isinstance(top, bytes):
+                check_lock(top)
+            elif op == DUP:
+                stack.append(top)
+            elif op == SIZE:
+                sizes = {ITEM: LENGTH, HASHED: b"\x14"}
+                stack.append(bytes([len(top)] * bool(top)) if isinstance(top, bytes) else sizes.get(top, ANSWER))
+
+
+def last_end(stack):
+    """How a branch ends after the last opcode, if consensus refuses that."""
+    if len(stack) > 1:
+        item = shown(stack[-1], stack[-2])
+        return ": after the last opcode it leaves two or more elements" + (f", {counted(item)} among them" if item else "") + ", and BIP 141 wants one: is a DROP missing?"
+    if stack and isinstance(stack[0], bytes) and not is_true(stack[0]):
+        return f": after the last opcode it leaves {counted(stack[0])}, which is false"
+    return None
+
+
+def branches_of(ops, at=0, stack=(), ifs=(), ways=()):
+    """Each branch: where it goes on at each IF and NOTIF whose condition the witness decides, and how it ends where consensus refuses it."""
+    stack = Symbols(stack)
+    for at in range(at, len(ops)):
+        op = ops[at]
+        if op in (IF, NOTIF):
+            top = stack.pop() if all(ifs) else b""
+            if all(ifs) and not isinstance(top, bytes):
+                for runs in (True, False):
+                    yield from branches_of(ops, at + 1, stack, (*ifs, runs), (*ways, (at, runs)))
+                return
+            ifs = (*ifs, all(ifs) and is_true(top) == (op == IF))
+        elif op == ELSE:
+            ifs = (*ifs[:-1], not ifs[-1])
+        elif op == ENDIF:
+            ifs = ifs[:-1]
+        elif all(ifs):
+            try:
+                run_opcode(op, stack)
+            except Dies as dies:
+                yield ways, f": it ends at opcode {at}, where {dies}"
+                return
+            except Strict:
+                yield ways, None
+                return
+    yield ways, last_end(stack)
+
+
+def other_part(ops, at):
+    """The place of the ELSE of an IF or NOTIF, or of its ENDIF where it has none."""
+    depth = 0
+    for place in range(at + 1, len(ops)):
+        if depth == 0 and ops[place] in (ELSE, ENDIF):
+            return place
+        depth += (ops[place] in (IF, NOTIF)) - (ops[place] == ENDIF)
+    raise ValueError
+
+
+def dead_ends(code):
+    """The ways of the branches by which nobody can spend, and the note on each."""
+    ops = opcodes(bytes.fromhex(code))
+    for ways, dies in branches_of(ops):
+        if dies:
+            places = [at if runs else other_part(ops, at) for at, runs in ways]
+            after = ", then the ".join(f"{NAMES[ops[at] - 0x4C]} at opcode {at}" for at in places)
+            yield ways, f"nobody can spend by the {f'branch after the {after}' if ways else 'only branch'}{dies}"
+
+
+def on_the_way(code, ways):
+    """The opcodes of a script, which no run goes past that leaves this way."""
+    ops = opcodes(bytes.fromhex(code))
+    marks = []
+    for at, runs in ways:
+        place = other_part(ops, at)
+        marks.append((at + 1, [MARK]) if not runs else (place + 1, [MARK]) if ops[place] == ELSE else (place, [ELSE, MARK]))
+    for place, mark in sorted(marks, reverse=True):
+        ops[place:place] = mark
+    return ops
+
+
+def with_dead_ends(code, notes):
+    """Notes on a listed script, with those on branches by which nobody can spend: they come after what is said of all branches and of stricter ends."""
+    first = sum(it.startswith((NONE, "a branch ends")) for it in notes)
+    return [*notes[:first], *(note for _, note in dead_ends(code)), *notes[first:]]
+
+
 # ---- relative locks (BIP 68, BIP 112)
+
+
+def units_note(age):
+    return f"path 0 waits {age} unit{'s' * (age != 1)} of 512 seconds, which its age does not tell: that is in blocks (BIP 68)"
+
+
+def time_note(lock):
+    return f"path 0 waits until the median time past is above {lock}: its lock is a time, in seconds since 1970 (BIP 113)"
 
 
 def lock_rows():
@@ -226,11 +438,12 @@ def lock_rows():
         unit = ("block" if age == 1 else "blocks") if not n >> 22 & 1 else f"{'unit' if age == 1 else 'units'} of 512 seconds"
         asks = "nothing: bit 31 switches the lock off (BIP 68)" if n >> 31 & 1 else f"an age of {age} {unit}: of a number only bits 0 to 15, 22 and 31 count (BIP 68)"
         is_plain = age > 0 and n in (age, age + (1 << 22))
-        yield f"{number(n)}b275{push(KEY)}ac", [] if is_plain else [f"opcode 1, CHECKSEQUENCEVERIFY of {n}, asks for {asks}"]
+        waits = [units_note(age)] * (n >> 22 & 1 and not n >> 31 & 1 and age > 0)
+        yield f"{number(n)}b275{push(KEY)}ac", [f"opcode 1, CHECKSEQUENCEVERIFY of {n}, asks for {asks}"] * (not is_plain) + waits
     # lock times: the greatest of 4 bytes, one more, the greatest of 5 bytes, and of two paths the second
     beyond = "a lock time has 4 bytes, so it is at most 4294967295"
-    for n in (500, 2**32 - 1, 2**32, 2**39 - 1):
-        yield f"{number(n)}b175{push(KEY)}ac", [f"no transaction has the lock time of path 0: {beyond}"] * (n >= 2**32)
+    for n in (500, 499_999_999, 500_000_000, 2**32 - 1, 2**32, 2**39 - 1):
+        yield f"{number(n)}b175{push(KEY)}ac", [f"no transaction has the lock time of path 0: {beyond}"] * (n >= 2**32) + [time_note(n)] * (500_000_000 <= n < 2**32)
     yield f"6351{number(499)}b17567{number(2**32)}b1755168", [f"no transaction has the lock time of path 1: {beyond}", "anyone can spend by path 0: no signature of a key that the script fixes is asked for"]
 
 
@@ -256,7 +469,8 @@ def is_right(code, notes):
     """Whether notes agree with consensus: where they say that each branch ends as there, no run is taken, and the runs go on after each opcode at which they say that consensus is laxer."""
     script = bytes.fromhex(code)
     ends = [int(it.split()[5][:-1]) for it in notes if it.startswith("a branch ends")]
-    well = not (ends_so(notes) and is_taken(script, TRIED, 3)) and all(goes_past(script, index, TRIED, 3) for index in ends)
+    well = not (ends_so(notes) and is_taken(opcodes(script), TRIED, 3)) and all(goes_past(script, index, TRIED, 3) for index in ends)
+    well = well and not any(is_taken(on_the_way(code, ways), TRIED, 3) for ways, _ in dead_ends(code))
     if not well:
         print(f"{code[:400]}\n  by consensus it is not so: {notes}")
     return well
@@ -368,6 +582,13 @@ def spender_notes(facts, slots):
         yield "a key is taken by its hash on path 0: by consensus, though not by relay policy, an uncompressed key with that hash is taken too"
 
 
+def wait_notes(facts):
+    """What is noted of the greatest locks by time."""
+    times = [what for kind, what, _ in facts if kind == "lock" and what >= 500_000_000]
+    units = [what & 0xFFFF for kind, what, _ in facts if kind == "age" and what >> 22 & 1]
+    return [note(max(found)) for note, found in ((time_note, times), (units_note, units)) if found]
+
+
 def note_of(one, other, texts):
     """What is noted of two facts of path 0 that contradict each other. A signature of Bitcoin has another length than a token, which is what a length or bytes are compared with here."""
     kinds = {one[0], other[0]}
@@ -391,7 +612,7 @@ def pair_rows():
                     if before:
                         notes = [note_of(facts[before[0]], fact, (text(facts[before[0]], slots[before[0]]), text(fact, slots[at])))]
                         break
-                notes = notes or list(spender_notes(facts, slots))
+                notes = notes or [*spender_notes(facts, slots), *wait_notes(facts)]
                 yield "76" + "75" + code + swap + more + "75" * (1 + len(swap) // 2) + "51", [text(fact, slot) for fact, slot in zip(facts, slots)], notes
 
 
@@ -492,6 +713,34 @@ def scenario_rows():
     yield scenario(channels=[{**TERMS, "capacity": most + 1, "start": [0, 1000 * (most + 1)]}]), f"channel 0: its capacity is {most + 1} satoshis, and there are at most {most}"
 
 
+def with_twice(value, name):
+    """The text of an object with one of its members once more."""
+    return f"{json.dumps(value)[:-1]}, {json.dumps(name)}: {json.dumps(value[name])}}}"
+
+
+def again(name, at, line=1, column=None):
+    """The note on a member that stands again at a byte."""
+    return f"the member {name} stands twice in its object, and the last one counts: again at byte {at}: line {line}, column {column or at + 1}"
+
+
+def repeated_rows():
+    """Scenarios that are played, in which a member stands twice, and the note on each."""
+    for name in MEMBERS:
+        text = with_twice(scenario(), name)
+        yield text, again(name, text.rindex(f'"{name}"'))
+    for channel in range(2):
+        for name in PARTS:
+            terms = [json.dumps(TERMS)] * 2
+            terms[channel] = with_twice(TERMS, name)
+            text = json.dumps(scenario(channels=[])).replace("[]", f"[{', '.join(terms)}]")
+            at = text.rindex(f'"{name}"', 0, text.rindex("}]") if channel else text.index("}"))
+            yield text, again(name, at)
+    # of two the first one is named, escapes are undone, and lines are counted
+    yield text[:-1] + ', "events": []}', again(name, at)
+    text = json.dumps(scenario())[:-1] + ',\n\n  "e\\u0076ents": []}'
+    yield text, again("events", text.rindex('"e'), 3, 3)
+
+
 # ---- the calls
 
 
@@ -514,22 +763,38 @@ def is_noted(command, words, given, notes, facts=None):
     return well
 
 
+def is_dead_end(note):
+    return note.startswith("nobody can spend by")
+
+
+def names_dead_ends(code, ran):
+    """Whether the notes of a call name the branches by which nobody can spend, where it lists the script and knows it for no output's program."""
+    notes = printed_notes(ran)
+    is_told = ran.stdout.startswith(b"paths ") and not any(it.startswith("these bytes have the form") for it in notes)
+    named, wanted = [it for it in notes if is_dead_end(it)], [note for _, note in dead_ends(code)] if is_told else []
+    if named != wanted:
+        print(f"{code}\n  names {named}\n  wanted {wanted}")
+    return named == wanted
+
+
 def main():
     os.chdir(TOP)
     command = program("enforce")
-    scripts = [*opcode_rows(), *ENDS, *lock_rows()]
-    pairs = list(pair_rows())
+    scripts = [*opcode_rows(), *((code, with_dead_ends(code, notes)) for code, notes in [*ENDS, *lock_rows()])]
+    pairs = [(code, facts, with_dead_ends(code, notes)) for code, facts, notes in pair_rows()]
     texts = [(json.dumps(value), [note]) for value, note in scenario_rows()]
     # the place of what is no JSON, in a text of as many bytes as there may be; one more byte is not looked at
     texts += [("x".ljust(LIMIT), ["invalid JSON at byte 0: line 1, column 1"]), ("x".ljust(LIMIT + 1), [])]
     wrong = sum(not is_noted(command, ["paths", code], "", notes) for code, notes in scripts)
     wrong += sum(not is_noted(command, ["paths", code], "", notes, facts) for code, facts, notes in pairs)
     wrong += sum(not is_noted(command, ["run"], given, notes) for given, notes in texts)
-    wrong += sum(not is_noted(command, ["node", "1"], given, notes) for given, notes in texts[:1])
+    repeated = [(given, [note]) for given, note in repeated_rows()]
+    wrong += sum(not is_noted(command, ["run"], given, notes) for given, notes in repeated)
+    wrong += sum(not is_noted(command, ["node", "1"], given, notes) for given, notes in texts[:1] + repeated[:1])
     drawn = [(code, printed_notes(subprocess.run([command, "paths", code], capture_output=True))) for code in mixed_scripts(600)]
     wrong += sum(not is_right(code, notes) for code, notes in ENDS)
     wrong += sum(ends_so(notes) and not is_right(code, notes) for code, notes in drawn)
-    print(f"notes: {len(scripts)} scripts, {sum(ends_so(it[1]) for it in drawn)} more that end as in consensus, {len(pairs)} pairs of facts, {sum(is_contradictory(it[2]) for it in pairs)} of them contradictory, {len(texts)} texts that are no scenario: {wrong} noted otherwise")
+    print(f"notes: {len(scripts)} scripts, {sum(ends_so(it[1]) for it in drawn)} more that end as in consensus, {len(pairs)} pairs of facts, {sum(is_contradictory(it[2]) for it in pairs)} of them contradictory, {len(texts)} texts that are no scenario, {len(repeated)} scenarios with a member that stands twice: {wrong} noted otherwise")
     return int(wrong > 0)
 
 

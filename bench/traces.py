@@ -4,7 +4,7 @@
   bench/traces.py            compares crates/trace/stdin and crates/trace/stdout with it; status 1 where they differ
   bench/traces.py --write    writes them
 
-A page shows a listing as './enforce paths HEX' with its output, notes too. The opcodes, what pushes and scripts look like, programs, sentences, weights, what a witness has and who can take what it
+A page, or a text of examples/commands, shows a listing as './enforce paths HEX' with its output, notes too. The opcodes, what pushes and scripts look like, programs, sentences, weights, what a witness has and who can take what it
 spends are computed here by rules of this file's own, from BIP 16, 141, 144, 174, 341 and 65, 68, 112 and docs/TRACE_SCRIPT.md.
 """
 import glob
@@ -65,9 +65,13 @@ LISTED = {
 ANYONE = "anyone can spend by path 0: no signature of a key that the script fixes is asked for"
 FINDER = "whoever sees such a witness can spend too by path {}: what has a given hash is asked for, and no signature of a key that the script fixes"
 NONE = "no witness satisfies the script by the rules of this profile: each branch ends as in consensus"
+ONLY = "nobody can spend by the only branch: "
+WAITS = "path 0 waits {} unit{} of 512 seconds, which its age does not tell: that is in blocks (BIP 68)"
 # what enforce notes of the scripts above
 NOTES = {
     **{it: [ANYONE] for it in [*SIZES, NUMBERS, FEW_KEYS, LAST, *UNITS, BLOCK, "", "0181", "01ff75", "02ff0075", "4b" + "00" * 75 + "75"]},
+    LAST: [ANYONE, "path 0 waits until the median time past is above 4294967295: its lock is a time, in seconds since 1970 (BIP 113)"],
+    **{it: [ANYONE, WAITS.format(count, "s" * (count != 1))] for count, it in enumerate(UNITS)},
     NEVER: ["no transaction has the lock time of path 0: a lock time has 4 bytes, so it is at most 4294967295"],
     UNITS[0]: [ANYONE, "opcode 1, CHECKSEQUENCEVERIFY of 4194304, asks for an age of 0 units of 512 seconds: of a number only bits 0 to 15, 22 and 31 count (BIP 68)"],
     HASHED: [FINDER.format("0")],
@@ -78,8 +82,8 @@ NOTES = {
     "5193": ["byte 1 is 93, OP_ADD in Bitcoin, which is not in the table", "pushed before it: the number 1 at byte 0"],
     "5102ff": ["the push at byte 1 wants 2 bytes, and 1 follow", "pushed before it: the number 1 at byte 0"],
     "0g": ["byte 1 of the text is g, which is no hexadecimal digit"],
-    "00": [NONE],
-    "01000000": [NONE],
+    "00": [NONE, ONLY + "after the last opcode it leaves the empty item, which is false"],
+    "01000000": [NONE, ONLY + "after the last opcode it leaves two or more elements, and BIP 141 wants one: is a DROP missing?"],
     "67": ["the ELSE at opcode 0 has no IF"],
     "68": ["the ENDIF at opcode 0 has no IF"],
     "5167": ["the ELSE at opcode 1 has no IF"],
@@ -95,10 +99,10 @@ NOTES = {
 def shown_listings():
     """The scripts of the pages, each with its listing: the lines of its paths, or the refusal; and the notes on each."""
     found, noted = {}, {}
-    for name in ["README.md", *sorted(glob.glob("docs/*.md"))]:
+    for name in ["README.md", *sorted(glob.glob("docs/*.md")), *sorted(glob.glob("examples/commands/*.txt"))]:
         with open(name, encoding="utf-8") as file:
             text = file.read()
-        for block in re.findall(r"^```console\n(.*?)^```$", text, re.S | re.M):
+        for block in [text] if name.endswith(".txt") else re.findall(r"^```console\n(.*?)^```$", text, re.S | re.M):
             for part in re.split(r"^\$ ", block, flags=re.M)[1:]:
                 command, _, printed = part.partition("\n")
                 call = re.fullmatch(r"\./enforce paths ([0-9A-Za-z]+)(?:; echo .*)?", command)
@@ -288,10 +292,12 @@ def path_objects(lines, script):
         if line.startswith("path "):
             words = line.split()
             lock, age = (None if it == "-" else int(it) for it in (words[9], words[11]))
-            paths.append({"arity": int(words[3]), "counted": int(words[5]), "height": int(words[7]), "lock": lock, "age": age, "weight": 0, "token_weight": 0, "witness": [], "taker": "", "hashed_key": False, "facts": []})
+            time = lock if lock is not None and lock >= 500_000_000 else None
+            paths.append({"arity": int(words[3]), "counted": int(words[5]), "height": int(words[7]), "lock": lock, "median_time": time, "age": age, "age_units": None, "weight": 0, "token_weight": 0, "witness": [], "taker": "", "hashed_key": False, "facts": []})
         else:
             paths[-1]["facts"].append(fact_object(line))
     for path in paths:
+        path["age_units"] = max((it["value"] & 0xFFFF for it in path["facts"] if it["kind"] == "age" and it["value"] >> 22 & 1), default=None)
         path["weight"] = weight(path["arity"], path["facts"], script, 73)
         path["token_weight"] = weight(path["arity"], path["facts"], script, 66)
         path["witness"] = [*(item_of(slot, path["facts"]) for slot in reversed(range(path["arity"]))), "<script>"]

@@ -5,12 +5,13 @@ import subprocess
 
 import bolt3
 from errors import NotRun
-from transaction import Input, Output, Transaction, sha256
+from transaction import Input, Output, Transaction, sha256, shown_id
 
 TOP = os.path.dirname(os.path.dirname(os.path.abspath(__file__)))
 SECONDS, SIGNATURE = 900, bytes(73)
 CASE = "commitment tx with seven outputs"
 MAX_MONEY = 2_100_000_000_000_000
+PAID = "destination: a program that is paid is P2PKH, P2SH, or a witness program of version 0 with 20 or 32 bytes, or of versions 1 to 16 with 3 to 40"
 # BOLT 3, "Dust Limits": the hash of a key and of a script, before version 0 and in it, and the longest program of a later version. Taproot's is as long as the hash of a script
 DUST = (("76a914" + "11" * 20 + "88ac", 546), ("a914" + "11" * 20 + "87", 540), ("0014" + "11" * 20, 294), ("0020" + "11" * 32, 330), ("5120" + "11" * 32, 330), ("6028" + "11" * 40, 354))
 
@@ -89,19 +90,34 @@ def wanted_plan(told, asked, sequences, lock_time):
         keys = [given for kind, given in it["slots"] if kind == "sig"]
         places = [place for place, item in enumerate(witness) if item is None]
         wanted = [{"item": place, "key": key, "digest": digest} for place, key in zip(reversed(places), keys)]
-        told_inputs.append({**{name: it[name] for name in ("value", "program", "script", "path")}, "witness": witness, "signatures": wanted})
-    return {"transaction": transaction.stripped_bytes().hex(), "fee": fee, "weight": weight, "inputs": told_inputs}
+        shown = {"explorer": transaction.inputs[number].shown_outpoint()}
+        told_inputs.append({**shown, **{name: it[name] for name in ("value", "program", "script", "path")}, "witness": witness, "signatures": wanted})
+    return {"transaction": transaction.stripped_bytes().hex(), "explorer": transaction.txid(), "fee": fee, "weight": weight, "inputs": told_inputs}
+
+
+def shown_request(asked):
+    """The same request, with each outpoint as explorers show it."""
+    outputs = []
+    for it in asked["outputs"]:
+        txid, index = it["outpoint"].split(":")
+        outputs.append({"explorer": f"{shown_id(bytes.fromhex(txid))}:{index}", **{name: value for name, value in it.items() if name != "outpoint"}})
+    return {**asked, "outputs": outputs}
 
 
 def spend_answer(text):
     """What `spend` prints, and its status."""
+    return spend_answers(text)[:2]
+
+
+def spend_answers(text):
+    """What `spend` prints, its status, and its notes."""
     try:
         ran = subprocess.run([os.path.join(TOP, "spend")], input=text.encode(), capture_output=True, timeout=SECONDS)
     except (OSError, subprocess.TimeoutExpired):
         raise NotRun("spend does not run here") from None
     if ran.returncode not in (0, 1):
         raise NotRun(f"spend answers with status {ran.returncode}")
-    return ran.stdout.decode(), ran.returncode
+    return ran.stdout.decode(), ran.returncode, [it[len("note: ") :] for it in ran.stderr.decode().splitlines() if it.startswith("note: ")]
 
 
 def changed_request(asked, **members):
@@ -126,6 +142,108 @@ def bounds(told):
         paying = {**asked, "outputs": [late], "preimages": [], "destination": destination, "feerate_per_kw": 1000}
         fee = wanted_plan(told, paying, [0], 501)["fee"]
         yield {**paying, "outputs": [{**late, "value": fee + dust}]}, [0], 501, [{**late, "value": fee + dust - 1}], "Dust", 10
+
+
+def givens(told):
+    """Destinations and feerates that are taken, and those that are refused, each with its notes: both sides of each bound."""
+    asked, _, _ = next(requests(told))
+    late = {**asked["outputs"][1], "value": 1_000_000_000}
+    paying = {**asked, "outputs": [late], "preimages": []}
+    for most, limit in (({}, 250_000), ({"most_feerate_per_kw": 300}, 300), ({"most_feerate_per_kw": 1_000_000}, 1_000_000)):
+        yield {**paying, **most, "feerate_per_kw": limit}, None, []
+        over = f"{limit + 1} satoshis for 1,000 units of weight are {(limit + 1) // 250} for a virtual byte; most_feerate_per_kw raises the limit of {limit}"
+        yield {**paying, **most, "feerate_per_kw": limit + 1}, ("TooHighFeerate", 14), [over]
+    for feerate, notes in ((253, []), (252, ["nodes pass on no transaction below a feerate_per_kw of 253 by default"])):
+        yield {**paying, "feerate_per_kw": feerate}, None, notes
+    fee = wanted_plan(told, {**paying, "feerate_per_kw": 1000}, [0], 501)["fee"]
+    for value, notes in ((10 * fee, []), (10 * fee - 1, [f"the fee is above a tenth of the value: {fee} of {10 * fee - 1} satoshis"])):
+        yield {**paying, "outputs": [{**late, "value": value}], "feerate_per_kw": 1000}, None, notes
+    key = told["terms"]["keys"]["remote_htlcpubkey"]
+    for destination in ("5103" + "11" * 3, "6003" + "11" * 3, *(it for it, _ in DUST)):
+        yield {**paying, "destination": destination}, None, []
+    cut = [it[:-2] for it, _ in DUST] + ["0014" + "11" * 19, "0015" + "11" * 21, "001f" + "11" * 31, "0021" + "11" * 33]
+    other = ["5102" + "11" * 2, "6029" + "11" * 41, "5020" + "11" * 32, "6120" + "11" * 32, "", "6a0400010203", key, f"21{key}ac", late["script"]]
+    for destination in (*cut, *other):
+        yield {**paying, "destination": destination}, ("BadDestination", 13), [PAID]
+    yield {**paying, "destination": "", "feerate_per_kw": 250_001}, ("BadDestination", 13), [PAID]
+    yield {**paying, "destination": "", "outputs": [{**late, "value": 400}]}, ("Dust", 10), []
+
+
+def without(it, name):
+    return {member: value for member, value in it.items() if member != name}
+
+
+def bad_shapes(told):
+    """What has another shape, and the note that names it: each member of a request and of an output."""
+    asked, _, _ = next(requests(told))
+    both = asked["outputs"]
+    address, feerate = "bc1qw508d6qejxtdg4y5r3zarvary0c5xw7kv8f3t4", "satoshis for 1,000 units of weight, as an integer of at most 32 bits without quotes"
+    slot = '["sig",KEY], ["preimage",SHA256] or ["exact",BYTES], with a compressed key, a hash of 32 bytes or at most 520 bytes in hexadecimal'
+    yield "[]", "the request: wanted: an object"
+    for members, note in (
+        ({"fee": 1}, "fee: no member of this name belongs here"),
+        ({"a\nb": 1}, "?: no member of this name belongs here"),
+        ({"destination": address}, "destination: wanted: bytes in hexadecimal, in quotes; of an address, those that bitcoin-cli validateaddress ADDRESS has as scriptPubKey"),
+        ({"destination": "0x0014"}, "destination: wanted: bytes in hexadecimal, in quotes; without 0x"),
+        ({"destination": "001"}, "destination: wanted: bytes in hexadecimal, in quotes; two digits for each byte"),
+        ({"destination": 5}, "destination: wanted: bytes in hexadecimal, in quotes"),
+        ({"destination": "51" * 10_001}, "destination: wanted: at most 10000 bytes"),
+        ({"feerate_per_kw": "253"}, f"feerate_per_kw: wanted: {feerate}"),
+        ({"feerate_per_kw": 1 << 32}, f"feerate_per_kw: wanted: {feerate}"),
+        ({"most_feerate_per_kw": None}, f"most_feerate_per_kw: wanted: {feerate}"),
+        ({"preimages": ["02" * 32, "02" * 31]}, "preimages[1]: wanted: 32 bytes in hexadecimal"),
+        ({"preimages": {}}, "preimages: wanted: an array"),
+        ({"outputs": []}, "outputs: wanted: 1 to 4000 of them"),
+        ({"outputs": [both[0], 5]}, "outputs[1]: wanted: an object"),
+    ):
+        yield changed_request(asked, **members), note
+    yield line(without(asked, "feerate_per_kw")), "feerate_per_kw: it is missing"
+    yield line(asked).replace('"feerate_per_kw":253', '"feerate_per_kw":500,"feerate_per_kw":253'), "feerate_per_kw: a member of this name stands twice in one object"
+    yield line(asked).replace('"path":2', '"path":1,"path":2', 1), "path: a member of this name stands twice in one object"
+    for members, note in (
+        ({"value": 0.001}, "value: wanted: satoshis, as an integer without point, sign and quotes"),
+        ({"value": "100000"}, "value: wanted: satoshis, as an integer without point, sign and quotes"),
+        ({"value": -100_000}, "value: wanted: satoshis, as an integer without point, sign and quotes"),
+        ({"path": "1"}, "path: wanted: the number of a path from 0, without quotes"),
+        ({"program": address}, "program: wanted: bytes in hexadecimal, in quotes; of an address, those that bitcoin-cli validateaddress ADDRESS has as scriptPubKey"),
+        ({"script": "0g"}, "script: wanted: bytes in hexadecimal, in quotes"),
+        ({"shell": ""}, "shell: wanted: null"),
+        ({"outpoint": "07" * 32}, 'outpoint: wanted: "TXID:INDEX", with 64 hexadecimal digits and an index below 2^32'),
+        ({"slots": [both[1]["slots"][0], ["sig", "04" + "11" * 64]]}, f"slots[1]: wanted: {slot}"),
+        ({"slots": [["preimage", "11" * 20]]}, f"slots[0]: wanted: {slot}"),
+        ({"txid": "07" * 32}, "txid: no member of this name belongs here"),
+    ):
+        yield changed_request(asked, outputs=[both[0], {**both[1], **members}]), f"outputs[1].{note}"
+    either = "outputs[1]: wanted: either outpoint, with the id in the hash's own byte order, or explorer, with the id as explorers show it"
+    for it in (without(both[1], "outpoint"), {**both[1], "explorer": both[1]["outpoint"]}):
+        yield changed_request(asked, outputs=[both[0], it]), either
+
+
+def bad_claims(told):
+    """Claims that are not accepted, each in the second output, and the note that says why: the fact is the first that `enforce paths` lists of the path and that the slots do not show."""
+    asked, _, _ = next(requests(told))
+    first, good = asked["outputs"]
+    keys = told["terms"]["keys"]
+    empty, peer = good["slots"]
+    shows = "they do not show this fact; slot 0 is the top of the stack, so the last item of the witness before the script"
+    for members, note in (
+        ({"script": "50"}, "script: BadOpcode 0"),
+        ({"script": "5102aa"}, "script: Truncated 1"),
+        ({"script": "63"}, "script: OpenBranch"),
+        ({"path": 3}, "path: NoSuchPath: the number of the script's paths is 3, numbered from 0"),
+        ({"slots": [peer]}, "slots: WrongArity: the number of the path's slots is 2, and 1 stand here"),
+        ({"slots": [empty, ["sig", keys["local_htlcpubkey"]]]}, f"slots: Unmet token 1 {keys['remote_htlcpubkey']} yes: {shows}"),
+        ({"program": first["program"]}, "program: WrongProgram: it is not P2WSH of the script, nor P2WPKH with the script of BIP 143"),
+    ):
+        yield changed_request(asked, outputs=[first, {**good, **members}]), f"outputs[1].{note}"
+
+
+def faults(told):
+    """Requests with a part at fault, each with its refusal and the note that names the part."""
+    for text, note in bad_shapes(told):
+        yield text, "BadShape", 2, [note]
+    for text, note in bad_claims(told):
+        yield text, "BadClaim", 3, [note]
 
 
 def refusals(told):
@@ -173,6 +291,15 @@ def ask(count):
     for asked, sequences, lock_time in requests(told):
         found = spend_answer(line(asked))
         count.check(found == (line(wanted_plan(told, asked, sequences, lock_time)), 0), f"a plan: {found}")
+        found = spend_answer(line(shown_request(asked)))
+        count.check(found == (line(wanted_plan(told, asked, sequences, lock_time)), 0), f"a plan by the ids that explorers show: {found}")
+    for asked, refusal, notes in givens(told):
+        found = spend_answers(line(asked))
+        wanted = (line(wanted_plan(told, asked, [0], 501)), 0) if refusal is None else (line({"refused": refusal[0], "number": refusal[1]}), 1)
+        count.check(found == (*wanted, notes), f"a destination and a feerate: {found}")
+    for text, name, number, notes in faults(told):
+        found = spend_answers(text)
+        count.check(found == (line({"refused": name, "number": number}), 1, notes), f"a fault that is to be named by {notes}: {found}")
     beyond = []
     for asked, sequences, lock_time, outputs, name, number in bounds(told):
         found = spend_answer(line(asked))

@@ -19,17 +19,25 @@ def output_of(number, line):
         raise Refused(f"BadLine {number}", f"line {number}: {hints.line_hint(line)}") from None
 
 
+def transaction_bytes(line):
+    """The bytes of the transaction, which the first line has."""
+    try:
+        return bytes_of(line)
+    except Refused:
+        raise Refused("BadHex", f"line 1, the transaction: {hints.hex_hint(line)}") from None
+
+
 def read_lines(given):
     """A transaction and the outputs that it spends, as lines."""
     try:
         lines = given.decode("ascii").splitlines()
     except UnicodeDecodeError:
-        raise Refused("BadHex") from None
+        raise Refused("BadHex", "the input has bytes above 127, and is no partially signed transaction") from None
     while lines and not lines[-1].strip():
         lines.pop()
-    transaction = read_transaction(bytes_of(lines[0].strip() if lines else ""))
+    transaction = read_transaction(transaction_bytes(lines[0].strip() if lines else ""))
     if len(lines) - 1 != len(transaction.inputs):
-        raise Refused("BadCount")
+        raise Refused("BadCount", f"lines after the transaction: {len(lines) - 1}; inputs: {len(transaction.inputs)}; each input has a line, with value and program")
     return transaction, [output_of(number, line.strip()) for number, line in enumerate(lines[1:], 2)], {}
 
 

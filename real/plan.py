@@ -37,6 +37,8 @@ class Spent:
     script: bytes
     witness: List[Optional[bytes]]
     wanted: List[Wanted]
+    # the outpoint as explorers show it, if it is told
+    explorer: Optional[str] = None
     previous: Optional[bytes] = None
     derivations: Dict[bytes, bytes] = field(default_factory=dict)
 
@@ -142,18 +144,21 @@ def read_wanted(shape, items):
 
 
 def read_input(shape):
-    shape.check_names("value", "program", "script", "path", "witness", "signatures", "previous", "derivations")
+    shape.check_names("explorer", "value", "program", "script", "path", "witness", "signatures", "previous", "derivations")
     # who makes a plan may say which path its witness takes; nothing follows from it here
     shape.number("path", MAX_PATH, optional=True)
     output = Output(shape.number("value", MAX_MONEY), shape.bytes("program"))
     witness = read_witness(shape)
     wanted = [read_wanted(it, len(witness)) for it in shape.objects("signatures")]
-    return Spent(output, shape.bytes("script"), witness, wanted, shape.bytes("previous", optional=True), read_derivations(shape))
+    shown = shape.member("explorer", str, optional=True)
+    return Spent(output, shape.bytes("script"), witness, wanted, shown, shape.bytes("previous", optional=True), read_derivations(shape))
 
 
 def check_input(plan, index, digests):
-    """Whether an input's parts fit each other: its script, its witness, the items that wait, the keys, and the digests."""
+    """Whether an input's parts fit each other: its outpoint, its script, its witness, the items that wait, the keys, and the digests."""
     it = plan.inputs[index]
+    if it.explorer not in (None, plan.transaction.inputs[index].shown_outpoint()):
+        raise Refused(f"OtherOutpoint {index}")
     if not scripts.has_script(it.output.program, it.script):
         raise Refused(f"OtherScript {index}")
     if not scripts.is_key_hash(it.output.program) and it.witness[-1:] != [it.script]:
@@ -202,13 +207,15 @@ def split_object(text):
 
 def read_plan(given):
     """The plan that a JSON text tells."""
-    shape = read_object(given, "plan").check_names("transaction", "fee", "weight", "inputs")
+    shape = read_object(given, "plan").check_names("transaction", "explorer", "fee", "weight", "inputs")
     # who makes a plan may say by which weight its fee is; nothing follows from it here
     shape.number("weight", MAX_WEIGHT, optional=True)
     transaction = read_transaction(shape.line("transaction"), marked=False)
     plan = Plan(transaction, shape.number("fee", MAX_MONEY, optional=True), [read_input(it) for it in shape.objects("inputs")])
     if len(plan.inputs) != len(transaction.inputs) or any(it.script for it in transaction.inputs):
         raise Refused("OtherInputs")
+    if shape.member("explorer", str, optional=True) not in (None, transaction.txid()):
+        raise Refused("OtherId")
     digests = Digests(transaction)
     for index in range(len(plan.inputs)):
         check_input(plan, index, digests)
