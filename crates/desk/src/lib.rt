@@ -27,6 +27,8 @@
 //! assert!(rt; sign(&rt, &desk, &mut seat, 0).is_ok());
 //! let book = desk.close(&rt, &mut seat);
 //! ```
+//!
+//! The test `keeps_penalties_by_another_seat` of `thread_tests` makes these calls.
 #![tactic(auto)]
 
 mod desk;

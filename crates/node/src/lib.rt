@@ -26,6 +26,8 @@
 //! let done = worker(&rt, alloc, &shared, &taker, &mut hands, &gate);
 //! assert_eq!(rt; done.jobs, 1);
 //! ```
+//!
+//! Tested in `thread_tests`.
 #![tactic(auto)]
 
 mod gates;

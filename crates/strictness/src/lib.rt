@@ -3,6 +3,8 @@
 //! [`strict_ends`] follows the branches of a listed script. Where it finds that each of them ends as in consensus, no witness satisfies the script in consensus either: that is proved of a
 //! machine in `specs/`, which has consensus' own rules for branches, numbers and signatures. [`fate_along`] follows one branch, by the way that it takes at each IF and NOTIF. Where it says at
 //! which opcode that branch ends, and by which bytes, no run that goes this way satisfies the script in consensus: that is proved too.
+//!
+//! Tested in `notes_tests`, by the notes that `script_notes` writes.
 #![tactic(auto)]
 
 mod branches;
