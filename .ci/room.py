@@ -221,8 +221,19 @@ def finish(room, uses, names):
     in_order(proofs(uses, names), [room])
 
 
+def take_module(room, crate, module, name):
+    """Copies a module of another crate into a program of the room, with the module's proofs, which are the program's there."""
+    given, place = f"{room}/crates/{crate}", f"{room}/crates/{name}"
+    shutil.copyfile(f"{given}/src/{module}.rt", f"{place}/src/{module}.rt")
+    for path in glob.glob(f"{given}/proofs/{module}/**/*.antt", recursive=True):
+        copy = f"{place}/{os.path.relpath(path, given)}"
+        os.makedirs(os.path.dirname(copy), exist_ok=True)
+        with open(path, encoding="utf-8") as file, open(copy, "w", encoding="utf-8") as proof:
+            proof.write(file.read().replace(f"Rattle.{crate}.proofs.", f"Rattle.{name}.proofs."))
+
+
 def add(room, name):
-    """Copies a program of bench/programs into the room, as a crate."""
+    """Copies a program of bench/programs into the room, as a crate. A line `CRATE MODULE` of its file `modules` has it take that module too."""
     given, place = f"{TOP}/bench/programs/{name}", f"{room}/crates/{name}"
     os.makedirs(f"{place}/src", exist_ok=True)
     for file in glob.glob(f"{given}/src/*.rt.txt"):
@@ -230,5 +241,9 @@ def add(room, name):
     for file in ("stdin", "stdout", "args"):
         if os.path.isfile(f"{given}/{file}"):
             shutil.copyfile(f"{given}/{file}", f"{place}/{file}")
+    if os.path.isfile(f"{given}/modules"):
+        with open(f"{given}/modules", encoding="utf-8") as file:
+            for line in file:
+                take_module(room, *line.split(), name)
     with open(f"{given}/uses", encoding="utf-8") as file, open(f"{room}/crates.txt", "a", encoding="utf-8") as crates:
         crates.write(f"{name}: {file.read().strip()}\n")

@@ -1,5 +1,5 @@
 #!/usr/bin/env python3
-"""revoked.py (--input | --output): the vectors of the program `revoked_vectors`, from BOLT 3's Appendix C.
+"""revoked.py (--input | --output): the vectors after `== revoked` of the program `vectors`, from BOLT 3's Appendix C.
 
 `real/tests/bolt3.json` has the appendix: its keys, HTLCs, transactions, programs and scripts. Each transaction is read with all that it is made of, with HTLCs
 that it does not have among the others, and with one key, the delay, or one part of an HTLC changed. What still matches is told from the appendix's own scripts,

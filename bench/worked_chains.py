@@ -1,5 +1,5 @@
 #!/usr/bin/env python3
-"""Whether the bytes in crates/worked_chains are those of the channels and chains that are worked out there.
+"""Whether the bytes in crates/chain_examples are those of the channels and chains that are worked out there.
 
 They are worked out here from BOLT 3, BIP 143 and the stand-ins of docs/DECISIONS.md for keys and signatures, and no program of this repository is asked: ids of grants and of transactions, keys, scripts,
 programs, what is signed, and the first four bytes of the hashes in the tables. The prover holds each to the definitions; here each is held to what stands outside of them.
@@ -16,7 +16,7 @@ TOP = os.path.dirname(os.path.dirname(os.path.abspath(__file__)))
 sys.path.insert(0, f"{TOP}/real")
 from ripemd160 import ripemd160
 
-PROOFS = f"{TOP}/crates/worked_chains/proofs"
+PROOFS = f"{TOP}/crates/chain_examples/proofs"
 OTHER = {"A": "B", "B": "A"}
 BASES = ("funding", "payment", "delayed", "htlc", "revocation")
 DELAYS, LIMITS, RATE, CAPACITY = {"A": 144, "B": 2}, {"A": 546, "B": 546}, 1000, 100000

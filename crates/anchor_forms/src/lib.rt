@@ -16,7 +16,7 @@
 //! let claim = htlc_penalty(alloc, &keys.revocation, checked, place)?;
 //! ```
 //!
-//! `revoked` makes its claims on HTLCs of these calls.
+//! `revoked` makes its claims on HTLCs of these calls. The program `vectors` tests them with it.
 #![tactic(auto)]
 
 mod channel_types;

@@ -15,7 +15,7 @@
 //! it may wait for another thread.
 //!
 //! It stands on `book`, and on the library `crossbeam_channel`. The threads of `running` and the workers of `node` call
-//! one book so:
+//! one book so, and the test `keeps_penalties_by_another_seat` of `thread_tests` does:
 //!
 //! ```text
 //! let patterns = book.patterns()?; // by which penalties are built, while the desk has the book

@@ -21,11 +21,11 @@ use Rattle.channel.specs.declared.commitments.CommitmentState.{CommitmentState}
 use Rattle.channel.specs.Numbered.{AreNumbered}
 use Rattle.channel.specs.States.{State}
 use Rattle.channel.specs.Tokens.{contents_of}
-use Rattle.worth.specs.Shares.{counts_on, counted_sat, values_sat, AllIsTheCapacity}
-use Rattle.worth.specs.Counted.{counted}
-use Rattle.worth.specs.Placed.{placed_sat, SharesArePlaced}
-use Rattle.worth.specs.Left.{left_sat_of, owners_left_sat, LeftIsPlaced}
-use Rattle.worth.specs.Least.{peers_sat, least, own_left_sat, revoked_left_sat, at_least_sat}
+use Rattle.worth_laws.specs.Shares.{counts_on, counted_sat, values_sat, AllIsTheCapacity}
+use Rattle.worth_laws.specs.Counted.{counted}
+use Rattle.worth_laws.specs.Placed.{placed_sat, SharesArePlaced}
+use Rattle.worth_laws.specs.Left.{left_sat_of, owners_left_sat, LeftIsPlaced}
+use Rattle.worth_laws.specs.Least.{peers_sat, least, own_left_sat, revoked_left_sat, at_least_sat}
 
 -- ---- lists
 

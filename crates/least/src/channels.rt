@@ -2,17 +2,17 @@
 
 ghost use Rattle.std.specs.Prelude.{◌≡◌, ◌^◌, ◌<◌, ◌∷◌, [], true, false, map, drop, IfOk};
 ghost use Rattle.channel.specs.Tokens.{contents_of};
-ghost use Rattle.worth.specs.Counted.{known_by};
+ghost use Rattle.worth_laws.specs.Counted.{known_by};
 ghost use Rattle.penalty.specs.Worth.{staged, value_of};
-ghost use Rattle.worth.specs.Shares.{counted_sat};
-ghost use Rattle.worth.specs.Least.{least, own_left_sat, at_least_sat};
+ghost use Rattle.worth_laws.specs.Shares.{counted_sat};
+ghost use Rattle.worth_laws.specs.Least.{least, own_left_sat, at_least_sat};
 
 use crate::shares::{own_left_sat, revoked_left_sat, theirs_sat};
 use channel::{Channel, CommitmentState};
 use commit::Terms;
 use resolve::KnownPreimages;
 use std::alloc::{AllocError, Global};
-use worth::laws::{left_is_placed, shares_are_placed, shares_are_worth};
+use worth_laws::laws::{left_is_placed, shares_are_placed, shares_are_worth};
 
 // What the side can claim of its own newest commitment, in satoshis, whichever HTLC transactions stand: at most the capacity.
 fn newest_sat(alloc: Global, channel: &Channel, known: &KnownPreimages) -> Result<u128, AllocError>

@@ -2,7 +2,7 @@
 //!
 //! [`at_least_sat`] sums up, of each commitment that may close a channel now, the outputs on which the side counts, less what HTLC transactions can cost there, and gives the least sum. That
 //! the claims on whichever commitment closes the channel are worth at least this, and what is taken off on the way there from the side's
-//! balance, is said by [`worth::laws::whichever_closes`].
+//! balance, is said by [`worth_laws::laws::whichever_closes`].
 //!
 //! `channel` has the commitments, `commit` their amounts, and `resolve` the known preimages. `book` lends the channel,
 //! and tells what is known of it. [`at_least_sat_with`] takes preimages as the book lends them.

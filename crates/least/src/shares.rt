@@ -3,15 +3,15 @@
 ghost use Rattle.std.specs.Prelude.{◌≡◌, true, false, IfOk};
 ghost use Rattle.channel.specs.Tokens.{contents_of};
 ghost use Rattle.penalty.specs.Worth.{staged, value_of};
-ghost use Rattle.worth.specs.Counted.{counted, known_by};
-ghost use Rattle.worth.specs.Shares.{counted_sat};
+ghost use Rattle.worth_laws.specs.Counted.{counted, known_by};
+ghost use Rattle.worth_laws.specs.Shares.{counted_sat};
 
 use crate::sums::{all_left_sat, owners_left_sat, peers_sat};
 use channel::CommitmentState;
 use commit::{Terms, commitment_amounts};
 use resolve::KnownPreimages;
 use std::alloc::{AllocError, Global};
-use worth::laws::{left_is_placed, shares_are_placed};
+use worth_laws::laws::{left_is_placed, shares_are_placed};
 
 /// What a side can claim of its own commitment, in satoshis, whichever HTLC transactions stand. The only error is that memory ran out.
 pub(crate) fn own_left_sat(

@@ -5,9 +5,9 @@ ghost use Rattle.std.specs.List.{filter};
 ghost use Rattle.commit.specs.declared.fees.Direction.TheVariants.{Received};
 ghost use Rattle.commit.specs.Fees.{satoshis_of};
 ghost use Rattle.commit.specs.Sums.{worth_sat_of};
-ghost use Rattle.worth.specs.Counted.{known_by};
-ghost use Rattle.worth.specs.Left.{left_sat_of, owners_left_sat, all_left_sat};
-ghost use Rattle.worth.specs.Placed.{placed_sat};
+ghost use Rattle.worth_laws.specs.Counted.{known_by};
+ghost use Rattle.worth_laws.specs.Left.{left_sat_of, owners_left_sat, all_left_sat};
+ghost use Rattle.worth_laws.specs.Placed.{placed_sat};
 
 use commit::{Amounts, Direction, Htlc, htlc_fee, satoshis};
 use resolve::KnownPreimages;

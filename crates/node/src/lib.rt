@@ -15,7 +15,7 @@
 //! Where memory is refused a worker tries its job again, without a bound. So it does not return while memory stays
 //! refused.
 //!
-//! It stands on `desk`, `board`, `jobs` and `side`. `running` starts its workers.
+//! It stands on `desk`, `board`, `jobs` and `side`. `running` starts its workers. Tested in `thread_tests`.
 //!
 //! ```text
 //! let patterns = patterns(alloc)?;

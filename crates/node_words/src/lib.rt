@@ -1,7 +1,7 @@
 //! The word `node` of the program `enforce`: it plays a scenario in threads and prints how things stand at the end.
 //!
 //! `enforce node N` runs N workers a side, from 1 to 16. [`workers_in`] tells the word, and [`run_word`] does what it says,
-//! over any reader and writers. It reads and refuses input as `enforce run` does. Its text is tested, not proved. It stands
+//! over any reader and writers. It reads and refuses input as `enforce run` does. Its text is tested in `running_tests`, not proved. It stands
 //! apart from the other words, since it alone starts threads and may wait.
 //!
 //! `enforce_words` reads the scenario and writes the text, and `running` plays it. The program `enforce` calls it.

@@ -18,7 +18,7 @@
 //! }
 //! ```
 //!
-//! The part `== penalties` of `vectors` writes the values of claims this way.
+//! The part `== penalties` of `vectors` writes the values of claims this way. Tested in `book_tests`.
 #![tactic(auto)]
 
 mod parts;

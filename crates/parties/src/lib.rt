@@ -3,7 +3,7 @@
 //! [`party`] makes a side from its signer: its base keys are those of the signer's seed (`IsSeedOf`), so a channel or a book can be opened with it.
 //! [`party_with`] makes a side from any base keys, where no signer takes part.
 //!
-//! It makes values of `keys` and `terms`. `channel_sides`, `book_peers` and the test crates open channels with it.
+//! It makes values of `keys` and `terms`. `vectors`, `book_peers` and the test crates open channels with it.
 //!
 //! ```rust
 //! /// The terms of a channel of 100,000 satoshis, of which A has 80,000.

@@ -25,7 +25,7 @@
 //! claims_in(alloc, patterns, &revoked, tx)
 //! ```
 //!
-//! The program `revoked_vectors` has this call. It reads BOLT 3's Appendix C.
+//! The part `== revoked` of `vectors` has this call. It reads BOLT 3's Appendix C.
 #![tactic(auto)]
 
 mod claiming;

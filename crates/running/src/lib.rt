@@ -23,6 +23,8 @@
 //! let report = run_node(&rt, alloc, &scenario, 4, &Open)?;
 //! println!(rt; "{}", report.height)?;
 //! ```
+//!
+//! Tested in `running_tests`.
 #![tactic(auto)]
 
 mod acts;

@@ -9,7 +9,7 @@ use Rattle.script.specs.Run.{open_ifs_after}
 use Rattle.paths.specs.declared.state.Path.{Path}
 use Rattle.paths.specs.declared.errors.CheckError.{CheckError}
 use Rattle.paths.specs.Listing.{listing, is_balanced as is_listed_balanced, balanced_with as listed_balanced_with}
-use Rattle.consensus.specs.Balance.{is_balanced, balanced_with}
+use Rattle.strictness.specs.Balance.{is_balanced, balanced_with}
 
 with_same : (r : Result (List Bool) Cause) (f g : List Bool → Bool) → ((ifs : List Bool) → f ifs ≡ true → g ifs ≡ true) → listed_balanced_with r f ≡ true → balanced_with r g ≡ true
 with_same (Ok ifs) f g h e = h ifs e

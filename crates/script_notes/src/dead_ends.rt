@@ -2,15 +2,15 @@
 
 ghost use Rattle.std.specs.Prelude.{true, All, [], ◌≡◌};
 ghost use Rattle.script.specs.Spelling.{IsOp};
-ghost use Rattle.consensus.specs.Balance.{is_balanced};
-ghost use Rattle.consensus.specs.Ways.{NobodySpendsBy};
+ghost use Rattle.strictness.specs.Balance.{is_balanced};
+ghost use Rattle.strictness.specs.Ways.{NobodySpendsBy};
 
 use crate::sizes::Counted;
-use consensus::{Choice, DeadEnd, Fate, Fault, fate_along};
 use script::Op;
 use script::num::{Limit, read};
 use std::alloc::{AllocError, Global};
 use std::fmt::Write;
+use strictness::{Choice, DeadEnd, Fate, Fault, fate_along};
 
 // A listed script begins at most 64 branches, which split in 63 places.
 const MAX_FATES: usize = 127;

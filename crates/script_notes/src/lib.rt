@@ -3,7 +3,7 @@
 //! [`notes`] makes a text from a script in hexadecimal. It says where the script is at fault, what bytes and texts look like that are no witness script, which branches ended by a rule
 //! that is stricter than consensus, which paths no witness meets, and what endangers money. [`call_notes`] makes the text for a call from its words and its status: it says also what
 //! keeps a message from being hexadecimal, and what helps after wrong words. Both are pure functions, proved not to panic. What they say is tested, not proved, but for what `warnings`
-//! decides, and for the notes that each branch ends as in consensus, and that nobody can spend by one: where they are written, nobody can in Bitcoin either (`consensus`).
+//! decides, and for the notes that each branch ends as in consensus, and that nobody can spend by one: where they are written, nobody can in Bitcoin either (`strictness`).
 //!
 //! `paths` lists what it speaks of. `enforce_notes` makes the notes on scenarios beside these, `enforce_scripts` writes them where there are none, and `trace` has them in what it tells.
 //!
@@ -28,5 +28,5 @@ mod sizes;
 mod unknowns;
 
 pub use calls::call_notes;
-pub use consensus::is_der;
 pub use scripts::notes;
+pub use strictness::is_der;

@@ -1,6 +1,6 @@
 // Notes on a script.
 
-ghost use Rattle.consensus.specs.Machine.{NobodySpends};
+ghost use Rattle.strictness.specs.Machine.{NobodySpends};
 
 use crate::conflicts::{conflict_in, is_of_token_size};
 use crate::dead_ends::note_dead_ends;
@@ -10,12 +10,12 @@ use crate::refusals::note_refusal;
 use crate::risks::note_risks;
 use crate::sizes::Counted;
 use crate::unknowns::{note_opcode, note_others};
-use consensus::{Rule, StrictEnd, strict_ends};
 use facts::Stated;
 use paths::{Checked, Path, check};
 use script::{Op, ParseError, Script};
 use std::alloc::{AllocError, Global};
 use std::fmt::Write;
+use strictness::{Rule, StrictEnd, strict_ends};
 use warnings::look_of;
 
 /// The notes on a version 0 witness script that is written in hexadecimal, a line each; empty if there are none. The only error is that memory ran out.

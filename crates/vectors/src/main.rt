@@ -10,16 +10,19 @@
 //! - `commitments`: commitments of a given number of HTLCs
 //! - `channel`: steps of two peers
 //! - `publishing`: what either side of a channel can broadcast; it has no lines
+//! - `revoked`: what revoked commitments, read as transactions, let claim
 //!
 //! The module of each word describes its lines. No crate depends on the program. It calls `tx`, `paths`, `commit`,
-//! `penalty` and `publish`, and plays what `channel_sides` opens.
+//! `penalty`, `publish` and `revoked`, and plays what the module `channel_sides` opens.
 #![tactic(auto)]
 
+mod channel_sides;
 mod commitments;
 mod patterns;
 mod penalty_sets;
 mod plays;
 mod publishing;
+mod revoked_commitments;
 mod transactions;
 
 use page::{Page, Parts, show_parts};
@@ -56,6 +59,8 @@ impl Parts for Vectors {
             plays::show_all(page, lines);
         } else if name == "publishing" {
             publishing::show_all(page);
+        } else if name == "revoked" {
+            revoked_commitments::show_all(page, lines);
         } else {
             page.fail();
         }

@@ -9,8 +9,8 @@ mod often;
 mod random;
 mod steps;
 
+use crate::channel_sides::open_sides;
 use channel::{Action, CommitmentState, Pair, PairStep};
-use channel_sides::open_sides;
 use commit::{CommitmentOutput, build};
 use often::play_often;
 pub use often::play_words;

@@ -1,5 +1,5 @@
 use Rattle.std.proofs.Common.{take, drop, ap, ◌∙◌}
-use Rattle.worth.specs.Counted.{known_by}
+use Rattle.worth_laws.specs.Counted.{known_by}
 use Rattle.least.proofs.Least.{least_is}
 use Rattle.least.proofs.channels.at_least_sat.Goals as goal
 

@@ -1,8 +1,8 @@
 use Rattle.std.proofs.Common.{ℕ, false}
 use Rattle.channel.specs.declared.commitments.CommitmentState.{CommitmentState}
 use Rattle.channel.specs.Tokens.{contents_of}
-use Rattle.worth.specs.Counted.{known_by}
-use Rattle.worth.specs.Shares.{counted_sat}
+use Rattle.worth_laws.specs.Counted.{known_by}
+use Rattle.worth_laws.specs.Shares.{counted_sat}
 use Rattle.least.proofs.Least.{least_step}
 use Rattle.least.proofs.channels.least_of_open.Goals as goal
 

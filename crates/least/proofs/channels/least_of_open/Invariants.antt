@@ -1,8 +1,8 @@
 use Rattle.std.proofs.Common.{◌≡◌, ◌∷◌, false, map, drop}
 use Rattle.channel.specs.Tokens.{contents_of}
-use Rattle.worth.specs.Counted.{known_by}
-use Rattle.worth.specs.Shares.{counted_sat}
-use Rattle.worth.specs.Least.{least}
+use Rattle.worth_laws.specs.Counted.{known_by}
+use Rattle.worth_laws.specs.Shares.{counted_sat}
+use Rattle.worth_laws.specs.Least.{least}
 use Rattle.least.proofs.channels.least_of_open.Given as goal
 
 -- what is left from here gives the least of all

@@ -1,7 +1,7 @@
 use Rattle.std.proofs.Common.{◌≡◌, ◌∷◌, true, map, drop}
 use Rattle.channel.specs.Tokens.{contents_of}
 use Rattle.penalty.specs.Worth.{staged, value_of}
-use Rattle.worth.specs.Least.{least}
+use Rattle.worth_laws.specs.Least.{least}
 use Rattle.least.proofs.channels.least_of_revoked.Given as goal
 
 -- what is left from here gives the least of all

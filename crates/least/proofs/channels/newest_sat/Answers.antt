@@ -1,4 +1,4 @@
-use Rattle.worth.specs.Counted.{known_by}
+use Rattle.worth_laws.specs.Counted.{known_by}
 use Rattle.least.proofs.Least.{newest_fits}
 use Rattle.least.proofs.channels.newest_sat.Goals as goal
 

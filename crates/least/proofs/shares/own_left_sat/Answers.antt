@@ -1,6 +1,6 @@
 use Rattle.std.proofs.Common.{sym, ap, ◌∙◌}
-use Rattle.worth.specs.Counted.{known_by}
-use Rattle.worth.specs.Left.{owners_left_sat}
+use Rattle.worth_laws.specs.Counted.{known_by}
+use Rattle.worth_laws.specs.Left.{owners_left_sat}
 use Rattle.least.proofs.shares.own_left_sat.Goals as goal
 
 pub returns : goal.returns

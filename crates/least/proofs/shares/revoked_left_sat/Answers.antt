@@ -1,5 +1,5 @@
 use Rattle.std.proofs.Common.{sym, ap, ◌∙◌}
-use Rattle.worth.specs.Left.{all_left_sat}
+use Rattle.worth_laws.specs.Left.{all_left_sat}
 use Rattle.least.proofs.shares.revoked_left_sat.Goals as goal
 
 pub returns : goal.returns

@@ -1,6 +1,6 @@
 use Rattle.std.proofs.Common.{false, sym, ap, ◌∙◌}
-use Rattle.worth.specs.Counted.{known_by}
-use Rattle.worth.specs.Placed.{placed_sat}
+use Rattle.worth_laws.specs.Counted.{known_by}
+use Rattle.worth_laws.specs.Placed.{placed_sat}
 use Rattle.least.proofs.shares.theirs_sat.Goals as goal
 
 pub returns : goal.returns

@@ -4,7 +4,7 @@ use Rattle.std.specs.List.{sum_by}
 use Rattle.std.proofs.lemmas.List.{take_all}
 use Rattle.terms.specs.declared.htlcs.Htlc.{Htlc}
 use Rattle.commit.specs.Fees.{satoshis_of}
-use Rattle.worth.specs.Counted.{known_by}
+use Rattle.worth_laws.specs.Counted.{known_by}
 use Rattle.least.proofs.Known.{kept_only}
 use Rattle.least.proofs.sums.each_known_left_sat.Goals as goal
 

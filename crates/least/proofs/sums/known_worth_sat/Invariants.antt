@@ -1,7 +1,7 @@
 use Rattle.std.proofs.Common.{◌≡◌, ◌*◌, ◌≤◌, ◌^◌, take}
 use Rattle.std.specs.Prelude.{if◌then◌else◌, sum_by}
 use Rattle.commit.specs.Fees.{satoshis_of}
-use Rattle.worth.specs.Counted.{known_by}
+use Rattle.worth_laws.specs.Counted.{known_by}
 use Rattle.least.proofs.sums.known_worth_sat.Given as goal
 
 abbrev pub invariant-loop-htlc : goal.invariant-loop-htlc

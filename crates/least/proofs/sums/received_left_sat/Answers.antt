@@ -2,7 +2,7 @@ use Rattle.std.proofs.Common.{ℕ, ◌-◌, ap, ◌∙◌}
 use Rattle.std.specs.List.{filter, sum_by}
 use Rattle.terms.specs.declared.htlcs.Htlc.{Htlc}
 use Rattle.commit.specs.Fees.{satoshis_of}
-use Rattle.worth.specs.Counted.{known_by}
+use Rattle.worth_laws.specs.Counted.{known_by}
 use Rattle.least.proofs.sums.received_left_sat.Goals as goal
 
 pub returns-clause-sum : goal.returns-clause-sum

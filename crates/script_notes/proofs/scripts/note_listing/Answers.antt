@@ -1,6 +1,6 @@
 use Rattle.std.proofs.Common.{List, [], ap, ◌∙◌}
 use Rattle.script.specs.declared.opcode.Op.{Op}
-use Rattle.consensus.specs.Balance.{is_balanced}
+use Rattle.strictness.specs.Balance.{is_balanced}
 use Rattle.script_notes.proofs.Balanced.{listed_balanced}
 use Rattle.script_notes.proofs.scripts.note_listing.Goals as goal
 

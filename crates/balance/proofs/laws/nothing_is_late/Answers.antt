@@ -1,5 +1,0 @@
-use Rattle.balance.proofs.Times.{nothing_is_late}
-use Rattle.balance.proofs.laws.nothing_is_late.Goals as goal
-
-pub returns : goal.returns
-returns c = nothing_is_late

@@ -1,5 +1,0 @@
-use Rattle.book_balances.proofs.Books.{books_have_balances}
-use Rattle.book_balances.proofs.laws.books_have_balances.Goals as goal
-
-pub returns : goal.returns
-returns c = books_have_balances c.what_channels_have.ensures.lived c.books_keep_rules.ensures.rules c.own_are_resolved.ensures.rules c.balances_are_there.ensures.there c.all_balances_are_there.ensures

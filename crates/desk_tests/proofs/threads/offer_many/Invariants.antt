@@ -1,5 +1,0 @@
-use Rattle.desk.specs.Seats.{IsSeatOf}
-use Rattle.desk_tests.proofs.threads.offer_many.Given as goal
-
-abbrev pub invariant-loop-k : goal.invariant-loop-k
-invariant-loop-k g l = IsSeatOf l.desk l.seat

@@ -1,0 +1,13 @@
+pub mod Lists
+pub mod Known
+pub mod Twins
+pub mod Verdicts
+pub mod Counting
+pub mod Filling
+pub mod Recorded
+pub mod Passing
+pub mod Books
+mod DueExamples
+mod WorkedExamples
+mod WorkedPassing
+mod BookExamples

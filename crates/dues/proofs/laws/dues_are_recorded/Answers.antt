@@ -1,5 +1,0 @@
-use Rattle.dues.proofs.Recorded.{dues_are_recorded}
-use Rattle.dues.proofs.laws.dues_are_recorded.Goals as goal
-
-pub returns : goal.returns
-returns c = dues_are_recorded c.due_places.ensures.known

@@ -1,7 +1,0 @@
-pub mod Breaks
-pub mod Knowing
-pub mod Verdicts
-pub mod Counting
-pub mod Filling
-pub mod Recorded
-pub mod Passing

@@ -1,9 +1,0 @@
-pub mod Lists
-pub mod Expiries
-pub mod Fields
-pub mod Complete
-pub mod Released
-pub mod Keeping
-pub mod Samples
-mod HoldingExamples
-mod CareExamples

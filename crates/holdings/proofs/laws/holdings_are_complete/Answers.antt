@@ -1,5 +1,0 @@
-use Rattle.holdings.proofs.Complete.{holdings_are_complete}
-use Rattle.holdings.proofs.laws.holdings_are_complete.Goals as goal
-
-pub returns : goal.returns
-returns c = holdings_are_complete

@@ -1,0 +1,321 @@
+-- What a chain has to satisfy for a node: the locks that an input keeps, the coins of its outputs, and that nobody else makes a token of its keys.
+use Rattle.std.proofs.Common.{◌≡◌, ◌≢◌, ℕ, zero, suc, true, List, [], ◌∷◌, map, length, Some, None, sym, ap, ◌∙◌, refl, subst, arith, lit<}
+use Rattle.std.specs.Prelude.{◌||◌, not, slice_get}
+use Rattle.std.specs.List.{Contains}
+use Rattle.std.proofs.lemmas.Bool.{false≢true}
+use Rattle.std.proofs.lemmas.Option.{same_Some, slice_get_past}
+use Rattle.script.specs.Run.{Clean}
+use Rattle.script.specs.Token.{token_of}
+use Rattle.tx.specs.declared.input.OutPoint.{OutPoint}
+use Rattle.tx.specs.declared.input.TxIn.{TxIn}
+use Rattle.tx.specs.Parts.{Output}
+use Rattle.tx.specs.Fields.{Transaction, KeepsLimits, unsigned_transaction}
+use Rattle.tx.specs.Spelling.{transaction_id}
+use Rattle.sighash.specs.Programs.{run_of}
+use Rattle.chain.specs.Blocks.{Contents as Block, Coin, grant_outpoint, coin_at}
+use Rattle.claim.specs.Fitting.{output_at}
+use Rattle.terms.specs.declared.agreement.Terms.{Terms}
+use Rattle.safety.specs.Signing.{digest_of}
+use Rattle.safety.specs.Standing.{StandsAt}
+use Rattle.safety.specs.Holdings.{Holding, EachKeepsRules}
+use Rattle.safety.specs.Given.{token_bytes, given_by}
+use Rattle.safety.specs.Premises.{LockedOutput, spend, funding_lock, outputs_by, locks_by, keys_by, each_spend, shows_given, has_item}
+use Rattle.safety.specs.Ledgers.{SpendsCoin, IsCoinAt, Makes, IsLedgerOf}
+use Rattle.safety.specs.Closers.{IsFunded, IsWatched}
+use Rattle.safety.proofs.Lists.{none_some, contains_none}
+use Rattle.safety.proofs.Tests.{all_hold, has, has_one, or_then, on_input, on_spend}
+use Rattle.law_examples.proofs.Ones.{only, with_it, stands_there, nothing_stands, granting, coin_from, granted_there, naming, taker, with_taker, taker_stands, taken_there, taken_at_two, taken_by_it}
+
+-- ---- an input that spends a coin of the block of height 100
+
+module _ (outpoint : OutPoint) (witness : List (List ℕ)) (out : Output) where
+  abbrev coin : Coin
+  coin = record { output = out; height = 100; spent = true }
+
+  abbrev input : ℕ → TxIn
+  input sequence = record { outpoint = outpoint; sequence = sequence; witness = witness }
+
+  abbrev spending : (version sequence lock_time : ℕ) → Transaction
+  spending version sequence lock_time = record { version = version; inputs = input sequence ∷ []; outputs = []; lock_time = lock_time }
+
+  -- a second input, beside the one that spends the coin
+  abbrev two : (sequence other lock_time : ℕ) → Transaction
+  two sequence other lock_time = record { version = 2; inputs = input sequence ∷ input other ∷ []; outputs = []; lock_time = lock_time }
+
+  abbrev Runs : Transaction → ℕ → Type 0
+  Runs t sequence = run_of t (input sequence) out ≡ Some (Clean 21 5)
+
+  -- an age of 144 blocks (BIP 68)
+  -- yes: SpendsCoin
+  of_its_age : Runs (spending 2 144 0) 144 → SpendsCoin 244 (spending 2 144 0) (input 144) coin
+  of_its_age e = record { locks = refl; counted = 21; tallest = 5; clean = e }
+
+  -- no: SpendsCoin
+  a_block_younger : SpendsCoin 243 (spending 2 144 0) (input 144) coin → ⊥
+  a_block_younger s = false≢true s.locks
+
+  -- the age is in the low 16 bits
+  -- yes: SpendsCoin
+  with_bit_16 : Runs (spending 2 65680 0) 65680 → SpendsCoin 244 (spending 2 65680 0) (input 65680) coin
+  with_bit_16 e = record { locks = refl; counted = 21; tallest = 5; clean = e }
+
+  -- no: SpendsCoin
+  with_bit_15 : SpendsCoin 244 (spending 2 32912 0) (input 32912) coin → ⊥
+  with_bit_15 s = false≢true s.locks
+
+  -- no age before version 2, with bit 31, or in units of time, which bit 22 says
+  -- yes: SpendsCoin
+  of_version_one : Runs (spending 1 144 0) 144 → SpendsCoin 101 (spending 1 144 0) (input 144) coin
+  of_version_one e = record { locks = refl; counted = 21; tallest = 5; clean = e }
+
+  -- yes: SpendsCoin
+  with_bit_31 : Runs (spending 2 2147483792 0) 2147483792 → SpendsCoin 101 (spending 2 2147483792 0) (input 2147483792) coin
+  with_bit_31 e = record { locks = refl; counted = 21; tallest = 5; clean = e }
+
+  -- yes: SpendsCoin
+  with_bit_22 : Runs (spending 2 4194448 0) 4194448 → SpendsCoin 101 (spending 2 4194448 0) (input 4194448) coin
+  with_bit_22 e = record { locks = refl; counted = 21; tallest = 5; clean = e }
+
+  -- no: SpendsCoin
+  with_bit_21 : SpendsCoin 243 (spending 2 2097296 0) (input 2097296) coin → ⊥
+  with_bit_21 s = false≢true s.locks
+
+  -- a lock time that is a height is below that of the block
+  -- yes: SpendsCoin
+  above_its_lock_time : Runs (spending 2 0 499) 0 → SpendsCoin 500 (spending 2 0 499) (input 0) coin
+  above_its_lock_time e = record { locks = refl; counted = 21; tallest = 5; clean = e }
+
+  -- no: SpendsCoin
+  at_its_lock_time : SpendsCoin 499 (spending 2 0 499) (input 0) coin → ⊥
+  at_its_lock_time s = false≢true s.locks
+
+  -- from 500,000,000 it is a time
+  -- yes: SpendsCoin
+  locked_by_time : Runs (spending 2 0 500000000) 0 → SpendsCoin 499 (spending 2 0 500000000) (input 0) coin
+  locked_by_time e = record { locks = refl; counted = 21; tallest = 5; clean = e }
+
+  -- no: SpendsCoin
+  locked_by_the_last_height : SpendsCoin 499 (spending 2 0 499999999) (input 0) coin → ⊥
+  locked_by_the_last_height s = false≢true s.locks
+
+  -- no lock time counts where every input is final
+  -- yes: SpendsCoin
+  both_final : Runs (two 4294967295 4294967295 499) 4294967295 → SpendsCoin 499 (two 4294967295 4294967295 499) (input 4294967295) coin
+  both_final e = record { locks = refl; counted = 21; tallest = 5; clean = e }
+
+  -- no: SpendsCoin
+  one_not_final : SpendsCoin 499 (two 4294967295 4294967294 499) (input 4294967295) coin → ⊥
+  one_not_final s = false≢true s.locks
+
+  -- no: SpendsCoin
+  runs_on_nothing : run_of (spending 2 144 0) (input 144) out ≡ None → SpendsCoin 244 (spending 2 144 0) (input 144) coin → ⊥
+  runs_on_nothing e s = none_some (Clean s.counted s.tallest) (sym e ∙ s.clean)
+
+-- ---- outputs
+
+module _ (w : LockedOutput) (out : Output) (at : w.place.outpoint ≡ grant_outpoint 0) where
+  found_there : coin_at (granting out) w.place.outpoint ≡ Some (coin_from out 1)
+  found_there = ap (coin_at (granting out)) at ∙ granted_there out
+
+  -- yes: IsCoinAt
+  coin_there : out ≡ output_at w.place → IsCoinAt (granting out) w (coin_from out 1)
+  coin_there e = record { there = found_there; output = e }
+
+  -- no: IsCoinAt
+  coin_of_another_height : IsCoinAt (granting out) w (coin_from out 2) → ⊥
+  coin_of_another_height c = let f = ap (λ (x : Coin). x.height) (same_Some (coin_from out 1) (coin_from out 2) (sym found_there ∙ c.there)) in omega (arith, f)
+
+  -- no: IsCoinAt
+  coin_of_another_value : out.value ≡ 7 → w.place.value ≡ 8 → IsCoinAt (granting out) w (coin_from out 1) → ⊥
+  coin_of_another_value e f c = let g : out.value ≡ w.place.value = ap (λ (x : Output). x.value) c.output in omega (arith, e, f, g)
+
+  -- no: IsCoinAt
+  coin_of_another_script : length out.script ≡ 22 → length w.place.program ≡ 34 → IsCoinAt (granting out) w (coin_from out 1) → ⊥
+  coin_of_another_script e f c = let g : length out.script ≡ length w.place.program = ap (λ (x : Output). length x.script) c.output in omega (arith, e, f, g)
+
+-- no: IsCoinAt
+coin_nowhere : (w : LockedOutput) (coin : Coin) → IsCoinAt [] w coin → ⊥
+coin_nowhere w coin c = none_some coin c.there
+
+module _ (t : Transaction) (o : OutPoint) (x y : Output) (outputs : t.outputs ≡ x ∷ y ∷ []) (index : o.index ≡ 1) where
+  second_output : slice_get t.outputs o.index ≡ Some y
+  second_output = ap (λ (n : ℕ). slice_get t.outputs n) index ∙ ap (λ (os : List Output). slice_get os 1) outputs
+
+  -- yes: Makes
+  makes_second : transaction_id t ≡ o.txid → Makes t o y
+  makes_second e = record { id = e; there = second_output }
+
+  -- no: Makes
+  makes_first : x.value ≡ 7 → y.value ≡ 8 → Makes t o x → ⊥
+  makes_first e f m = let g : y.value ≡ x.value = ap (λ (z : Output). z.value) (same_Some y x (sym second_output ∙ m.there)) in omega (arith, e, f, g)
+
+  -- no: Makes
+  of_another_id : transaction_id t ≢ o.txid → Makes t o y → ⊥
+  of_another_id n m = n m.id
+
+-- no: Makes
+past_its_outputs : (t : Transaction) (o : OutPoint) (x y : Output) → t.outputs ≡ x ∷ [] → o.index ≡ 1 → Makes t o y → ⊥
+past_its_outputs t o x y e i m =
+    none_some y (sym (slice_get_past (x ∷ []) 1 (omega arith)) ∙ sym (ap (λ (os : List Output). slice_get os 1) e) ∙ sym (ap (λ (n : ℕ). slice_get t.outputs n) i) ∙ m.there)
+
+-- ---- a ledger of an output
+
+-- yes: IsLedgerOf
+ledger_of_nothing : (locks made : List LockedOutput) → IsLedgerOf locks made []
+ledger_of_nothing locks made = record {
+  named = λ w i coin c height t input s within names. absurd (nothing_stands height t s);
+  limits = λ w i height t s id. absurd (nothing_stands height t s);
+  one = λ w i height earlier t u s r id rival. absurd (nothing_stands height t s);
+  coins = λ w i height t s output makes. absurd (nothing_stands height t s);
+}
+
+-- one transaction, in the block of height 2, takes an output that was granted in the block of height 1
+module _ (w : LockedOutput) (out : Output) (outputs : List Output) (witness : List (List ℕ)) (at : w.place.outpoint ≡ grant_outpoint 0) (is : out ≡ output_at w.place) where
+  abbrev chain : List Block
+  chain = with_taker out outputs witness
+
+  abbrev it : Transaction
+  it = taker out outputs witness
+
+  abbrev its_input : TxIn
+  its_input = naming out outputs witness
+
+  abbrev its_coin : Coin
+  its_coin = record { output = out; height = 1; spent = true }
+
+  coin_is_there : IsCoinAt chain w its_coin
+  coin_is_there = record { there = ap (coin_at chain) at ∙ taken_there out outputs witness; output = is }
+
+  -- yes: IsLedgerOf
+  ledger_of_one : KeepsLimits (unsigned_transaction it) → SpendsCoin 2 it its_input its_coin → IsLedgerOf (w ∷ []) [] chain
+  ledger_of_one k s = record {
+    named = named;
+    limits = λ v i height u r id. absurd (contains_none v i);
+    one = λ v i height earlier u x r q id rival. absurd (contains_none v i);
+    coins = λ v i height u r output makes. absurd (contains_none v i);
+  }
+    where
+      spends : (height : ℕ) (u : Transaction) (other : TxIn) (c : Coin) → 2 ≡ height → it ≡ u → its_input ≡ other → its_coin ≡ c → KeepsLimits (unsigned_transaction u) × SpendsCoin height u other c
+      spends height u other c h e i d = (
+        subst (λ (x : Transaction). KeepsLimits (unsigned_transaction x)) e k,
+        subst (λ (n : ℕ). SpendsCoin n u other c) h (subst (λ (x : Transaction). SpendsCoin 2 x other c) e (subst (λ (x : TxIn). SpendsCoin 2 it x c) i (subst (SpendsCoin 2 it its_input) d s))),
+      )
+
+      named : (v : LockedOutput) → Contains (w ∷ []) v → (c : Coin) → IsCoinAt chain v c → (height : ℕ) (u : Transaction) (other : TxIn) → StandsAt chain height u → Contains u.inputs other
+          → other.outpoint ≡ v.place.outpoint → KeepsLimits (unsigned_transaction u) × SpendsCoin height u other c
+      named v i c there height u other stands among names =
+          let e : it ≡ u = taken_by_it out outputs witness height u stands in
+          let d : IsCoinAt chain w c = subst (λ (x : LockedOutput). IsCoinAt chain x c) (sym (only w v i)) there in
+          let j : Contains (its_input ∷ []) other = subst (λ (x : Transaction). Contains x.inputs other) (sym e) among in
+          spends height u other c (taken_at_two out outputs witness height u stands) e (only its_input other j) (same_Some its_coin c (sym coin_is_there.there ∙ d.there))
+
+  -- no: IsLedgerOf
+  taken_without_a_run : (SpendsCoin 2 it its_input its_coin → ⊥) → IsLedgerOf (w ∷ []) [] chain → ⊥
+  taken_without_a_run n l = n (l.named w (0, lit< tt, refl) its_coin coin_is_there 2 it its_input (taker_stands out outputs witness) (0, lit< tt, refl) (sym at)).1
+
+  -- no: IsLedgerOf
+  taken_past_the_limits : (KeepsLimits (unsigned_transaction it) → ⊥) → IsLedgerOf (w ∷ []) [] chain → ⊥
+  taken_past_the_limits n l = n (l.named w (0, lit< tt, refl) its_coin coin_is_there 2 it its_input (taker_stands out outputs witness) (0, lit< tt, refl) (sym at)).0
+
+-- a transaction that makes an output
+module _ (w : LockedOutput) (t : Transaction) where
+  -- no: IsLedgerOf
+  made_past_the_limits : transaction_id t ≡ w.place.outpoint.txid → (KeepsLimits t → ⊥) → IsLedgerOf [] (w ∷ []) (with_it t) → ⊥
+  made_past_the_limits e n l = n (l.limits w (0, lit< tt, refl) 1 t (stands_there t) e)
+
+  -- no: IsLedgerOf
+  another_coin : (coin : Coin) (output : Output) → Makes t w.place.outpoint output → coin_at (with_it t) w.place.outpoint ≡ Some coin → coin.output.value ≡ 7 → output.value ≡ 8 → IsLedgerOf [] (w ∷ []) (with_it t) → ⊥
+  another_coin coin output m c e f l =
+      let made = l.coins w (0, lit< tt, refl) 1 t (stands_there t) output m in
+      let same : made.0 ≡ coin = same_Some made.0 coin (sym made.1 ∙ c) in
+      let g : coin.output.value ≡ output.value = sym (ap (λ (x : Coin). x.output.value) same) ∙ ap (λ (x : Output). x.value) made.2 in
+      omega (arith, e, f, g)
+
+  -- a transaction twice, with other witnesses
+  module _ (u : Transaction) where
+    abbrev twice : List Block
+    twice = record { transactions = t ∷ u ∷ []; granted = [] } ∷ []
+
+    either : (P : Transaction → Type 0) → P t → P u → (v : Transaction) → Contains (t ∷ u ∷ []) v → P v
+    either P p q v (zero, l, e) = subst P e p
+    either P p q v (suc zero, l, e) = subst P e q
+    either P p q v (suc (suc n), l, e) = absurd (omega (arith, l))
+
+    one_of_two : (P : Transaction → Type 0) → P t → P u → (height : ℕ) (v : Transaction) → StandsAt twice height v → P v
+    one_of_two P p q zero v s = either P p q v (subst (λ (b : Block). Contains b.transactions v) (sym (same_Some (record { transactions = t ∷ u ∷ []; granted = [] }) s.block s.there)) s.within)
+    one_of_two P p q (suc n) v s = absurd (none_some s.block (sym (slice_get_past (record { transactions = t ∷ u ∷ []; granted = [] } ∷ []) (suc n) (omega arith)) ∙ s.there))
+
+    -- yes: IsLedgerOf
+    but_for_witnesses : unsigned_transaction t ≡ unsigned_transaction u → KeepsLimits t → KeepsLimits u
+        → ((output : Output) → slice_get t.outputs w.place.outpoint.index ≡ Some output → (coin : Coin) × (coin_at twice w.place.outpoint ≡ Some coin) × (coin.output ≡ output))
+        → IsLedgerOf [] (w ∷ []) twice
+    but_for_witnesses same k l coins = record {
+      named = λ v i coin c height x input s within names. absurd (contains_none v i);
+      limits = λ v i height x s id. one_of_two KeepsLimits k l height x s;
+      one = λ v i height earlier x y s r id rival. one_of_two (λ (z : Transaction). unsigned_transaction z ≡ unsigned_transaction t) refl (sym same) height x s
+          ∙ sym (one_of_two (λ (z : Transaction). unsigned_transaction z ≡ unsigned_transaction t) refl (sym same) earlier y r);
+      coins = λ v i height x s output makes. subst (λ (z : LockedOutput). (coin : Coin) × (coin_at twice z.place.outpoint ≡ Some coin) × (coin.output ≡ output)) (only w v i)
+          (coins output (subst (λ (os : List Output). slice_get os w.place.outpoint.index ≡ Some output) (one_of_two (λ (z : Transaction). z.outputs ≡ t.outputs) refl (ap (λ (z : Transaction). z.outputs) (sym same)) height x s)
+          (ap (λ (z : LockedOutput). slice_get x.outputs z.place.outpoint.index) (only w v i) ∙ makes.there)));
+    }
+
+  -- two transactions of one id, in one block
+  -- no: IsLedgerOf
+  two_of_one_id : (u : Transaction) → transaction_id t ≡ w.place.outpoint.txid → transaction_id u ≡ w.place.outpoint.txid → t.lock_time ≡ 500 → u.lock_time ≡ 501
+      → IsLedgerOf [] (w ∷ []) (record { transactions = t ∷ u ∷ []; granted = [] } ∷ []) → ⊥
+  two_of_one_id u e f l m k =
+      let b : Block = record { transactions = t ∷ u ∷ []; granted = [] } in
+      let same = k.one w (0, lit< tt, refl) 0 0 t u (record { block = b; there = refl; within = (0, lit< tt, refl) }) (record { block = b; there = refl; within = (1, lit< tt, refl) }) e f in
+      let g : t.lock_time ≡ u.lock_time = ap (λ (x : Transaction). x.lock_time) same in
+      omega (arith, l, m, g)
+
+-- ---- funded
+
+-- yes: IsFunded
+not_yet_funded : (terms : Terms) → IsFunded [] terms
+not_yet_funded terms coin e = absurd (none_some coin e)
+
+module _ (terms : Terms) (out : Output) (at : terms.funding ≡ grant_outpoint 0) where
+  funding_there : coin_at (granting out) terms.funding ≡ Some (coin_from out 1)
+  funding_there = ap (coin_at (granting out)) at ∙ granted_there out
+
+  -- yes: IsFunded
+  funded : out ≡ output_at (funding_lock terms).place → IsFunded (granting out) terms
+  funded e coin c = ap (λ (x : Coin). x.output) (sym (same_Some (coin_from out 1) coin (sym funding_there ∙ c))) ∙ e
+
+  -- no: IsFunded
+  a_satoshi_short : terms.capacity_sat ≡ 100000 → out.value ≡ 99999 → IsFunded (granting out) terms → ⊥
+  a_satoshi_short e f i = let g : out.value ≡ terms.capacity_sat = ap (λ (x : Output). x.value) (i (coin_from out 1) funding_there) in omega (arith, e, f, g)
+
+  -- no: IsFunded
+  with_another_script : length out.script ≡ 22 → length (funding_lock terms).place.program ≡ 34 → IsFunded (granting out) terms → ⊥
+  with_another_script e f i = let g : length out.script ≡ length (funding_lock terms).place.program = ap (λ (x : Output). length x.script) (i (coin_from out 1) funding_there) in omega (arith, e, f, g)
+
+-- ---- watched
+
+module _ (hs : List Holding) where
+  -- yes: IsWatched
+  before_any_block : EachKeepsRules hs → IsWatched hs []
+  before_any_block k = record { kept = k; ledger = ledger_of_nothing (locks_by hs) (outputs_by hs); own = refl }
+
+  -- no: IsWatched
+  rules_not_kept : (EachKeepsRules hs → ⊥) → IsWatched hs [] → ⊥
+  rules_not_kept n v = n v.kept
+
+  -- no: IsWatched
+  on_no_ledger : (blocks : List Block) → (IsLedgerOf (locks_by hs) (outputs_by hs) blocks → ⊥) → IsWatched hs blocks → ⊥
+  on_no_ledger blocks n v = n v.ledger
+
+  -- an input names an output of the node's, with a token of the node's over that spend, which the node did not give out
+  -- no: IsWatched
+  forged : (t : Transaction) (input : TxIn) → t.inputs ≡ input ∷ [] → (w : LockedOutput) → Contains (locks_by hs) w → input.outpoint ≡ w.place.outpoint
+      → (key : List ℕ) → Contains (keys_by hs) key → Contains input.witness (token_of key (digest_of (spend w t input)))
+      → (Contains (map token_bytes (given_by hs)) (token_of key (digest_of (spend w t input))) → ⊥) → IsWatched hs (with_it t) → ⊥
+  forged t input inputs w l names key k shown not_given v =
+      let given = map token_bytes (given_by hs) in
+      let digest = digest_of (spend w t input) in
+      let among : Contains t.inputs input = subst (λ (is : List TxIn). Contains is input) (sym inputs) (0, lit< tt, refl) in
+      let each : each_spend (shows_given given (keys_by hs)) (locks_by hs) t input ≡ true = on_input (each_spend (shows_given given (keys_by hs)) (locks_by hs)) (with_it t) v.own 1 t input (stands_there t) among in
+      let shows : shows_given given (keys_by hs) input.witness digest ≡ true = on_spend (shows_given given (keys_by hs)) (locks_by hs) t input each w l names in
+      let mine = all_hold (λ (x : List ℕ). not (has_item input.witness (token_of x digest)) || has_item given (token_of x digest)) (keys_by hs) shows key k in
+      not_given (has_one given (token_of key digest) (or_then (has_item input.witness (token_of key digest)) (has_item given (token_of key digest)) (has input.witness (token_of key digest) shown) mine))

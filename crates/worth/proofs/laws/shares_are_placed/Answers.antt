@@ -1,5 +1,0 @@
-use Rattle.worth.proofs.Shares.{shares_are_placed}
-use Rattle.worth.proofs.laws.shares_are_placed.Goals as goal
-
-pub returns : goal.returns
-returns c = shares_are_placed c.there_is_one_order.ensures
