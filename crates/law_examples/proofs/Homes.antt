@@ -13,9 +13,9 @@ use Rattle.desk.specs.Histories.{History, calls_of}
 use Rattle.desk.specs.Seats.{number_in, calls_in}
 use Rattle.scenario.specs.declared.events.Event.{Event}
 use Rattle.running.specs.declared.runs.Report.{Report}
-use Rattle.running.specs.Crews.{payments_in, IsKeepOrRelease, KeepsAndReleases}
+use Rattle.running.specs.Threads.{payments_in, IsKeepOrRelease, KeepsAndReleases}
 use Rattle.running.specs.Playing.{AreAllPlayed}
-use Rattle.running.specs.Homes.{ends_a, ends_b, IsHome, IsNoSeats, AreHome}
+use Rattle.running.specs.Homes.{channel_seats_a, channel_seats_b, IsHome, IsNoSeats, AreHome}
 use Rattle.running.specs.Reports.{IsLeft, IsOfThreads, IsCounted, IsTurns, AreTurns, MakesTurns, IsRun}
 use Rattle.running.specs.Outcomes.{IsChainPlayed}
 use Rattle.law_examples.proofs.Samples.{argument_of}
@@ -67,8 +67,8 @@ use Rattle.law_examples.proofs.Samples.{argument_of}
 -- no: IsOutcomeOf, by crates/running/proofs/BroadcastExamples.antt: refused_without_one
 
 -- what a channel's thread gives back
-abbrev PlayedLine : Type 0
-PlayedLine = argument_of IsCounted
+abbrev PlayedChannel : Type 0
+PlayedChannel = argument_of IsCounted
 
 abbrev by : ℕ → Call → Entry
 by seat call = record { seat = seat; call = call }
@@ -114,8 +114,8 @@ closes_too keys s c is =
 opens_too : (keys : List (List ℕ)) (o : Opening) → IsKeepOrRelease keys (Open o) → ⊥
 opens_too keys o k = k
 
-module _ (p : PlayedLine) where
-  -- both of its ends
+module _ (p : PlayedChannel) where
+  -- both of its endpoints
   -- yes: MakesTurns
   makes_turns : AreTurns (calls_in p.a) → AreTurns (calls_in p.b) → MakesTurns p
   makes_turns a b = (a, b)
@@ -160,8 +160,8 @@ entry_lost s n c h =
 -- ---- whose the later entries are
 
 -- yes: IsOfThreads
-of_one_that_keeps : (opening book : History) (ends : List Seat) (s : Seat) → KeepsAndReleases (payments_in (replay opening)) s → AreHome opening book (ends ++ s ∷ []) → IsOfThreads opening book ends
-of_one_that_keeps opening book ends s k h =
+of_one_that_keeps : (opening book : History) (channel_seats : List Seat) (s : Seat) → KeepsAndReleases (payments_in (replay opening)) s → AreHome opening book (channel_seats ++ s ∷ []) → IsOfThreads opening book channel_seats
+of_one_that_keeps opening book channel_seats s k h =
     let P = KeepsAndReleases (payments_in (replay opening)) in
     record { others = s ∷ []; work = All-cons P s [] k (All-nil P); home = h }
 
@@ -192,12 +192,12 @@ signed_by_a_worker t =
 
 module _ (a b : History) (channels : ℕ) (events : List Event) (r : Report) where
   -- yes: IsRun
-  is_run : (lines : List PlayedLine) → IsLeft a r.a → IsLeft b r.b → AreAllPlayed a b channels events lines → map (λ p. p.counts) lines ≡ r.channels.items → All IsCounted lines → All MakesTurns lines
-      → IsChainPlayed a b events r.outcomes.items r.a r.b → IsOfThreads a r.a (ends_a lines) → IsOfThreads b r.b (ends_b lines) → IsRun a b channels events r
-  is_run lines left_a left_b played counts entered turns chain of_a of_b = record {
+  is_run : (played_channels : List PlayedChannel) → IsLeft a r.a → IsLeft b r.b → AreAllPlayed a b channels events played_channels → map (λ p. p.counts) played_channels ≡ r.channels.items → All IsCounted played_channels → All MakesTurns played_channels
+      → IsChainPlayed a b events r.outcomes.items r.a r.b → IsOfThreads a r.a (channel_seats_a played_channels) → IsOfThreads b r.b (channel_seats_b played_channels) → IsRun a b channels events r
+  is_run played_channels left_a left_b played counts entered turns chain of_a of_b = record {
     a_left = left_a;
     b_left = left_b;
-    lines = lines;
+    played_channels = played_channels;
     played = played;
     counts = counts;
     entered = entered;

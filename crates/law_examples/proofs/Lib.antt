@@ -28,12 +28,12 @@ mod Cuts
 mod Replies
 mod Reports
 mod Homes
-mod Lines
+mod ChannelThreads
 mod Rules
 mod Ledgers
 mod Breaks
 mod Resolutions
 mod Everybody
 mod ReorgOutcomes
-mod PlayedLines
+mod PlayedChannels
 mod Releases

@@ -19,7 +19,7 @@ use Rattle.desk.specs.declared.desk.Seat.{Seat}
 use Rattle.desk.specs.Seats.{calls_in}
 use Rattle.side.specs.declared.due.DueClaim.{DueClaim}
 use Rattle.side.specs.Batches.{value_of, with_new}
-use Rattle.running.specs.Crews.{payments_in, IsKeepOrRelease, KeepsAndReleases}
+use Rattle.running.specs.Threads.{payments_in, IsKeepOrRelease, KeepsAndReleases}
 use Rattle.safety.proofs.Lists.{some_is, none_some}
 
 -- ---- the payment keys of a book

@@ -20,7 +20,7 @@ use Rattle.world.specs.Beginning.{empty_world, AllBegin, IsBeginning}
 use Rattle.running.specs.declared.counts.Counts.{Counts}
 use Rattle.running.specs.declared.runs.Report.{Report}
 use Rattle.running.specs.Events.{all_turns}
-use Rattle.running.specs.Playing.{ArePlayed, AreAllPlayed, IsFirstLine, no_more}
+use Rattle.running.specs.Playing.{ArePlayed, AreAllPlayed, IsFirstChannelThread, no_more}
 use Rattle.running.specs.Reports.{IsLeft, total_of, IsRun, IsReport}
 
 -- ---- a book that threads leave
@@ -70,13 +70,13 @@ signed_without_channel l = false≢true l.accepted
 
 -- yes: AreAllPlayed
 no_channel : (h i : History) (es : List Event) → AreAllPlayed h i 0 es []
-no_channel h i es = record { lines = []; numbers = refl; first = All-nil (IsFirstLine h i); each = no_more }
+no_channel h i es = record { channel_threads = []; numbers = refl; first = All-nil (IsFirstChannelThread h i); each = no_more }
 
 -- no: AreAllPlayed
 channel_unplayed : (h i : History) (es : List Event) → AreAllPlayed h i 1 es [] → ⊥
 channel_unplayed h i es a =
-    let e : length a.lines ≡ 1 = sym (length-map a.lines _) ∙ ap length a.numbers in
-    (elim a.lines as (λ ls. length ls ≡ 1 → ArePlayed es ls [] → ⊥) [ [] ↦ λ n p. omega (arith, n) | l ∷ ls ↦ λ n p. elim p [ ] ]) e a.each
+    let e : length a.channel_threads ≡ 1 = sym (length-map a.channel_threads _) ∙ ap length a.numbers in
+    (elim a.channel_threads as (λ ls. length ls ≡ 1 → ArePlayed es ls [] → ⊥) [ [] ↦ λ n p. omega (arith, n) | l ∷ ls ↦ λ n p. elim p [ ] ]) e a.each
 
 -- ---- a report
 
@@ -94,7 +94,7 @@ module _ (scenario : Scenario) (report : Report) where
   goes_on_from_b a b n es r = r.b_left.goes_on
 
   -- yes: IsRun.played
-  plays_both : (a b : History) (es : List Event) (r : IsRun a b 2 es report) → AreAllPlayed a b 2 es r.lines
+  plays_both : (a b : History) (es : List Event) (r : IsRun a b 2 es report) → AreAllPlayed a b 2 es r.played_channels
   plays_both a b es r = r.played
 
   -- three turns in channel 1, one in channel 0; blocks and the turn of a channel that is not there are none

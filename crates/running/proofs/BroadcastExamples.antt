@@ -17,8 +17,8 @@ use Rattle.desk.specs.Histories.{History}
 use Rattle.world.specs.declared.errors.EventError.{EventError}
 use Rattle.world.specs.declared.errors.EventError.TheVariants.{NoSuchChannel, NoSuchTx, TooDeep}
 use Rattle.world.specs.Publishing.{refusal_by}
-use Rattle.running.specs.declared.players.Broadcast.{Broadcast}
-use Rattle.running.specs.declared.players.Choice.TheVariants.{Commitment}
+use Rattle.running.specs.declared.chain_thread.Broadcast.{Broadcast}
+use Rattle.running.specs.declared.chain_thread.Choice.TheVariants.{Commitment}
 use Rattle.running.specs.Broadcasts.{GoesOnWith, IsCommitmentOf, IsHtlcTxOf, IsSignedBy, IsFoundBy, IsBroadcastOf, IsBroadcast}
 use Rattle.running.specs.Outcomes.{IsBroadcastOutcome, IsMiningOutcome, IsOutcomeOf}
 

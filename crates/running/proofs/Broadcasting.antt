@@ -12,9 +12,9 @@ use Rattle.book.specs.declared.errors.KnowError.TheVariants.{NoMemory, NoSuchCha
 use Rattle.desk.specs.Histories.{History}
 use Rattle.world.specs.declared.errors.EventError.{EventError}
 use Rattle.world.specs.declared.errors.EventError.TheVariants.{NoSuchChannel as no_channel}
-use Rattle.running.specs.declared.players.Broadcast.{Broadcast}
-use Rattle.running.specs.declared.players.Choice.{Choice}
-use Rattle.running.specs.declared.players.Choice.TheVariants.{Newest}
+use Rattle.running.specs.declared.chain_thread.Broadcast.{Broadcast}
+use Rattle.running.specs.declared.chain_thread.Choice.{Choice}
+use Rattle.running.specs.declared.chain_thread.Choice.TheVariants.{Newest}
 use Rattle.running.specs.Broadcasts.{IsCommitmentOf, IsSignedBy, IsFoundBy, IsBroadcastOf, newest_of}
 
 -- the newest commitment is signed by its number

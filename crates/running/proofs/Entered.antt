@@ -18,14 +18,14 @@ use Rattle.desk.specs.Seats.{number_in, calls_in}
 use Rattle.side.specs.Acts.{call_of}
 use Rattle.running.specs.declared.acts.Act.{Act}
 use Rattle.running.specs.declared.acts.Act.TheVariants.{Update, Sign, Deliver, Close}
-use Rattle.running.specs.declared.ends.End.{End}
-use Rattle.running.specs.declared.lines.Line.{Line}
-use Rattle.running.specs.declared.lines.PlayedLine.{PlayedLine}
-use Rattle.running.specs.declared.lines.Turn.{Turn}
+use Rattle.running.specs.declared.endpoints.Endpoint.{Endpoint}
+use Rattle.running.specs.declared.channel_thread.ChannelThread.{ChannelThread}
+use Rattle.running.specs.declared.channel_thread.PlayedChannel.{PlayedChannel}
+use Rattle.running.specs.declared.channel_thread.Turn.{Turn}
 use Rattle.running.specs.declared.counts.Counts.{Counts}
 use Rattle.running.specs.Events.{turn_in}
-use Rattle.running.specs.Acting.{no_counts, IsOwnReply, IsTaken, IsMade, IsDelivered, IsActed, HasTurned, IsTurnOf, Plays}
-use Rattle.running.specs.Playing.{sum_of, PlaysAll, IsPlayed, ArePlayed, IsFirstLine}
+use Rattle.running.specs.Acting.{no_counts, IsOwnReply, IsReceived, IsMade, IsDelivered, IsActed, HasTurned, IsTurnOf, Plays}
+use Rattle.running.specs.Playing.{sum_of, PlaysAll, IsPlayed, ArePlayed, IsFirstChannelThread}
 use Rattle.running.specs.Reports.{IsCounted}
 
 -- a Boolean as a number
@@ -47,39 +47,39 @@ own_more call s t reply is =
     ap (λ (l : List Entry). length l) is.calls ∙ extended_length (is_accepted (reply_of peer_tokens is.history call)) (calls_in s) (number_in s) call
     ∙ ap (λ (r : Reply). calls_long s + bit (is_accepted r)) (sym is.reply_is)
 
-made_more : (call : Call) (e f : End) (inbox newer : List Message) (done : Bool) → IsMade call e f inbox newer done → calls_long f.seat ≡ calls_long e.seat + bit done
+made_more : (call : Call) (e f : Endpoint) (inbox newer : List Message) (done : Bool) → IsMade call e f inbox newer done → calls_long f.seat ≡ calls_long e.seat + bit done
 made_more call e f inbox newer done is = own_more call e.seat f.seat is.sent.reply is.sent.answered ∙ ap (λ (b : Bool). calls_long e.seat + bit b) (sym is.sent.done_is)
 
-taken_more : (channel : ℕ) (call : Call) (e f : End) (inbox newer : List Message) (done : Bool) → IsTaken channel call e f inbox newer done → calls_long f.seat ≡ calls_long e.seat + bit done
-taken_more channel call e f inbox newer done is = own_more call e.seat f.seat is.reply is.answered ∙ ap (λ (b : Bool). calls_long e.seat + bit b) (sym is.done_is)
+received_more : (channel : ℕ) (call : Call) (e f : Endpoint) (inbox newer : List Message) (done : Bool) → IsReceived channel call e f inbox newer done → calls_long f.seat ≡ calls_long e.seat + bit done
+received_more channel call e f inbox newer done is = own_more call e.seat f.seat is.reply is.answered ∙ ap (λ (b : Bool). calls_long e.seat + bit b) (sym is.done_is)
 
-delivered_more : (channel : ℕ) (m : Option Message) (e f : End) (inbox newer : List Message) (done : Bool) → IsDelivered channel m e f inbox newer done → calls_long f.seat ≡ calls_long e.seat + bit done
+delivered_more : (channel : ℕ) (m : Option Message) (e f : Endpoint) (inbox newer : List Message) (done : Bool) → IsDelivered channel m e f inbox newer done → calls_long f.seat ≡ calls_long e.seat + bit done
 delivered_more channel None e f inbox newer done is =
-    let same : calls_long f.seat ≡ calls_long e.seat = ap (λ (x : End). calls_long x.seat) is.same in
+    let same : calls_long f.seat ≡ calls_long e.seat = ap (λ (x : Endpoint). calls_long x.seat) is.same in
     let none : bit done ≡ 0 = ap bit is.done_is in
     omega (arith, same, none)
-delivered_more channel (Some message) e f inbox newer done is = taken_more channel (call_of channel message) e f inbox newer done is
+delivered_more channel (Some message) e f inbox newer done is = received_more channel (call_of channel message) e f inbox newer done is
 
-acted_more : (channel : ℕ) (act : Act) (e f : End) (inbox newer : List Message) (done : Bool) → IsActed channel act e f inbox newer done → calls_long f.seat ≡ calls_long e.seat + bit done
+acted_more : (channel : ℕ) (act : Act) (e f : Endpoint) (inbox newer : List Message) (done : Bool) → IsActed channel act e f inbox newer done → calls_long f.seat ≡ calls_long e.seat + bit done
 acted_more channel (Update u) e f inbox newer done is = made_more (Stepping channel (Own u)) e f inbox newer done is
 acted_more channel Sign e f inbox newer done is = made_more (Signing channel) e f inbox newer done is
 acted_more channel Deliver e f inbox newer done is = delivered_more channel (slice_get e.inbox.items 0) e f inbox newer done is
 acted_more channel Close e f inbox newer done is = made_more (Closing channel) e f inbox newer done is
 
-abbrev entries_of : Line → ℕ
+abbrev entries_of : ChannelThread → ℕ
 entries_of l = calls_long l.a.seat + calls_long l.b.seat
 
-turned_more : (channel : ℕ) (act : Act) (me f peer g : End) (done : Bool) → HasTurned channel act me f peer g done → calls_long f.seat + calls_long g.seat ≡ calls_long me.seat + calls_long peer.seat + bit done
+turned_more : (channel : ℕ) (act : Act) (me f peer g : Endpoint) (done : Bool) → HasTurned channel act me f peer g done → calls_long f.seat + calls_long g.seat ≡ calls_long me.seat + calls_long peer.seat + bit done
 turned_more channel act me f peer g done is =
     let mine = acted_more channel act me f peer.inbox.items g.inbox.items done is.acted in
     let theirs : calls_long g.seat ≡ calls_long peer.seat = ap calls_long is.seat in
     omega (arith, mine, theirs)
 
-turn_more : (side : Side) (act : Act) (l m : Line) (done : Bool) → IsTurnOf side act l m done → entries_of m ≡ entries_of l + bit done
+turn_more : (side : Side) (act : Act) (l m : ChannelThread) (done : Bool) → IsTurnOf side act l m done → entries_of m ≡ entries_of l + bit done
 turn_more sides.A act l m done is = turned_more l.channel act l.a m.a l.b m.b done is
 turn_more sides.B act l m done is = let e = turned_more l.channel act l.b m.b l.a m.a done is in omega (arith, e)
 
-plays_more : (t : Option Turn) (l m : Line) (k : Counts) → Plays t l m k → entries_of m ≡ entries_of l + k.played
+plays_more : (t : Option Turn) (l m : ChannelThread) (k : Counts) → Plays t l m k → entries_of m ≡ entries_of l + k.played
 plays_more None l m k is =
     let same : entries_of m ≡ entries_of l = ap entries_of is.0 in
     let none : k.played ≡ 0 = ap (λ (c : Counts). c.played) is.1 in
@@ -93,8 +93,8 @@ plays_more (Some turn) l m k (false, turned, is) =
     let none : k.played ≡ 0 = ap (λ (c : Counts). c.played) is in
     omega (arith, more, none)
 
-all_more : (es : List Event) (l m : Line) (k : Counts) → PlaysAll es l m k → entries_of m ≡ entries_of l + k.played
-all_more es l m k (PlaysAll.none_left line) =
+all_more : (es : List Event) (l m : ChannelThread) (k : Counts) → PlaysAll es l m k → entries_of m ≡ entries_of l + k.played
+all_more es l m k (PlaysAll.none_left channel_thread) =
     let none_played : no_counts.played ≡ 0 = refl in
     omega (arith, none_played)
 all_more es l m k (PlaysAll.played e rest first between last counts more same one others) =
@@ -103,8 +103,8 @@ all_more es l m k (PlaysAll.played e rest first between last counts more same on
     let sum : (sum_of counts more).played ≡ counts.played + more.played = refl in
     omega (arith, here, later, sum)
 
-line_counted : (a b : History) (events : List Event) (l : Line) (p : PlayedLine) → IsFirstLine a b l → IsPlayed events l p → IsCounted p
-line_counted a b events l p first is =
+thread_counted : (a b : History) (events : List Event) (l : ChannelThread) (p : PlayedChannel) → IsFirstChannelThread a b l → IsPlayed events l p → IsCounted p
+thread_counted a b events l p first is =
     let more = all_more events l is.after p.counts is.all in
     let none_a : calls_long l.a.seat ≡ 0 = ap (λ (c : List Entry). length c) first.a_first.calls in
     let none_b : calls_long l.b.seat ≡ 0 = ap (λ (c : List Entry). length c) first.b_first.calls in
@@ -112,7 +112,7 @@ line_counted a b events l p first is =
     let mine_b : calls_long p.b ≡ calls_long is.after.b.seat = ap calls_long is.b in
     omega (arith, more, none_a, none_b, mine_a, mine_b)
 
-pub entered : (a b : History) (events : List Event) (lines : List Line) (played : List PlayedLine) → All (IsFirstLine a b) lines → ArePlayed events lines played → All IsCounted played
-entered a b events lines played first ArePlayed.no_more = All-nil IsCounted
-entered a b events lines played first (ArePlayed.one_more l ls p ps is others) =
-    All-cons IsCounted p ps (line_counted a b events l p (All-head (IsFirstLine a b) l ls first) is) (entered a b events ls ps (All-tail (IsFirstLine a b) l ls first) others)
+pub entered : (a b : History) (events : List Event) (channel_threads : List ChannelThread) (played : List PlayedChannel) → All (IsFirstChannelThread a b) channel_threads → ArePlayed events channel_threads played → All IsCounted played
+entered a b events channel_threads played first ArePlayed.no_more = All-nil IsCounted
+entered a b events channel_threads played first (ArePlayed.one_more l ls p ps is others) =
+    All-cons IsCounted p ps (thread_counted a b events l p (All-head (IsFirstChannelThread a b) l ls first) is) (entered a b events ls ps (All-tail (IsFirstChannelThread a b) l ls first) others)

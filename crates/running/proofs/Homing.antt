@@ -12,7 +12,7 @@ use Rattle.desk.specs.Histories.{History, calls_of, first_seat}
 use Rattle.desk.specs.Rule.{heard_of, IsHeard, HasHeardAll}
 use Rattle.desk.specs.Seats.{IsSeatOf, TakesIn, number_in, calls_in, opening_in, heard_in, is_last_in}
 use Rattle.desk.proofs.Parts.{none_from}
-use Rattle.running.specs.Crews.{IsLone}
+use Rattle.running.specs.Threads.{IsLone}
 use Rattle.running.specs.Homes.{heard_with, TakesEach, IsHome, IsNoSeats, IsClosedBy, AreHome}
 
 -- ---- seats come home one after the other
@@ -110,10 +110,10 @@ heard_apart desk n (s ∷ seats) hs lone none all =
 -- ---- the book that is left
 
 -- where a desk's last seat, which made no call, closes it, and as many seats came home to it as have a lower number
-pub are_home : (desk : Desk) (closer after : Seat) (seats : List Seat) (book : History) → calls_in closer ≡ [] → heard_in closer ≡ [] → is_last_in closer ≡ true
-    → number_in closer ≡ first_seat (opening_in closer) + length seats → All (IsLone desk) seats → TakesEach desk closer seats after → IsClosedBy after book → AreHome (opening_in closer) book seats
-are_home desk closer after seats book idle alone last top lone takes closed =
-    let opening = opening_in closer in
+pub are_home : (desk : Desk) (closing_seat after : Seat) (seats : List Seat) (book : History) → calls_in closing_seat ≡ [] → heard_in closing_seat ≡ [] → is_last_in closing_seat ≡ true
+    → number_in closing_seat ≡ first_seat (opening_in closing_seat) + length seats → All (IsLone desk) seats → TakesEach desk closing_seat seats after → IsClosedBy after book → AreHome (opening_in closing_seat) book seats
+are_home desk closing_seat after seats book idle alone last top lone takes closed =
+    let opening = opening_in closing_seat in
     let heard : heard_in after ≡ heard_with seats [] = takes.heard ∙ ap (heard_with seats) alone in
     let many : length (heard_in after) ≡ length seats = ap (λ (l : List Heard). length l) heard ∙ heard_many desk seats [] lone ∙ omega arith in
     let all : AllByRecursion (IsHeard opening book) (heard_with seats []) =

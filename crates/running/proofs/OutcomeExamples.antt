@@ -13,8 +13,8 @@ use Rattle.desk.proofs.Parts.{goes_on_same}
 use Rattle.world.specs.declared.errors.EventError.{EventError}
 use Rattle.world.specs.declared.errors.EventError.TheVariants.{NoSuchChannel, NoSuchTx, TooDeep}
 use Rattle.world.specs.Publishing.{refusal_by}
-use Rattle.running.specs.declared.players.Broadcast.{Broadcast}
-use Rattle.running.specs.declared.players.Choice.TheVariants.{Commitment}
+use Rattle.running.specs.declared.chain_thread.Broadcast.{Broadcast}
+use Rattle.running.specs.declared.chain_thread.Choice.TheVariants.{Commitment}
 use Rattle.running.specs.Broadcasts.{IsBroadcastOf}
 use Rattle.running.specs.Outcomes.{IsReorgOutcome, IsOutcome, PlaysChain, IsChainPlayed}
 

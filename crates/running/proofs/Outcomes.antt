@@ -5,7 +5,7 @@ use Rattle.scenario.specs.declared.events.Event.{Event}
 use Rattle.desk.specs.Histories.{History, GoesOn}
 use Rattle.desk.specs.Seats.{last_in}
 use Rattle.world.specs.declared.errors.EventError.{EventError}
-use Rattle.running.specs.declared.players.Player.{Player}
+use Rattle.running.specs.declared.chain_thread.ChainThread.{ChainThread}
 use Rattle.running.specs.Outcomes.{IsOutcome, PlaysChain, HasSeen}
 
 -- whatever follows from here follows from the first histories
@@ -32,6 +32,6 @@ chain_done es i a b x y outcomes past was =
     subst (λ (l : List (Option EventError)). PlaysChain es a b l x y) (append-nil outcomes) (was [] x y last)
 
 -- what a thread played that has last seen these histories
-pub chain_from : (es : List Event) (a b x y : History) (outcomes : List (Option EventError)) (p : Player) → HasSeen a b p → PlaysChain es (last_in p.a) (last_in p.b) outcomes x y → PlaysChain es a b outcomes x y
+pub chain_from : (es : List Event) (a b x y : History) (outcomes : List (Option EventError)) (p : ChainThread) → HasSeen a b p → PlaysChain es (last_in p.a) (last_in p.b) outcomes x y → PlaysChain es a b outcomes x y
 chain_from es a b x y outcomes p seen plays =
     subst (λ (h : History). PlaysChain es a h outcomes x y) seen.b_last (subst (λ (h : History). PlaysChain es h (last_in p.b) outcomes x y) seen.a_last plays)

@@ -7,7 +7,7 @@ use Rattle.keys.specs.declared.compressed.Key.{Key}
 use Rattle.keys.specs.Derivation.{base_key}
 use Rattle.channel.specs.States.{State}
 use Rattle.book.specs.Books.{Channels}
-use Rattle.running.specs.Crews.{payments_in}
+use Rattle.running.specs.Threads.{payments_in}
 
 one_more : (chs : Channels) (i : ℕ) (s : State) → Some s ≡ option_map (λ ch. ch.state) (slice_get chs i) → payments_in (take (suc i) chs) ≡ payments_in (take i chs) ++ base_key s.seed Payment ∷ []
 one_more [] i s there = absurd cc

@@ -13,8 +13,8 @@ use Rattle.desk.specs.Histories.{History, calls_of}
 use Rattle.desk.specs.Seats.{number_in, calls_in, last_in}
 use Rattle.side.specs.declared.due.DueClaim.{DueClaim}
 use Rattle.side.specs.Batches.{claims_in, preimages_for, output_for}
-use Rattle.running.specs.declared.lines.PlayedLine.{PlayedLine}
-use Rattle.running.specs.Crews.{IsKeepOrRelease, KeepsAndReleases}
+use Rattle.running.specs.declared.channel_thread.PlayedChannel.{PlayedChannel}
+use Rattle.running.specs.Threads.{IsKeepOrRelease, KeepsAndReleases}
 use Rattle.running.specs.Homes.{IsHome, AreHome}
 use Rattle.running.specs.Reports.{IsCounted, IsTurns, AreTurns, MakesTurns}
 
@@ -62,7 +62,7 @@ stranger h =
 
 -- ---- calls
 
-module _ (p : PlayedLine) where
+module _ (p : PlayedChannel) where
   counted : calls_in p.a ≡ signs 0 ∷ signs 0 ∷ [] → calls_in p.b ≡ signs 1 ∷ [] → p.counts.played ≡ 3 → IsCounted p
   counted a b k =
       let two : length (calls_in p.a) ≡ 2 = ap (λ (l : History). length l) a in

@@ -11,18 +11,18 @@ use Rattle.desk.specs.Histories.{History}
 use Rattle.desk.specs.declared.desk.Desk.{Desk}
 use Rattle.desk.specs.declared.desk.Seat.{Seat as DeskSeat}
 use Rattle.desk.specs.Seats.{AreSeats as AreDeskSeats, EndsWithLast, number_in, is_last_in}
-use Rattle.running.specs.declared.houses.Office.{Office}
-use Rattle.running.specs.declared.lines.Line.{Line}
-use Rattle.running.specs.Crews.{payments_in, PaysItself, IsOwnSeat}
+use Rattle.running.specs.declared.shared.SideState.{SideState}
+use Rattle.running.specs.declared.channel_thread.ChannelThread.{ChannelThread}
+use Rattle.running.specs.Threads.{payments_in, PaysItself, IsOwnSeat}
 
-pub places_of : (board : Board) (count : ℕ) (places : List Seat) → AreSeats board count places → All (IsSeatOf board) places
-places_of board count places are = All-weaker (IsNewSeatOf board) (IsSeatOf board) (λ s is. is.seat_of) places are.each
+pub board_seats_of : (board : Board) (count : ℕ) (board_seats : List Seat) → AreSeats board count board_seats → All (IsSeatOf board) board_seats
+board_seats_of board count board_seats are = All-weaker (IsNewSeatOf board) (IsSeatOf board) (λ s is. is.seat_of) board_seats are.each
 
 -- the side pays to the keys of the book with which this seat's desk was made, too
-pub pays_too : (office : Office) (closer seat : DeskSeat) → IsOwnSeat office closer seat → PaysItself office closer → PaysItself office seat
-pays_too office closer seat own pays = pays ∙ ap (λ (h : History). payments_in (replay h)) (sym own.made_with)
+pub pays_too : (side : SideState) (closing_seat seat : DeskSeat) → IsOwnSeat side closing_seat seat → PaysItself side closing_seat → PaysItself side seat
+pays_too side closing_seat seat own pays = pays ∙ ap (λ (h : History). payments_in (replay h)) (sym own.made_with)
 
--- ---- the channels of lines
+-- ---- the channels of threads
 
 range_more : (a n : ℕ) → range_with_len a (suc n) ≡ range_with_len a n ++ (a + n) ∷ []
 range_more a zero =
@@ -32,10 +32,10 @@ range_more a (suc n) =
     let same : a + 1 + n ≡ a + suc n = omega arith in
     ap (λ (l : List ℕ). a ∷ l) (range_more (a + 1) n ∙ ap (λ (x : ℕ). range_with_len (a + 1) n ++ x ∷ []) same)
 
-pub channels_more : (lines more : List Line) (n : ℕ) (l : Line) → more ≡ lines ++ l ∷ [] → map (λ l. l.channel) lines ≡ range_with_len 0 n → l.channel ≡ n → map (λ l. l.channel) more ≡ range_with_len 0 (n + 1)
-channels_more lines more n l pushed before is =
+pub channels_more : (channel_threads more : List ChannelThread) (n : ℕ) (l : ChannelThread) → more ≡ channel_threads ++ l ∷ [] → map (λ l. l.channel) channel_threads ≡ range_with_len 0 n → l.channel ≡ n → map (λ l. l.channel) more ≡ range_with_len 0 (n + 1)
+channels_more channel_threads more n l pushed before is =
     let place : n ≡ 0 + n = omega arith in
-    ap (λ (ls : List Line). map (λ l. l.channel) ls) pushed ∙ map-append (λ (l : Line). l.channel) lines (l ∷ []) ∙ ap (λ (cs : List ℕ). cs ++ l.channel ∷ []) before
+    ap (λ (ls : List ChannelThread). map (λ l. l.channel) ls) pushed ∙ map-append (λ (l : ChannelThread). l.channel) channel_threads (l ∷ []) ∙ ap (λ (cs : List ℕ). cs ++ l.channel ∷ []) before
     ∙ ap (λ (c : ℕ). range_with_len 0 n ++ c ∷ []) (is ∙ place) ∙ sym (range_more 0 n) ∙ ap (λ (k : ℕ). range_with_len 0 k) (sym (add-one n))
 
 -- ---- the last of a desk's seats

@@ -18,9 +18,9 @@ use Rattle.node.specs.declared.work.Job.TheVariants as jobs
 use Rattle.node.specs.Tasks.{Task, keeping, releasing, task_for, tasks_of, Does}
 use Rattle.node.specs.Entering.{Made, nothing, left_out, entered}
 use Rattle.node.specs.Work.{IsWork}
-use Rattle.running.specs.declared.houses.Office.{Office}
-use Rattle.running.specs.declared.staff.Served.TheVariants.{Worked, Watched}
-use Rattle.running.specs.Crews.{IsUnused, payment_bytes, IsKeepOrRelease, KeepsAndReleases, HasServed}
+use Rattle.running.specs.declared.shared.SideState.{SideState}
+use Rattle.running.specs.declared.side_threads.Served.TheVariants.{Worked, Watched}
+use Rattle.running.specs.Threads.{IsUnused, payment_bytes, IsKeepOrRelease, KeepsAndReleases, HasServed}
 
 -- ---- what is done for a job is a keep or a release
 
@@ -75,9 +75,9 @@ made_work payments seat _ _ paid (entered task tasks entry entries mine does mad
 pub idle_worked : (keys : List (List ℕ)) (s : Seat) → calls_in s ≡ [] → KeepsAndReleases keys s
 idle_worked keys s none = subst (All (λ e. IsKeepOrRelease keys e.call)) (sym none) (All-nil (λ (e : Entry). IsKeepOrRelease keys e.call))
 
-pub worked : (office : Office) (before after : Hands) (done : Done) → IsUnused before.seat → IsSeatOf office.desk after.seat → IsWork office.payments.items before after done → HasServed office (Worked done after)
-worked office before after done unused seat work =
-    let payments = office.payments.items in
+pub worked : (side : SideState) (before after : Hands) (done : Done) → IsUnused before.seat → IsSeatOf side.desk after.seat → IsWork side.payments.items before after done → HasServed side (Worked done after)
+worked side before after done unused seat work =
+    let payments = side.payments.items in
     let adds = work.calls in
     let all : calls_in after.seat ≡ adds.entries = adds.after_is ∙ ap (λ (l : List Entry). l ++ adds.entries) unused.calls in
     record {
@@ -86,8 +86,8 @@ worked office before after done unused seat work =
           (made_work payments (number_in before.seat) (flat_map (tasks_of payments) work.finished) adds.entries (all_paid payments work.finished) adds.made);
     }
 
-pub watched : (office : Office) (before after : Seat) → IsUnused before → HasSameCalls office.desk before after → HasServed office (Watched after)
-watched office before after unused same = record {
+pub watched : (side : SideState) (before after : Seat) → IsUnused before → HasSameCalls side.desk before after → HasServed side (Watched after)
+watched side before after unused same = record {
   seat = record { seat_of = same.seat_of; heard = same.heard ∙ unused.heard };
-  work = idle_worked (payment_bytes office.payments.items) after (same.calls ∙ unused.calls);
+  work = idle_worked (payment_bytes side.payments.items) after (same.calls ∙ unused.calls);
 }

@@ -19,14 +19,14 @@ use Rattle.desk.specs.Seats.{number_in, calls_in}
 use Rattle.side.specs.Acts.{call_of}
 use Rattle.running.specs.declared.acts.Act.{Act}
 use Rattle.running.specs.declared.acts.Act.TheVariants.{Update, Sign, Deliver, Close}
-use Rattle.running.specs.declared.ends.End.{End}
-use Rattle.running.specs.declared.lines.Line.{Line}
-use Rattle.running.specs.declared.lines.PlayedLine.{PlayedLine}
-use Rattle.running.specs.declared.lines.Turn.{Turn}
+use Rattle.running.specs.declared.endpoints.Endpoint.{Endpoint}
+use Rattle.running.specs.declared.channel_thread.ChannelThread.{ChannelThread}
+use Rattle.running.specs.declared.channel_thread.PlayedChannel.{PlayedChannel}
+use Rattle.running.specs.declared.channel_thread.Turn.{Turn}
 use Rattle.running.specs.declared.counts.Counts.{Counts}
 use Rattle.running.specs.Events.{turn_in}
 use Rattle.running.specs.Acting.{IsOwnReply, IsMade, IsDelivered, IsActed, IsTurnOf, Plays}
-use Rattle.running.specs.Playing.{PlaysAll, IsPlayed, ArePlayed, IsFirstLine}
+use Rattle.running.specs.Playing.{PlaysAll, IsPlayed, ArePlayed, IsFirstChannelThread}
 use Rattle.running.specs.Reports.{IsTurns, AreTurns, MakesTurns}
 
 more_turns : (b : Bool) (h : History) (n : ℕ) (call : Call) → IsTurns call → AreTurns h → AreTurns (extended b h n call)
@@ -40,44 +40,44 @@ message_turns : (channel : ℕ) (message : Message) → IsTurns (call_of channel
 message_turns channel (StepMessage step) = tt
 message_turns channel (RevokeAndAck revocation) = tt
 
-made_turns : (call : Call) (e f : End) (inbox newer : List Message) (done : Bool) → IsTurns call → IsMade call e f inbox newer done → AreTurns (calls_in e.seat) → AreTurns (calls_in f.seat)
+made_turns : (call : Call) (e f : Endpoint) (inbox newer : List Message) (done : Bool) → IsTurns call → IsMade call e f inbox newer done → AreTurns (calls_in e.seat) → AreTurns (calls_in f.seat)
 made_turns call e f inbox newer done turns is all = own_turns call e.seat f.seat is.sent.reply turns is.sent.answered all
 
-delivered_turns : (channel : ℕ) (m : Option Message) (e f : End) (inbox newer : List Message) (done : Bool) → IsDelivered channel m e f inbox newer done → AreTurns (calls_in e.seat) → AreTurns (calls_in f.seat)
-delivered_turns channel None e f inbox newer done is all = subst (λ (x : End). AreTurns (calls_in x.seat)) (sym is.same) all
+delivered_turns : (channel : ℕ) (m : Option Message) (e f : Endpoint) (inbox newer : List Message) (done : Bool) → IsDelivered channel m e f inbox newer done → AreTurns (calls_in e.seat) → AreTurns (calls_in f.seat)
+delivered_turns channel None e f inbox newer done is all = subst (λ (x : Endpoint). AreTurns (calls_in x.seat)) (sym is.same) all
 delivered_turns channel (Some message) e f inbox newer done is all = own_turns (call_of channel message) e.seat f.seat is.reply (message_turns channel message) is.answered all
 
-acted_turns : (channel : ℕ) (act : Act) (e f : End) (inbox newer : List Message) (done : Bool) → IsActed channel act e f inbox newer done → AreTurns (calls_in e.seat) → AreTurns (calls_in f.seat)
+acted_turns : (channel : ℕ) (act : Act) (e f : Endpoint) (inbox newer : List Message) (done : Bool) → IsActed channel act e f inbox newer done → AreTurns (calls_in e.seat) → AreTurns (calls_in f.seat)
 acted_turns channel (Update u) e f inbox newer done is all = made_turns (Stepping channel (Own u)) e f inbox newer done tt is all
 acted_turns channel Sign e f inbox newer done is all = made_turns (Signing channel) e f inbox newer done tt is all
 acted_turns channel Deliver e f inbox newer done is all = delivered_turns channel (slice_get e.inbox.items 0) e f inbox newer done is all
 acted_turns channel Close e f inbox newer done is all = made_turns (Closing channel) e f inbox newer done tt is all
 
-abbrev LineTurns : Line → Type 0
-LineTurns l = AreTurns (calls_in l.a.seat) × AreTurns (calls_in l.b.seat)
+abbrev ThreadTurns : ChannelThread → Type 0
+ThreadTurns l = AreTurns (calls_in l.a.seat) × AreTurns (calls_in l.b.seat)
 
-turn_turns : (side : Side) (act : Act) (l m : Line) (done : Bool) → IsTurnOf side act l m done → LineTurns l → LineTurns m
+turn_turns : (side : Side) (act : Act) (l m : ChannelThread) (done : Bool) → IsTurnOf side act l m done → ThreadTurns l → ThreadTurns m
 turn_turns sides.A act l m done is all = (acted_turns l.channel act l.a m.a l.b.inbox.items m.b.inbox.items done is.acted all.0, subst (λ (s : Seat). AreTurns (calls_in s)) (sym is.seat) all.1)
 turn_turns sides.B act l m done is all = (subst (λ (s : Seat). AreTurns (calls_in s)) (sym is.seat) all.0, acted_turns l.channel act l.b m.b l.a.inbox.items m.a.inbox.items done is.acted all.1)
 
-plays_turns : (t : Option Turn) (l m : Line) (k : Counts) → Plays t l m k → LineTurns l → LineTurns m
-plays_turns None l m k is all = subst LineTurns (sym is.0) all
+plays_turns : (t : Option Turn) (l m : ChannelThread) (k : Counts) → Plays t l m k → ThreadTurns l → ThreadTurns m
+plays_turns None l m k is all = subst ThreadTurns (sym is.0) all
 plays_turns (Some turn) l m k (done, turned, is) all = turn_turns turn.side turn.act l m done turned all
 
-all_turns_made : (es : List Event) (l m : Line) (k : Counts) → PlaysAll es l m k → LineTurns l → LineTurns m
-all_turns_made es l m k (PlaysAll.none_left line) all = all
+all_turns_made : (es : List Event) (l m : ChannelThread) (k : Counts) → PlaysAll es l m k → ThreadTurns l → ThreadTurns m
+all_turns_made es l m k (PlaysAll.none_left channel_thread) all = all
 all_turns_made es l m k (PlaysAll.played e rest first between last counts more same one others) all =
     all_turns_made rest between last more others (plays_turns (turn_in first.channel e) first between counts one all)
 
 none_made : (s : Seat) → calls_in s ≡ [] → AreTurns (calls_in s)
 none_made s none = subst AreTurns (sym none) (All-nil (λ (e : Entry). IsTurns e.call))
 
-line_makes : (a b : History) (events : List Event) (l : Line) (p : PlayedLine) → IsFirstLine a b l → IsPlayed events l p → MakesTurns p
-line_makes a b events l p first is =
+thread_makes : (a b : History) (events : List Event) (l : ChannelThread) (p : PlayedChannel) → IsFirstChannelThread a b l → IsPlayed events l p → MakesTurns p
+thread_makes a b events l p first is =
     let all = all_turns_made events l is.after p.counts is.all (none_made l.a.seat first.a_first.calls, none_made l.b.seat first.b_first.calls) in
     (subst (λ (s : Seat). AreTurns (calls_in s)) (sym is.a) all.0, subst (λ (s : Seat). AreTurns (calls_in s)) (sym is.b) all.1)
 
-pub each_makes : (a b : History) (events : List Event) (lines : List Line) (played : List PlayedLine) → All (IsFirstLine a b) lines → ArePlayed events lines played → All MakesTurns played
-each_makes a b events lines played first ArePlayed.no_more = All-nil MakesTurns
-each_makes a b events lines played first (ArePlayed.one_more l ls p ps is others) =
-    All-cons MakesTurns p ps (line_makes a b events l p (All-head (IsFirstLine a b) l ls first) is) (each_makes a b events ls ps (All-tail (IsFirstLine a b) l ls first) others)
+pub each_makes : (a b : History) (events : List Event) (channel_threads : List ChannelThread) (played : List PlayedChannel) → All (IsFirstChannelThread a b) channel_threads → ArePlayed events channel_threads played → All MakesTurns played
+each_makes a b events channel_threads played first ArePlayed.no_more = All-nil MakesTurns
+each_makes a b events channel_threads played first (ArePlayed.one_more l ls p ps is others) =
+    All-cons MakesTurns p ps (thread_makes a b events l p (All-head (IsFirstChannelThread a b) l ls first) is) (each_makes a b events ls ps (All-tail (IsFirstChannelThread a b) l ls first) others)

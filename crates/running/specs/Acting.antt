@@ -22,9 +22,9 @@ use Rattle.side.specs.declared.due.DueClaim.{DueClaim}
 use Rattle.side.specs.Acts.{call_of, messages_in}
 use Rattle.running.specs.declared.acts.Act.{Act}
 use Rattle.running.specs.declared.acts.Act.TheVariants.{Update, Sign, Deliver, Close}
-use Rattle.running.specs.declared.ends.End.{End}
-use Rattle.running.specs.declared.lines.Line.{Line}
-use Rattle.running.specs.declared.lines.Turn.{Turn}
+use Rattle.running.specs.declared.endpoints.Endpoint.{Endpoint}
+use Rattle.running.specs.declared.channel_thread.ChannelThread.{ChannelThread}
+use Rattle.running.specs.declared.channel_thread.Turn.{Turn}
 use Rattle.running.specs.declared.counts.Counts.{Counts}
 
 -- ---- jobs
@@ -91,7 +91,7 @@ pub record IsSent (call : Call) (before after : Seat) (inbox newer : List Messag
   pub sent : newer ≡ inbox ++ messages_in reply
 
 -- the same of the call that takes the oldest message, which leaves the inbox if it was accepted; if that revoked a commitment of the peer, its job is put
-pub record IsTaken (channel : ℕ) (call : Call) (before after : End) (inbox newer : List Message) (done : Bool) : Type 0 where
+pub record IsReceived (channel : ℕ) (call : Call) (before after : Endpoint) (inbox newer : List Message) (done : Bool) : Type 0 where
   pub reply : Reply
   pub answered : IsOwnReply call before.seat after.seat reply
   pub done_is : done ≡ is_accepted reply
@@ -100,24 +100,24 @@ pub record IsTaken (channel : ℕ) (call : Call) (before after : End) (inbox new
   pub jobs : PutsIf (job_for channel reply) (hand_of before.pass) (hand_of after.pass)
 
 -- nothing was done
-pub record IsIdle (before after : End) (inbox newer : List Message) (done : Bool) : Type 0 where
+pub record IsIdle (before after : Endpoint) (inbox newer : List Message) (done : Bool) : Type 0 where
   pub same : after ≡ before
   pub sent : newer ≡ inbox
   pub done_is : done ≡ false
 
 -- a call that takes no message
-pub record IsMade (call : Call) (before after : End) (inbox newer : List Message) (done : Bool) : Type 0 where
+pub record IsMade (call : Call) (before after : Endpoint) (inbox newer : List Message) (done : Bool) : Type 0 where
   pub sent : IsSent call before.seat after.seat inbox newer done
   pub left : after.inbox ≡ before.inbox
   pub jobs : hand_of after.pass ≡ hand_of before.pass
 
 -- the oldest message was taken, if there is one
-abbrev pub IsDelivered : ℕ → Option Message → End → End → List Message → List Message → Bool → Type 0
+abbrev pub IsDelivered : ℕ → Option Message → Endpoint → Endpoint → List Message → List Message → Bool → Type 0
 IsDelivered channel None before after inbox newer done = IsIdle before after inbox newer done
-IsDelivered channel (Some message) before after inbox newer done = IsTaken channel (call_of channel message) before after inbox newer done
+IsDelivered channel (Some message) before after inbox newer done = IsReceived channel (call_of channel message) before after inbox newer done
 
 -- What a side does in a channel. `done` says whether its call was accepted.
-abbrev pub IsActed : ℕ → Act → End → End → List Message → List Message → Bool → Type 0
+abbrev pub IsActed : ℕ → Act → Endpoint → Endpoint → List Message → List Message → Bool → Type 0
 IsActed channel (Update update) before after inbox newer done = IsMade (Stepping channel (Own update)) before after inbox newer done
 IsActed channel Sign before after inbox newer done = IsMade (Signing channel) before after inbox newer done
 IsActed channel Deliver before after inbox newer done = IsDelivered channel (slice_get before.inbox.items 0) before after inbox newer done
@@ -126,16 +126,16 @@ IsActed channel Close before after inbox newer done = IsMade (Closing channel) b
 -- ---- the events of a channel
 
 -- one side does what its turn asks for, and of the other side nothing but its inbox changes
-pub record HasTurned (channel : ℕ) (act : Act) (me after_me peer after_peer : End) (done : Bool) : Type 0 where
+pub record HasTurned (channel : ℕ) (act : Act) (me after_me peer after_peer : Endpoint) (done : Bool) : Type 0 where
   pub acted : IsActed channel act me after_me peer.inbox.items after_peer.inbox.items done
   pub seat : after_peer.seat ≡ peer.seat
   pub jobs : hand_of after_peer.pass ≡ hand_of peer.pass
 
-abbrev pub IsTurnOf : Side → Act → Line → Line → Bool → Type 0
+abbrev pub IsTurnOf : Side → Act → ChannelThread → ChannelThread → Bool → Type 0
 IsTurnOf sides.A act before after done = HasTurned before.channel act before.a after.a before.b after.b done
 IsTurnOf sides.B act before after done = HasTurned before.channel act before.b after.b before.a after.a done
 
-abbrev pub IsTurn : Turn → Line → Line → Bool → Type 0
+abbrev pub IsTurn : Turn → ChannelThread → ChannelThread → Bool → Type 0
 IsTurn turn before after done = IsTurnOf turn.side turn.act before after done
 
 -- nothing was counted
@@ -143,6 +143,6 @@ abbrev pub no_counts : Counts
 no_counts = record { played = 0; refused = 0 }
 
 -- an event's turn was played, or refused; nothing was done if it is none of the channel's
-abbrev pub Plays : Option Turn → Line → Line → Counts → Type 0
+abbrev pub Plays : Option Turn → ChannelThread → ChannelThread → Counts → Type 0
 Plays None before after counts = (after ≡ before) × (counts ≡ no_counts)
 Plays (Some turn) before after counts = (done : Bool) × IsTurn turn before after done × (counts ≡ (if done then record { played = 1; refused = 0 } else record { played = 0; refused = 1 }))

@@ -8,7 +8,7 @@ use Rattle.world.specs.declared.taken_apart.BooksAndChain.{BooksAndChain}
 use Rattle.world.specs.Worlds.{World}
 use Rattle.world.specs.Beginning.{IsBeginning}
 use Rattle.running.specs.declared.beginning.Opened.{Opened}
-use Rattle.running.specs.Crews.{IsStock, ClosesAfter}
+use Rattle.running.specs.Threads.{AreResources, ClosesAfter}
 
 -- the books and the chain of the scenario's world before its first event; no call in it is of a seat above 0
 pub record IsBegun (scenario : Scenario) (begun : BooksAndChain) : Type 0 where
@@ -22,7 +22,7 @@ pub record IsBegun (scenario : Scenario) (begun : BooksAndChain) : Type 0 where
 
 -- a side's desk over a book with this history, with its last seat, which closes it, and as many others as to make this number
 pub record IsOpened (history : List Entry) (seats : ℕ) (o : Opened) : Type 0 where
-  pub made_with : opening_in o.closer ≡ history
-  pub closer : ClosesAfter o.office (length o.stock.seats.items) o.closer
-  pub stock : IsStock o.office o.closer o.stock
-  pub many : length o.stock.seats.items + 1 ≡ seats
+  pub made_with : opening_in o.closing_seat ≡ history
+  pub closing_seat : ClosesAfter o.side (length o.resources.seats.items) o.closing_seat
+  pub resources : AreResources o.side o.closing_seat o.resources
+  pub many : length o.resources.seats.items + 1 ≡ seats

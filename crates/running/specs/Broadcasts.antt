@@ -10,9 +10,9 @@ use Rattle.book.specs.Knowing.{IsKnownIn}
 use Rattle.desk.specs.Histories.{History}
 use Rattle.world.specs.declared.errors.EventError.{EventError}
 use Rattle.world.specs.declared.errors.EventError.TheVariants.{NoSuchChannel, NoSuchTx}
-use Rattle.running.specs.declared.players.Broadcast.{Broadcast}
-use Rattle.running.specs.declared.players.Choice.{Choice}
-use Rattle.running.specs.declared.players.Choice.TheVariants.{Commitment, Newest, HtlcTx}
+use Rattle.running.specs.declared.chain_thread.Broadcast.{Broadcast}
+use Rattle.running.specs.declared.chain_thread.Choice.{Choice}
+use Rattle.running.specs.declared.chain_thread.Choice.TheVariants.{Commitment, Newest, HtlcTx}
 
 -- what an event broadcasts, if it does: the commitment or the HTLC transaction that it names, and a close the side's newest commitment
 abbrev pub broadcast_in : Event → Option Broadcast

@@ -4,7 +4,7 @@ use Rattle.std.specs.List.{range_with_len}
 use Rattle.scenario.specs.declared.events.Event.{Event}
 use Rattle.scenario.specs.declared.events.Event.TheVariants as events
 use Rattle.running.specs.declared.acts.Act.TheVariants.{Update, Sign, Deliver, Close}
-use Rattle.running.specs.declared.lines.Turn.{Turn}
+use Rattle.running.specs.declared.channel_thread.Turn.{Turn}
 
 -- What an event asks of the thread of a channel: updates, signatures, deliveries and closes. A close is an event of the chain too, on which the side's newest commitment is broadcast.
 abbrev pub turn_of : Event → Option Turn

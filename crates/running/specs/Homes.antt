@@ -9,36 +9,36 @@ use Rattle.desk.specs.Histories.{History, GoesOn, calls_of, first_seat}
 use Rattle.desk.specs.Rule.{heard_of, IsHeard, HasHeardAll}
 use Rattle.desk.specs.Seats.{IsSeatOf, number_in, calls_in, last_in, opening_in, heard_in, is_last_in}
 use Rattle.scenario.specs.declared.events.Event.{Event}
-use Rattle.running.specs.declared.houses.Office.{Office}
-use Rattle.running.specs.declared.houses.House.{House}
-use Rattle.running.specs.declared.lines.Line.{Line}
-use Rattle.running.specs.declared.lines.PlayedLine.{PlayedLine}
-use Rattle.running.specs.declared.players.Player.{Player}
-use Rattle.running.specs.declared.staff.Served.{Served}
-use Rattle.running.specs.declared.homes.PlayedEvents.{PlayedEvents}
-use Rattle.running.specs.declared.homes.Returned.{Returned}
-use Rattle.running.specs.declared.crews.Crew.{Crew}
-use Rattle.running.specs.Crews.{IsLone, HasServed, seat_in}
+use Rattle.running.specs.declared.shared.SideState.{SideState}
+use Rattle.running.specs.declared.shared.SharedState.{SharedState}
+use Rattle.running.specs.declared.channel_thread.ChannelThread.{ChannelThread}
+use Rattle.running.specs.declared.channel_thread.PlayedChannel.{PlayedChannel}
+use Rattle.running.specs.declared.chain_thread.ChainThread.{ChainThread}
+use Rattle.running.specs.declared.side_threads.Served.{Served}
+use Rattle.running.specs.declared.returned.PlayedEvents.{PlayedEvents}
+use Rattle.running.specs.declared.returned.Returned.{Returned}
+use Rattle.running.specs.declared.all_threads.AllThreads.{AllThreads}
+use Rattle.running.specs.Threads.{IsLone, HasServed, seat_in}
 use Rattle.running.specs.Playing.{ArePlayed}
 use Rattle.running.specs.Outcomes.{PlaysChain}
 
 -- ---- the seats of a side
 
 -- the seats that channels' threads give back, at A's desk
-abbrev pub ends_a : List PlayedLine → List Seat
-ends_a lines = map (λ p. p.a) lines
+abbrev pub channel_seats_a : List PlayedChannel → List Seat
+channel_seats_a channels = map (λ p. p.a) channels
 
 -- and at B's
-abbrev pub ends_b : List PlayedLine → List Seat
-ends_b lines = map (λ p. p.b) lines
+abbrev pub channel_seats_b : List PlayedChannel → List Seat
+channel_seats_b channels = map (λ p. p.b) channels
 
 -- the seats at A's desk that all threads give back
 abbrev pub seats_a : Returned → List Seat
-seats_a r = ends_a r.played.lines.items ++ (map seat_in r.staff_a.items ++ r.played.player.a ∷ [])
+seats_a r = channel_seats_a r.played.channels.items ++ (map seat_in r.side_threads_a.items ++ r.played.chain_thread.a ∷ [])
 
 -- and at B's
 abbrev pub seats_b : Returned → List Seat
-seats_b r = ends_b r.played.lines.items ++ (map seat_in r.staff_b.items ++ r.played.player.b ∷ [])
+seats_b r = channel_seats_b r.played.channels.items ++ (map seat_in r.side_threads_b.items ++ r.played.chain_thread.b ∷ [])
 
 -- ---- how they come home
 
@@ -69,10 +69,10 @@ abbrev pub IsNoSeats : ℕ → List Seat → Type 0
 IsNoSeats n seats = All (λ s. number_in s ≢ n) seats
 
 -- what the seat that closes a desk knows of the book
-pub record IsClosedBy (closer : Seat) (book : History) : Type 0 where
-  pub calls : calls_of (number_in closer) book ≡ calls_in closer
-  pub heard : AllByRecursion (IsHeard (opening_in closer) book) (heard_in closer)
-  pub whole : is_last_in closer ≡ true → first_seat (opening_in closer) + length (heard_in closer) ≡ number_in closer → HasHeardAll (number_in closer) (heard_in closer) (opening_in closer) book
+pub record IsClosedBy (closing_seat : Seat) (book : History) : Type 0 where
+  pub calls : calls_of (number_in closing_seat) book ≡ calls_in closing_seat
+  pub heard : AllByRecursion (IsHeard (opening_in closing_seat) book) (heard_in closing_seat)
+  pub whole : is_last_in closing_seat ≡ true → first_seat (opening_in closing_seat) + length (heard_in closing_seat) ≡ number_in closing_seat → HasHeardAll (number_in closing_seat) (heard_in closing_seat) (opening_in closing_seat) book
 
 -- a book has the entries that it was opened with, and those of these seats, which are all home
 pub record AreHome (opening book : History) (seats : List Seat) : Type 0 where
@@ -87,29 +87,29 @@ pub record IsIdleSeat (desk : Desk) (seat : Seat) : Type 0 where
   pub calls : calls_in seat ≡ []
 
 -- the seats of the thread that played the events of the chain, which made no call
-pub record IsHandedBack (house : House) (p : Player) : Type 0 where
-  pub a : IsIdleSeat house.a.desk p.a
-  pub b : IsIdleSeat house.b.desk p.b
+pub record IsHandedBack (shared : SharedState) (p : ChainThread) : Type 0 where
+  pub a : IsIdleSeat shared.a.desk p.a
+  pub b : IsIdleSeat shared.b.desk p.b
 
 -- the two seats of a channel's thread
-pub record IsLonePair (house : House) (p : PlayedLine) : Type 0 where
-  pub a : IsLone house.a.desk p.a
-  pub b : IsLone house.b.desk p.b
+pub record IsLonePair (shared : SharedState) (p : PlayedChannel) : Type 0 where
+  pub a : IsLone shared.a.desk p.a
+  pub b : IsLone shared.b.desk p.b
 
--- what the threads that play events give back, which had these lines and this player: the channels' threads, and the one that played the events of the chain
-pub record HavePlayed (house : House) (events : List Event) (lines : List Line) (first : Player) (p : PlayedEvents) : Type 0 where
-  pub each : ArePlayed events lines p.lines.items
-  pub seats : All (IsLonePair house) p.lines.items
-  pub player : IsHandedBack house p.player
-  pub chain : PlaysChain events (last_in first.a) (last_in first.b) p.outcomes.items (last_in p.player.a) (last_in p.player.b)
+-- what the threads that play events give back: the channels' threads, which were these, and the thread of the chain, which was this one
+pub record HavePlayed (shared : SharedState) (events : List Event) (channel_threads : List ChannelThread) (first : ChainThread) (p : PlayedEvents) : Type 0 where
+  pub each : ArePlayed events channel_threads p.channels.items
+  pub seats : All (IsLonePair shared) p.channels.items
+  pub chain_thread : IsHandedBack shared p.chain_thread
+  pub chain : PlaysChain events (last_in first.a) (last_in first.b) p.outcomes.items (last_in p.chain_thread.a) (last_in p.chain_thread.b)
 
 -- what a side's workers and its watcher give back, which are as many
-pub record HaveServed (office : Office) (count : ℕ) (staff : List Served) : Type 0 where
-  pub each : All (HasServed office) staff
-  pub many : length staff ≡ count
+pub record HaveServed (side : SideState) (count : ℕ) (side_threads : List Served) : Type 0 where
+  pub each : All (HasServed side) side_threads
+  pub many : length side_threads ≡ count
 
--- what all threads of a crew give back
-pub record HasReturned (house : House) (events : List Event) (c : Crew) (r : Returned) : Type 0 where
-  pub played : HavePlayed house events c.lines.items c.player r.played
-  pub staff_a : HaveServed house.a (length c.staff_a.items) r.staff_a.items
-  pub staff_b : HaveServed house.b (length c.staff_b.items) r.staff_b.items
+-- what all of these threads give back
+pub record HasReturned (shared : SharedState) (events : List Event) (c : AllThreads) (r : Returned) : Type 0 where
+  pub played : HavePlayed shared events c.channel_threads.items c.chain_thread r.played
+  pub side_threads_a : HaveServed shared.a (length c.side_threads_a.items) r.side_threads_a.items
+  pub side_threads_b : HaveServed shared.b (length c.side_threads_b.items) r.side_threads_b.items

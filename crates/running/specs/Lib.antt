@@ -1,6 +1,6 @@
 pub mod Events
 pub mod Following
-pub mod Crews
+pub mod Threads
 pub mod Acting
 pub mod Playing
 pub mod Homes

@@ -13,9 +13,9 @@ use Rattle.desk.specs.Seats.{last_in}
 use Rattle.world.specs.declared.errors.EventError.{EventError}
 use Rattle.world.specs.Publishing.{refusal_by}
 use Rattle.world.specs.Refusing.{by_reorg}
-use Rattle.running.specs.declared.players.Broadcast.{Broadcast}
-use Rattle.running.specs.declared.players.Reorg.{Reorg}
-use Rattle.running.specs.declared.players.Player.{Player}
+use Rattle.running.specs.declared.chain_thread.Broadcast.{Broadcast}
+use Rattle.running.specs.declared.chain_thread.Reorg.{Reorg}
+use Rattle.running.specs.declared.chain_thread.ChainThread.{ChainThread}
 use Rattle.running.specs.Broadcasts.{broadcast_in, IsBroadcast}
 
 -- which blocks an event replaces, if it does
@@ -64,7 +64,7 @@ pub data PlaysChain : List Event → History → History → List (Option EventE
       → IsOutcome e between_a between_b outcome → PlaysChain es between_a between_b outcomes after_a after_b → PlaysChain (e ∷ es) a b (outcome ∷ outcomes) after_a after_b
 
 -- the thread that plays them has last seen these histories
-pub record HasSeen (a b : History) (p : Player) : Type 0 where
+pub record HasSeen (a b : History) (p : ChainThread) : Type 0 where
   pub a_last : last_in p.a ≡ a
   pub b_last : last_in p.b ≡ b
 

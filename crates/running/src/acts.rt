@@ -8,11 +8,11 @@ ghost use Rattle.desk.specs.Seats.{IsSeatOf, IsSameSeat};
 ghost use Rattle.jobs.specs.Ends.{PutsWith, hand_of};
 ghost use Rattle.node.specs.declared.work.Job.TheVariants.{Keep};
 ghost use Rattle.side.specs.Acts.{call_of, messages_in};
-ghost use Rattle.running.specs.Crews.{IsEnd};
-ghost use Rattle.running.specs.Acting.{IsReply, IsSent, IsTaken, IsDelivered, IsActed, PutsIf, revoked_in, ran_out};
+ghost use Rattle.running.specs.Threads.{IsEndpoint};
+ghost use Rattle.running.specs.Acting.{IsReply, IsSent, IsReceived, IsDelivered, IsActed, PutsIf, revoked_in, ran_out};
 
-use crate::ends::{End, put};
-use crate::houses::Office;
+use crate::endpoints::{Endpoint, put};
+use crate::shared::SideState;
 use book::errors::SignError;
 use book::{Call, Reply, Step};
 use channel::Message;
@@ -58,7 +58,7 @@ fn wants_memory(refused: &Reply) -> bool
 
 // Sends the message of an accepted reply. Returns whether the reply is accepted; the only error is that memory ran out, as the reply may say itself.
 #[tactic(auto, using(crate::proofs::Replying::silent, crate::proofs::Replying::in_memory))]
-fn settle(reply: Reply, inbox: &mut VecDeque<Message>) -> Result<bool, AllocError>
+fn send_message(reply: Reply, inbox: &mut VecDeque<Message>) -> Result<bool, AllocError>
     ensures done { IfOk result (λ done. done ≡ is_accepted (reply_form reply)) }
     ensures sent { OnOk result (inbox.new.items
         ≡ inbox.old.items ++ messages_in (reply_form reply)) }
@@ -107,33 +107,33 @@ fn revoked_by(reply: &Reply) -> Option<u64>
 #[tactic(auto, using(crate::proofs::Replying::is_sent))]
 fn send<R: Wait>(
     rt: &R,
-    office: &Office,
+    side: &SideState,
     seat: &mut Seat,
     inbox: &mut VecDeque<Message>,
     call: Call,
 ) -> Result<bool, AllocError>
-    requires { IsSeatOf office.now.desk seat.old }
-    ensures seat { IsSameSeat office.now.desk seat.old seat.new }
+    requires { IsSeatOf side.now.desk seat.old }
+    ensures seat { IsSameSeat side.now.desk seat.old seat.new }
     ensures sent { IfOk result (IsSent call seat.old seat.new inbox.old.items inbox.new.items) }
 {
-    let reply = office.desk.call(rt, seat, call);
-    settle(reply, inbox)
+    let reply = side.desk.call(rt, seat, call);
+    send_message(reply, inbox)
 }
 
 // Asks for a signature. If penalties are missing, it waits for the next job, as long as one is left that may keep them, and asks again.
 #[tactic(auto, using(crate::proofs::Replying::replied_since, crate::proofs::Replying::refused, crate::proofs::Same::same_calls))]
-fn signed<R: Wait>(rt: &R, office: &Office, seat: &mut Seat, channel: u64) -> Reply
-    requires { IsSeatOf office.now.desk seat.old }
-    ensures seat { IsSameSeat office.now.desk seat.old seat.new }
+fn ask_signature<R: Wait>(rt: &R, side: &SideState, seat: &mut Seat, channel: u64) -> Reply
+    requires { IsSeatOf side.now.desk seat.old }
+    ensures seat { IsSameSeat side.now.desk seat.old seat.new }
     ensures reply { IsReply (Signing channel) seat.old seat.new (reply_form result) }
 {
-    let mut done = office.progress.done(rt);
+    let mut done = side.progress.count_done(rt);
     for _ in rt.forever() {
-        let reply = office.desk.call(rt, seat, Call::Sign { channel });
+        let reply = side.desk.call(rt, seat, Call::Sign { channel });
         if !misses_penalties(&reply) {
             return reply;
         }
-        match office.progress.more_than(rt, done) {
+        match side.progress.wait_for_more(rt, done) {
             Some(more) => {
                 drop(reply);
                 done = more;
@@ -148,24 +148,24 @@ fn signed<R: Wait>(rt: &R, office: &Office, seat: &mut Seat, channel: u64) -> Re
 #[tactic(auto, using(crate::proofs::Replying::is_sent))]
 fn sign<R: Wait>(
     rt: &R,
-    office: &Office,
+    side: &SideState,
     seat: &mut Seat,
     inbox: &mut VecDeque<Message>,
     channel: u64,
 ) -> Result<bool, AllocError>
-    requires { IsSeatOf office.now.desk seat.old }
-    ensures seat { IsSameSeat office.now.desk seat.old seat.new }
+    requires { IsSeatOf side.now.desk seat.old }
+    ensures seat { IsSameSeat side.now.desk seat.old seat.new }
     ensures sent { IfOk result (IsSent (Signing channel) seat.old seat.new inbox.old.items
         inbox.new.items) }
 {
-    let reply = signed(rt, office, seat, channel);
-    settle(reply, inbox)
+    let reply = ask_signature(rt, side, seat, channel);
+    send_message(reply, inbox)
 }
 
 // Puts the job to keep the penalties of the peer's commitment that was revoked, if there is one.
 fn put_keep<R: Wait>(
     rt: &R,
-    office: &Office,
+    side: &SideState,
     sender: &JobSender<Job>,
     pass: &mut Pass<Job>,
     channel: u64,
@@ -178,31 +178,31 @@ fn put_keep<R: Wait>(
 {
     if let Some(number) = revoked {
         let job = Job::Keep { channel, number };
-        put(rt, &office.progress, sender, pass, job);
+        put(rt, &side.progress, sender, pass, job);
     }
 }
 
 // Makes the call of the oldest message. Its answer goes to the peer. A refusal leaves the message where it is.
 #[tactic(auto, using(crate::proofs::Replying::unrevoked, crate::proofs::Replying::own_reply))]
-fn take<R: Wait>(
+fn receive<R: Wait>(
     rt: &R,
-    office: &Office,
-    me: &mut End,
+    side: &SideState,
+    me: &mut Endpoint,
     inbox: &mut VecDeque<Message>,
     channel: u64,
     call: Call,
 ) -> Result<bool, AllocError>
-    requires { IsEnd office.now me.old }
-    ensures end { IsEnd office.now me.new }
-    ensures taken { IfOk result
-        (IsTaken channel call me.old me.new inbox.old.items inbox.new.items) }
+    requires { IsEndpoint side.now me.old }
+    ensures endpoint { IsEndpoint side.now me.new }
+    ensures received { IfOk result
+        (IsReceived channel call me.old me.new inbox.old.items inbox.new.items) }
 {
-    let reply = office.desk.call(rt, &mut me.seat, call);
+    let reply = side.desk.call(rt, &mut me.seat, call);
     let revoked = revoked_by(&reply);
-    match settle(reply, inbox) {
+    match send_message(reply, inbox) {
         Ok(true) => {
             drop(me.inbox.pop_front());
-            put_keep(rt, office, &me.sender, &mut me.pass, channel, revoked);
+            put_keep(rt, side, &me.sender, &mut me.pass, channel, revoked);
             Ok(true)
         }
         Ok(false) => Ok(false),
@@ -213,19 +213,19 @@ fn take<R: Wait>(
 // Receives the oldest message, if there is one.
 fn deliver<R: Wait>(
     rt: &R,
-    office: &Office,
-    me: &mut End,
+    side: &SideState,
+    me: &mut Endpoint,
     inbox: &mut VecDeque<Message>,
     channel: u64,
 ) -> Result<bool, AllocError>
-    requires { IsEnd office.now me.old }
-    ensures end { IsEnd office.now me.new }
+    requires { IsEndpoint side.now me.old }
+    ensures endpoint { IsEndpoint side.now me.new }
     ensures delivered { IfOk result (IsDelivered channel (slice_get me.old.inbox.items 0) me.old
         me.new inbox.old.items inbox.new.items) }
 {
     match me.inbox.front() {
         Some(message) => match call_of(channel, message) {
-            Ok(call) => take(rt, office, me, inbox, channel, call),
+            Ok(call) => receive(rt, side, me, inbox, channel, call),
             Err(error) => Err(error),
         },
         None => Ok(false),
@@ -236,14 +236,14 @@ fn deliver<R: Wait>(
 /// is that memory ran out.
 pub(crate) fn act_for<R: Wait>(
     rt: &R,
-    office: &Office,
-    me: &mut End,
+    side: &SideState,
+    me: &mut Endpoint,
     inbox: &mut VecDeque<Message>,
     channel: u64,
     act: &Act,
 ) -> Result<bool, AllocError>
-    requires { IsEnd office.now me.old }
-    ensures end { IsEnd office.now me.new }
+    requires { IsEndpoint side.now me.old }
+    ensures endpoint { IsEndpoint side.now me.new }
     ensures acted { IfOk result (IsActed channel act.now me.old me.new inbox.old.items
         inbox.new.items) }
 {
@@ -251,10 +251,10 @@ pub(crate) fn act_for<R: Wait>(
         Act::Update(update) => {
             let step = Step::Own(*update);
             let call = Call::Step { channel, step };
-            send(rt, office, &mut me.seat, inbox, call)
+            send(rt, side, &mut me.seat, inbox, call)
         }
-        Act::Sign => sign(rt, office, &mut me.seat, inbox, channel),
-        Act::Deliver => deliver(rt, office, me, inbox, channel),
-        Act::Close => send(rt, office, &mut me.seat, inbox, Call::Close { channel }),
+        Act::Sign => sign(rt, side, &mut me.seat, inbox, channel),
+        Act::Deliver => deliver(rt, side, me, inbox, channel),
+        Act::Close => send(rt, side, &mut me.seat, inbox, Call::Close { channel }),
     }
 }

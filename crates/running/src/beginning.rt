@@ -5,11 +5,11 @@ ghost use Rattle.book.specs.Books.{replay, fundings_of};
 ghost use Rattle.desk.specs.Histories.{first_seat};
 ghost use Rattle.desk.specs.Seats.{AreSeats, EndsWithLast};
 ghost use Rattle.running.specs.Beginning.{IsBegun, IsOpened};
-ghost use Rattle.running.specs.Crews.{payments_in};
+ghost use Rattle.running.specs.Threads.{payments_in};
 
-use crate::crews::Stock;
-use crate::houses::Office;
+use crate::all_threads::SideResources;
 use crate::progress::Progress;
+use crate::shared::SideState;
 use book::Book;
 use desk::{Desk, DeskError, Seat};
 use forms::SharedPatterns;
@@ -25,10 +25,10 @@ use world::{BooksAndChain, World};
 /// A side that is about to start its threads.
 #[derive(Drop)]
 pub(crate) struct Opened {
-    pub(crate) office: Office,
+    pub(crate) side: SideState,
     /// The desk's last seat, which closes it once all threads have ended.
-    pub(crate) closer: Seat,
-    pub(crate) stock: Stock,
+    pub(crate) closing_seat: Seat,
+    pub(crate) resources: SideResources,
 }
 
 /// The books and the chain of a scenario before its first event. The only error is that memory ran out.
@@ -123,8 +123,8 @@ fn open_with<R: Wait>(
     requires payments { map (λ k. k.bytes) told.payments.items ≡ payments_in (replay book) }
     requires fundings { told.fundings.items ≡ fundings_of (replay book) }
     ensures opened { IfOk result (IsOpened book seats) }
-    ensures fundings { IfOk result (λ o. o.office.fundings.items ≡ told.fundings.items) }
-    ensures payments { IfOk result (λ o. o.office.payments.items ≡ told.payments.items) }
+    ensures fundings { IfOk result (λ o. o.side.fundings.items ≡ told.fundings.items) }
+    ensures payments { IfOk result (λ o. o.side.payments.items ≡ told.payments.items) }
 {
     let Told {
         patterns,
@@ -133,10 +133,10 @@ fn open_with<R: Wait>(
     } = told;
     let (desk, mut seats) = desk_over(rt, alloc, book, seats)?;
     let (sender, taker, pass) = job_queue(alloc)?;
-    let Some(closer) = seats.pop() else {
+    let Some(closing_seat) = seats.pop() else {
         unreachable!()
     };
-    let office = Office {
+    let side = SideState {
         desk,
         patterns,
         fundings,
@@ -144,16 +144,16 @@ fn open_with<R: Wait>(
         learnt: Mutex::new(Vec::new(alloc)),
         progress: Progress::new(workers),
     };
-    let stock = Stock {
+    let resources = SideResources {
         seats,
         sender,
         taker,
         pass,
     };
     Ok(Opened {
-        office,
-        closer,
-        stock,
+        side,
+        closing_seat,
+        resources,
     })
 }
 
@@ -168,8 +168,8 @@ pub(crate) fn open_side<R: Wait>(
     requires some { 0 < seats }
     requires numbers { first_seat book ≤ 1 }
     ensures opened { IfOk result (IsOpened book seats) }
-    ensures fundings { IfOk result (λ o. o.office.fundings.items ≡ fundings_of (replay book)) }
-    ensures payments { IfOk result (λ o. map (λ k. k.bytes) o.office.payments.items
+    ensures fundings { IfOk result (λ o. o.side.fundings.items ≡ fundings_of (replay book)) }
+    ensures payments { IfOk result (λ o. map (λ k. k.bytes) o.side.payments.items
         ≡ payments_in (replay book)) }
 {
     match told_by(alloc, &book) {

@@ -28,18 +28,18 @@
 #![tactic(auto)]
 
 mod acts;
+mod all_threads;
 mod beginning;
+mod chain_thread;
+mod channel_thread;
 mod counts;
-mod crews;
-mod ends;
-mod homes;
-mod houses;
-mod lines;
-mod players;
+mod endpoints;
 mod progress;
+mod returned;
 mod runs;
-mod staff;
-mod stages;
+mod shared;
+mod shared_chain;
+mod side_threads;
 mod watching;
 mod working;
 

@@ -68,12 +68,12 @@ impl Progress {
     }
 
     /// How many jobs are done or dropped.
-    pub(crate) fn done<R: Wait>(&self, rt: &R) -> u64 {
+    pub(crate) fn count_done<R: Wait>(&self, rt: &R) -> u64 {
         self.state.lock(rt).done
     }
 
     /// Waits until more jobs are done than this, and returns how many. `None` if no job is left that a worker may do.
-    pub(crate) fn more_than<R: Wait>(&self, rt: &R, done: u64) -> Option<u64> {
+    pub(crate) fn wait_for_more<R: Wait>(&self, rt: &R, done: u64) -> Option<u64> {
         let state = self
             .changed
             .wait_while(rt, self.state.lock(rt), |state| state.awaits_more(done));

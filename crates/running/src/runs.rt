@@ -1,23 +1,23 @@
 //! A whole run of a node.
 
 ghost use Rattle.std.specs.Prelude.{◌≡◌, ◌+◌, ◌*◌, ◌<◌, ◌≤◌, Ok, IfOk, All, length, map};
-ghost use Rattle.board.specs.Seats as board_seats;
+ghost use Rattle.board.specs.Seats as at_board;
 ghost use Rattle.desk.specs.Seats.{IsSeatOf, opening_in};
 ghost use Rattle.running.specs.Beginning.{IsOpened};
-ghost use Rattle.running.specs.Crews.{IsStock, IsMember, IsLine, IsNewPlayer, IsCrew, HasServed};
+ghost use Rattle.running.specs.Threads.{AreResources, IsSideThread, IsChannelThread, IsNewChainThread, AreAllThreads, HasServed};
 ghost use Rattle.running.specs.Playing.{IsPlayed, ArePlayed};
 ghost use Rattle.running.specs.Homes.{IsClosedBy, IsLonePair, IsHandedBack, HavePlayed, HaveServed, HasReturned, seats_a, seats_b};
 ghost use Rattle.running.specs.Reports.{IsLeft, IsSettled, IsPlayedOut, IsRun, IsReport};
 
+use crate::all_threads::{AllThreads, SideResources, prepare_threads};
 use crate::beginning::{Opened, begin, open_side};
+use crate::chain_thread::{ChainThread, play_chain};
+use crate::channel_thread::{ChannelThread, PlayedChannel, play_channel};
 use crate::counts::Counts;
-use crate::crews::{Crew, Stock, crew_of};
-use crate::homes::{PlayedEvents, Returned, all_home, counts_of};
-use crate::houses::{Closers, House, Office};
-use crate::lines::{Line, PlayedLine, play_line};
-use crate::players::{Player, play_chain};
-use crate::staff::{Member, Served, beside};
-use crate::stages::Stage;
+use crate::returned::{PlayedEvents, Returned, absorb_all_seats, counts_of};
+use crate::shared::{ClosingSeats, SharedState, SideState};
+use crate::shared_chain::SharedChain;
+use crate::side_threads::{Served, SideThread, run_beside};
 use board::Board;
 use book::Book;
 use chain::Index;
@@ -50,41 +50,41 @@ pub struct Report {
 // ---- the threads
 
 // What the threads of all channels give back, unless memory ran out in one.
-fn lines_in(
+fn collect_played(
     alloc: Global,
-    played: Vec<Result<PlayedLine, AllocError>>,
-) -> Result<Vec<PlayedLine>, AllocError>
+    played: Vec<Result<PlayedChannel, AllocError>>,
+) -> Result<Vec<PlayedChannel>, AllocError>
     ensures { IfOk result (λ v. map Ok v.items ≡ played.items) }
 {
-    let mut lines = Vec::new(alloc);
+    let mut channels = Vec::new(alloc);
     for one in played {
-        lines.push(one?)?;
+        channels.push(one?)?;
     }
-    Ok(lines)
+    Ok(channels)
 }
 
 // Plays the events of all channels, each in a thread of its own if one can be made. The only error is that memory ran out.
-fn play_lines<R: Threads + Wait + Sync>(
+fn play_channels<R: Threads + Wait + Sync>(
     rt: &R,
     alloc: Global,
-    house: &House,
+    shared: &SharedState,
     events: &[Event],
-    lines: Vec<Line>,
-) -> Result<Vec<PlayedLine>, AllocError>
-    requires { All (IsLine house.now) lines.items }
-    ensures played { IfOk result (λ v. ArePlayed events.now lines.items v.items) }
-    ensures seats { IfOk result (λ v. All (IsLonePair house.now) v.items) }
+    channel_threads: Vec<ChannelThread>,
+) -> Result<Vec<PlayedChannel>, AllocError>
+    requires { All (IsChannelThread shared.now) channel_threads.items }
+    ensures played { IfOk result (λ v. ArePlayed events.now channel_threads.items v.items) }
+    ensures seats { IfOk result (λ v. All (IsLonePair shared.now) v.items) }
 {
     let played = thread::map_vec(
         rt,
-        lines,
-        &|line: Line| -> Result<PlayedLine, AllocError>
-            requires { IsLine house.now line }
-            ensures { IfOk result (λ p. IsPlayed events.entry.now line p
-                × IsLonePair house.entry.now p) }
-        { play_line(rt, house, events, line) },
+        channel_threads,
+        &|channel_thread: ChannelThread| -> Result<PlayedChannel, AllocError>
+            requires { IsChannelThread shared.now channel_thread }
+            ensures { IfOk result (λ p. IsPlayed events.entry.now channel_thread p
+                × IsLonePair shared.entry.now p) }
+        { play_channel(rt, shared, events, channel_thread) },
     )?;
-    lines_in(alloc, played)
+    collect_played(alloc, played)
 }
 
 // Plays all events: first those of the channels, then those of the chain. The only error is that memory ran out.
@@ -92,31 +92,31 @@ fn play_lines<R: Threads + Wait + Sync>(
 fn play_events<R: Threads + Wait + Sync>(
     rt: &R,
     alloc: Global,
-    house: &House,
+    shared: &SharedState,
     events: &[Event],
-    lines: Vec<Line>,
-    player: Player,
+    channel_threads: Vec<ChannelThread>,
+    chain_thread: ChainThread,
 ) -> Result<PlayedEvents, AllocError>
-    requires lines { All (IsLine house.now) lines.items }
-    requires player { IsNewPlayer house.now player }
-    ensures { IfOk result (HavePlayed house.now events.now lines.items player) }
+    requires channel_threads { All (IsChannelThread shared.now) channel_threads.items }
+    requires chain_thread { IsNewChainThread shared.now chain_thread }
+    ensures { IfOk result (HavePlayed shared.now events.now channel_threads.items chain_thread) }
 {
-    let mut player = player;
-    match play_lines(rt, alloc, house, events, lines) {
-        Ok(lines) => match play_chain(rt, alloc, house, events, &mut player) {
+    let mut chain_thread = chain_thread;
+    match play_channels(rt, alloc, shared, events, channel_threads) {
+        Ok(channels) => match play_chain(rt, alloc, shared, events, &mut chain_thread) {
             Ok(outcomes) => Ok(PlayedEvents {
-                lines,
-                player,
+                channels,
+                chain_thread,
                 outcomes,
             }),
             Err(error) => {
-                drop(lines);
-                drop(player);
+                drop(channels);
+                drop(chain_thread);
                 Err(error)
             }
         },
         Err(error) => {
-            drop(player);
+            drop(chain_thread);
             Err(error)
         }
     }
@@ -126,204 +126,229 @@ fn play_events<R: Threads + Wait + Sync>(
 fn play_beside_b<R: Threads + Wait + Sync, G: Gate + Sync>(
     rt: &R,
     alloc: Global,
-    house: &House,
+    shared: &SharedState,
     events: &[Event],
     gate: &G,
-    staff: Vec<Member>,
-    lines: Vec<Line>,
-    player: Player,
+    side_threads: Vec<SideThread>,
+    channel_threads: Vec<ChannelThread>,
+    chain_thread: ChainThread,
 ) -> Result<(PlayedEvents, Vec<Served>), AllocError>
-    requires staff { All (IsMember house.now.b house.now.board) staff.items }
-    requires lines { All (IsLine house.now) lines.items }
-    requires player { IsNewPlayer house.now player }
-    ensures played { IfOk result (λ r. HavePlayed house.now events.now lines.items
-        player r.0) }
-    ensures staff { IfOk result (λ r. HaveServed house.now.b (length staff.items) r.1.items) }
+    requires side_threads { All (IsSideThread shared.now.b shared.now.board) side_threads.items }
+    requires channel_threads { All (IsChannelThread shared.now) channel_threads.items }
+    requires chain_thread { IsNewChainThread shared.now chain_thread }
+    ensures played { IfOk result (λ r. HavePlayed shared.now events.now channel_threads.items
+        chain_thread r.0) }
+    ensures side_threads { IfOk result
+        (λ r. HaveServed shared.now.b (length side_threads.items) r.1.items) }
 {
-    beside(
+    run_beside(
         rt,
         alloc,
-        house,
-        &house.b,
+        shared,
+        &shared.b,
         gate,
-        staff,
+        side_threads,
         move || -> Result<PlayedEvents, AllocError>
-            requires { All (IsLine house.now) lines.items × IsNewPlayer house.now player }
-            ensures { IfOk result (HavePlayed house.entry.now events.entry.now lines.items
-                player) }
-        { play_events(rt, alloc, house, events, lines, player) },
+            requires { All (IsChannelThread shared.now) channel_threads.items
+                × IsNewChainThread shared.now chain_thread }
+            ensures { IfOk result
+                (HavePlayed shared.entry.now events.entry.now channel_threads.items
+                chain_thread) }
+        { play_events(rt, alloc, shared, events, channel_threads, chain_thread) },
     )
 }
 
 // Runs all threads until each has ended. The error is that memory ran out, or that a thread could not be started.
-fn run_crew<R: Threads + Wait + Sync, G: Gate + Sync>(
+fn run_threads<R: Threads + Wait + Sync, G: Gate + Sync>(
     rt: &R,
     alloc: Global,
-    house: &House,
+    shared: &SharedState,
     events: &[Event],
     gate: &G,
-    crew: Crew,
+    threads: AllThreads,
 ) -> Result<Returned, AllocError>
-    requires { IsCrew house.now crew }
-    ensures { IfOk result (HasReturned house.now events.now crew) }
+    requires { AreAllThreads shared.now threads }
+    ensures { IfOk result (HasReturned shared.now events.now threads) }
 {
-    let Crew {
-        staff_a,
-        staff_b,
-        lines,
-        player,
-    } = crew;
-    match beside(
+    let AllThreads {
+        side_threads_a,
+        side_threads_b,
+        channel_threads,
+        chain_thread,
+    } = threads;
+    match run_beside(
         rt,
         alloc,
-        house,
-        &house.a,
+        shared,
+        &shared.a,
         gate,
-        staff_a,
+        side_threads_a,
         move || -> Result<(PlayedEvents, Vec<Served>), AllocError>
-            requires { All (IsMember house.now.b house.now.board) staff_b.items
-                × All (IsLine house.now) lines.items × IsNewPlayer house.now player }
-            ensures { IfOk result (λ r. HavePlayed house.entry.now events.entry.now
-                lines.items player r.0 × HaveServed house.entry.now.b (length staff_b.items) r.1.items) }
-        { play_beside_b(rt, alloc, house, events, gate, staff_b, lines, player) },
+            requires { All (IsSideThread shared.now.b shared.now.board) side_threads_b.items
+                × All (IsChannelThread shared.now) channel_threads.items
+                × IsNewChainThread shared.now chain_thread }
+            ensures { IfOk result (λ r. HavePlayed shared.entry.now events.entry.now
+                channel_threads.items chain_thread r.0
+                × HaveServed shared.entry.now.b (length side_threads_b.items) r.1.items) }
+        {
+            play_beside_b(
+                rt,
+                alloc,
+                shared,
+                events,
+                gate,
+                side_threads_b,
+                channel_threads,
+                chain_thread,
+            )
+        },
     ) {
-        Ok(((played, staff_b), staff_a)) => Ok(Returned {
+        Ok(((played, side_threads_b), side_threads_a)) => Ok(Returned {
             played,
-            staff_a,
-            staff_b,
+            side_threads_a,
+            side_threads_b,
         }),
         Err(error) => Err(error),
     }
 }
 
-// Equips all threads of a house, and runs them. The error is that memory ran out, or that a thread could not be started.
-fn run_house<R: Threads + Wait + Sync, G: Gate + Sync>(
+// Prepares all threads of a node, and runs them. The error is that memory ran out, or that a thread could not be started.
+fn prepare_and_run<R: Threads + Wait + Sync, G: Gate + Sync>(
     rt: &R,
     alloc: Global,
-    house: &House,
-    closers: &Closers,
+    shared: &SharedState,
+    closing_seats: &ClosingSeats,
     events: &[Event],
     channels: u16,
     workers: u16,
     gate: &G,
-    a: Stock,
-    b: Stock,
-    places: Vec<board::Seat>,
+    a: SideResources,
+    b: SideResources,
+    board_seats: Vec<board::Seat>,
 ) -> Result<Returned, AllocError>
     requires few { (channels ≤ 8) × (workers ≤ 16) }
-    requires a { IsStock house.now.a closers.now.a a
+    requires a { AreResources shared.now.a closing_seats.now.a a
         × (channels + workers + 2 ≤ length a.seats.items) }
-    requires b { IsStock house.now.b closers.now.b b
+    requires b { AreResources shared.now.b closing_seats.now.b b
         × (channels + workers + 2 ≤ length b.seats.items) }
-    requires places { All (board_seats.IsSeatOf house.now.board) places.items
-        × (2 * workers + 3 ≤ length places.items) }
+    requires board_seats { All (at_board.IsSeatOf shared.now.board) board_seats.items
+        × (2 * workers + 3 ≤ length board_seats.items) }
     ensures { IfOk result
-        (IsPlayedOut house.now closers.now channels workers events.now) }
+        (IsPlayedOut shared.now closing_seats.now channels workers events.now) }
 {
-    let crew = crew_of(alloc, house, closers, a, b, places, channels, workers)?;
-    run_crew(rt, alloc, house, events, gate, crew)
+    let threads = prepare_threads(
+        alloc,
+        shared,
+        closing_seats,
+        a,
+        b,
+        board_seats,
+        channels,
+        workers,
+    )?;
+    run_threads(rt, alloc, shared, events, gate, threads)
 }
 
 // ---- the end
 
 // The book of a side whose threads have ended. The seat that closes the desk makes no further call. That the book's claims were accepted is a clause of its entries.
-fn closed<R: Wait>(rt: &R, office: Office, closer: Seat) -> Book
-    requires { IsSeatOf office.desk closer }
-    ensures left { IsLeft (opening_in closer) result }
-    ensures closed { IsClosedBy closer result }
+fn close_desk<R: Wait>(rt: &R, side: SideState, closing_seat: Seat) -> Book
+    requires { IsSeatOf side.desk closing_seat }
+    ensures left { IsLeft (opening_in closing_seat) result }
+    ensures closed { IsClosedBy closing_seat result }
 {
-    let mut closer = closer;
-    let Office { desk, .. } = office;
-    let book = desk.close(rt, &mut closer);
+    let mut closing_seat = closing_seat;
+    let SideState { desk, .. } = side;
+    let book = desk.close(rt, &mut closing_seat);
     let _entries = book.entries();
     book
 }
 
-// The two books and the height, once all seats are home to those that close the desks.
+// The two books and the height, once the closing seats have absorbed all others.
 fn report_with<R: Wait>(
     rt: &R,
-    house: House,
-    closers: Closers,
+    shared: SharedState,
+    closing_seats: ClosingSeats,
     channels: Vec<Counts>,
     outcomes: Vec<Option<EventError>>,
 ) -> Report
-    requires a { IsSeatOf house.a.desk closers.a }
-    requires b { IsSeatOf house.b.desk closers.b }
-    ensures a { IsLeft (opening_in closers.a) result.a × IsClosedBy closers.a result.a }
-    ensures b { IsLeft (opening_in closers.b) result.b × IsClosedBy closers.b result.b }
+    requires a { IsSeatOf shared.a.desk closing_seats.a }
+    requires b { IsSeatOf shared.b.desk closing_seats.b }
+    ensures a { IsLeft (opening_in closing_seats.a) result.a × IsClosedBy closing_seats.a result.a }
+    ensures b { IsLeft (opening_in closing_seats.b) result.b × IsClosedBy closing_seats.b result.b }
     ensures channels { result.channels.items ≡ channels.items }
     ensures outcomes { result.outcomes.items ≡ outcomes.items }
 {
-    let House { a, b, stage, .. } = house;
-    let Closers {
-        a: closer_a,
-        b: closer_b,
-    } = closers;
-    let height = stage.into_height();
+    let SharedState { a, b, chain, .. } = shared;
+    let ClosingSeats {
+        a: closing_seat_a,
+        b: closing_seat_b,
+    } = closing_seats;
+    let height = chain.into_height();
     Report {
-        a: closed(rt, a, closer_a),
-        b: closed(rt, b, closer_b),
+        a: close_desk(rt, a, closing_seat_a),
+        b: close_desk(rt, b, closing_seat_b),
         height,
         channels,
         outcomes,
     }
 }
 
-// What the sides leave, to whose closing seats all threads give their seats back.
-fn report_home<R: Wait>(
+// Absorbs the seats of all threads, and reports what the sides leave.
+fn absorb_and_report<R: Wait>(
     rt: &R,
-    house: House,
-    closers: Closers,
+    shared: SharedState,
+    closing_seats: ClosingSeats,
     returned: Returned,
     channels: Vec<Counts>,
 ) -> Report
-    requires a { IsSeatOf house.a.desk closers.a }
-    requires b { IsSeatOf house.b.desk closers.b }
-    requires lines { All (IsLonePair house) returned.played.lines.items }
-    requires player { IsHandedBack house returned.played.player }
-    requires staff_a { All (HasServed house.a) returned.staff_a.items }
-    requires staff_b { All (HasServed house.b) returned.staff_b.items }
-    ensures a { IsSettled house.a closers.a (seats_a returned) result.a }
-    ensures b { IsSettled house.b closers.b (seats_b returned) result.b }
+    requires a { IsSeatOf shared.a.desk closing_seats.a }
+    requires b { IsSeatOf shared.b.desk closing_seats.b }
+    requires channels { All (IsLonePair shared) returned.played.channels.items }
+    requires chain_thread { IsHandedBack shared returned.played.chain_thread }
+    requires side_threads_a { All (HasServed shared.a) returned.side_threads_a.items }
+    requires side_threads_b { All (HasServed shared.b) returned.side_threads_b.items }
+    ensures a { IsSettled shared.a closing_seats.a (seats_a returned) result.a }
+    ensures b { IsSettled shared.b closing_seats.b (seats_b returned) result.b }
     ensures channels { result.channels.items ≡ channels.items }
     ensures outcomes { result.outcomes.items ≡ returned.played.outcomes.items }
 {
-    let mut closers = closers;
-    let outcomes = all_home(&house, &mut closers, returned);
-    report_with(rt, house, closers, channels, outcomes)
+    let mut closing_seats = closing_seats;
+    let outcomes = absorb_all_seats(&shared, &mut closing_seats, returned);
+    report_with(rt, shared, closing_seats, channels, outcomes)
 }
 
 // The same with the counts that the channels' threads give back. The only error is that memory ran out, here or in a watcher.
 fn report_of<R: Wait>(
     rt: &R,
     alloc: Global,
-    house: House,
-    closers: Closers,
+    shared: SharedState,
+    closing_seats: ClosingSeats,
     returned: Returned,
 ) -> Result<Report, AllocError>
-    requires a { IsSeatOf house.a.desk closers.a }
-    requires b { IsSeatOf house.b.desk closers.b }
-    requires lines { All (IsLonePair house) returned.played.lines.items }
-    requires player { IsHandedBack house returned.played.player }
-    requires staff_a { All (HasServed house.a) returned.staff_a.items }
-    requires staff_b { All (HasServed house.b) returned.staff_b.items }
-    ensures a { IfOk result (λ r. IsSettled house.a closers.a (seats_a returned) r.a) }
-    ensures b { IfOk result (λ r. IsSettled house.b closers.b (seats_b returned) r.b) }
-    ensures channels { IfOk result (λ r. map (λ p. p.counts) returned.played.lines.items
+    requires a { IsSeatOf shared.a.desk closing_seats.a }
+    requires b { IsSeatOf shared.b.desk closing_seats.b }
+    requires channels { All (IsLonePair shared) returned.played.channels.items }
+    requires chain_thread { IsHandedBack shared returned.played.chain_thread }
+    requires side_threads_a { All (HasServed shared.a) returned.side_threads_a.items }
+    requires side_threads_b { All (HasServed shared.b) returned.side_threads_b.items }
+    ensures a { IfOk result (λ r. IsSettled shared.a closing_seats.a (seats_a returned) r.a) }
+    ensures b { IfOk result (λ r. IsSettled shared.b closing_seats.b (seats_b returned) r.b) }
+    ensures channels { IfOk result (λ r. map (λ p. p.counts) returned.played.channels.items
         ≡ r.channels.items) }
     ensures outcomes { IfOk result (λ r. r.outcomes.items ≡ returned.played.outcomes.items) }
 {
-    if house.stage.has_failed() {
-        drop(house);
-        drop(closers);
+    if shared.chain.has_failed() {
+        drop(shared);
+        drop(closing_seats);
         drop(returned);
         return Err(AllocError);
     }
-    match counts_of(alloc, &returned.played.lines) {
-        Ok(counts) => Ok(report_home(rt, house, closers, returned, counts)),
+    match counts_of(alloc, &returned.played.channels) {
+        Ok(counts) => Ok(absorb_and_report(rt, shared, closing_seats, returned, counts)),
         Err(error) => {
-            drop(house);
-            drop(closers);
+            drop(shared);
+            drop(closing_seats);
             drop(returned);
             Err(error)
         }
@@ -343,40 +368,50 @@ fn run_sides<R: Threads + Wait + Sync, G: Gate + Sync>(
     chain: Index,
 ) -> Result<Report, AllocError>
     requires few { (channels ≤ 8) × (workers ≤ 16) }
-    requires a { IsOpened (opening_in a.closer) (channels + workers + 3) a }
-    requires b { IsOpened (opening_in b.closer) (channels + workers + 3) b }
-    ensures { IfOk result (IsRun (opening_in a.closer) (opening_in b.closer) channels events.now) }
+    requires a { IsOpened (opening_in a.closing_seat) (channels + workers + 3) a }
+    requires b { IsOpened (opening_in b.closing_seat) (channels + workers + 3) b }
+    ensures { IfOk result
+        (IsRun (opening_in a.closing_seat) (opening_in b.closing_seat) channels events.now) }
 {
     match Board::new(alloc, 2 * workers + 3) {
-        Ok((board, places)) => {
+        Ok((board, board_seats)) => {
             let Opened {
-                office: office_a,
-                closer: closer_a,
-                stock: stock_a,
+                side: side_a,
+                closing_seat: closing_seat_a,
+                resources: resources_a,
             } = a;
             let Opened {
-                office: office_b,
-                closer: closer_b,
-                stock: stock_b,
+                side: side_b,
+                closing_seat: closing_seat_b,
+                resources: resources_b,
             } = b;
-            let closers = Closers {
-                a: closer_a,
-                b: closer_b,
+            let closing_seats = ClosingSeats {
+                a: closing_seat_a,
+                b: closing_seat_b,
             };
-            let house = House {
-                a: office_a,
-                b: office_b,
+            let shared = SharedState {
+                a: side_a,
+                b: side_b,
                 board,
-                stage: Stage::new(alloc, chain),
+                chain: SharedChain::new(alloc, chain),
             };
-            match run_house(
-                rt, alloc, &house, &closers, events, channels, workers, gate, stock_a, stock_b,
-                places,
+            match prepare_and_run(
+                rt,
+                alloc,
+                &shared,
+                &closing_seats,
+                events,
+                channels,
+                workers,
+                gate,
+                resources_a,
+                resources_b,
+                board_seats,
             ) {
-                Ok(returned) => report_of(rt, alloc, house, closers, returned),
+                Ok(returned) => report_of(rt, alloc, shared, closing_seats, returned),
                 Err(error) => {
-                    drop(house);
-                    drop(closers);
+                    drop(shared);
+                    drop(closing_seats);
                     Err(error)
                 }
             }

@@ -5,12 +5,12 @@ ghost use Rattle.watch.specs.Watching.{nothing_seen, seen_up_to};
 ghost use Rattle.jobs.specs.Ends.{PutsWith, hand_of};
 ghost use Rattle.side.specs.Reading.{begun as begun_with};
 ghost use Rattle.desk.specs.Seats.{IsSeatOf, HasSameCalls, last_in};
-ghost use Rattle.running.specs.Crews.{IsWatcher, GoesOnWatching};
+ghost use Rattle.running.specs.Threads.{IsWatcher, GoesOnWatching};
 ghost use Rattle.running.specs.Acting.{PutsClaims};
 ghost use Rattle.running.specs.Following.{IsFollower, IsSight, HasBegun, IsNext, told_block, Finds, FindsSome, AreAnswered, IsAnsweredFor, HasAsked, IsRenewed, GoesBack, ReadsAgain, GoesOnReading};
 
-use crate::ends::put;
-use crate::houses::{House, Office};
+use crate::endpoints::put;
+use crate::shared::{SharedState, SideState};
 use board::Mark;
 use chain::{Block, Coins};
 use desk::Seat;
@@ -28,7 +28,7 @@ use watch::Watch;
 pub(crate) struct Watcher {
     /// Its seat at its side's desk.
     pub(crate) seat: Seat,
-    pub(crate) place: board::Seat,
+    pub(crate) board_seat: board::Seat,
     /// Where it puts the side's jobs.
     pub(crate) sender: JobSender<Job>,
     pub(crate) pass: Pass<Job>,
@@ -129,14 +129,14 @@ fn look_at(alloc: Global, pool: &Pool, top: u64, follower: Follower) -> Result<S
 fn look<R: Wait>(
     rt: &R,
     alloc: Global,
-    house: &House,
+    shared: &SharedState,
     top: u64,
     follower: Follower,
 ) -> Result<Sight, AllocError>
     ensures follows { IfOk result (IsSight (length follower.reader.seen)) }
     ensures found { IfOk result (FindsSome top follower) }
 {
-    let pool = house.stage.pool.lock(rt);
+    let pool = shared.chain.pool.lock(rt);
     look_at(alloc, &*pool, top, follower)
 }
 
@@ -145,18 +145,18 @@ fn look<R: Wait>(
 // Asks the desk what is known of a channel. The only error is that memory ran out: the desk has each channel whose funding output is followed.
 fn answer<R: Wait>(
     rt: &R,
-    office: &Office,
+    side: &SideState,
     seat: &mut Seat,
     reader: &mut Reader,
     channel: u64,
 ) -> Result<(), AllocError>
-    requires seat { IsSeatOf office.now.desk seat.old }
+    requires seat { IsSeatOf side.now.desk seat.old }
     requires channel { channel < length reader.old.seen }
-    ensures seat { HasSameCalls office.now.desk seat.old seat.new }
+    ensures seat { HasSameCalls side.now.desk seat.old seat.new }
     ensures reader { OnOk result (IsAnsweredFor (last_in seat.old) (last_in seat.new) channel
         reader.old reader.new) }
 {
-    match office.desk.known(rt, seat, channel) {
+    match side.desk.known(rt, seat, channel) {
         Ok(known) => reader.answer(channel, known),
         Err(_) => Err(AllocError),
     }
@@ -166,35 +166,35 @@ fn answer<R: Wait>(
 #[tactic(auto, using(crate::proofs::Same::same_calls, crate::proofs::Same::still_same))]
 fn answer_each<R: Wait>(
     rt: &R,
-    office: &Office,
+    side: &SideState,
     seat: &mut Seat,
     reader: &mut Reader,
     channels: &[u64],
 ) -> Result<(), AllocError>
-    requires seat { IsSeatOf office.now.desk seat.old }
+    requires seat { IsSeatOf side.now.desk seat.old }
     requires channels { All (λ c. c < length reader.old.seen) channels.now }
-    ensures seat { HasSameCalls office.now.desk seat.old seat.new }
+    ensures seat { HasSameCalls side.now.desk seat.old seat.new }
     ensures reader { OnOk result (length reader.new.seen ≡ length reader.old.seen) }
     ensures asked { OnOk result (AreAnswered (last_in seat.old) (last_in seat.new) channels.now
         reader.old reader.new) }
 {
     for channel in channels {
-        answer(rt, office, seat, reader, *channel)?;
+        answer(rt, side, seat, reader, *channel)?;
     }
     Ok(())
 }
 
 // The same for a follower. The only error is that memory ran out.
-fn answered<R: Wait>(
+fn answer_follower<R: Wait>(
     rt: &R,
-    office: &Office,
+    side: &SideState,
     seat: &mut Seat,
     before: Follower,
     channels: &[u64],
 ) -> Result<Follower, AllocError>
-    requires seat { IsSeatOf office.now.desk seat.old }
+    requires seat { IsSeatOf side.now.desk seat.old }
     requires channels { All (λ c. c < length before.reader.seen) channels.now }
-    ensures seat { HasSameCalls office.now.desk seat.old seat.new }
+    ensures seat { HasSameCalls side.now.desk seat.old seat.new }
     ensures follower { IfOk result (IsFollower (length before.reader.seen)) }
     ensures asked { IfOk result (HasAsked (last_in seat.old) (last_in seat.new) channels.now
         before) }
@@ -205,7 +205,7 @@ fn answered<R: Wait>(
         height,
         is_done,
     } = before;
-    match answer_each(rt, office, seat, &mut reader, channels) {
+    match answer_each(rt, side, seat, &mut reader, channels) {
         Ok(()) => Ok(Follower {
             reader,
             round,
@@ -241,29 +241,29 @@ fn back_all(watches: &mut [Watch], height: u64)
 fn teach<R: Wait>(
     rt: &R,
     alloc: Global,
-    office: &Office,
+    side: &SideState,
     preimages: &[[u8; 32]],
 ) -> Result<(), AllocError> {
     let copies = Vec::from_slice(alloc, preimages)?;
-    *office.learnt.lock(rt) = copies;
+    *side.learnt.lock(rt) = copies;
     Ok(())
 }
 
 // Shows the side's other threads what was learnt, and forgets what watches saw above a height. Returns the side's funding outputs; the only error is that memory ran out.
-fn taught<R: Wait>(
+fn teach_and_forget<R: Wait>(
     rt: &R,
     alloc: Global,
-    office: &Office,
+    side: &SideState,
     watches: &mut [Watch],
     learnt: &[[u8; 32]],
     height: u64,
 ) -> Result<Vec<OutPoint>, AllocError>
     ensures watches { OnOk result (watches.new ≡ map (seen_up_to height) watches.old) }
-    ensures fundings { IfOk result (λ v. v.items ≡ office.now.fundings.items) }
+    ensures fundings { IfOk result (λ v. v.items ≡ side.now.fundings.items) }
 {
-    teach(rt, alloc, office, learnt)?;
+    teach(rt, alloc, side, learnt)?;
     back_all(watches, height);
-    let fundings = Vec::from_slice(alloc, &office.fundings)?;
+    let fundings = Vec::from_slice(alloc, &side.fundings)?;
     Ok(fundings)
 }
 
@@ -271,17 +271,17 @@ fn taught<R: Wait>(
 fn reader_from<R: Wait>(
     rt: &R,
     alloc: Global,
-    office: &Office,
+    side: &SideState,
     watches: Vec<Watch>,
     learnt: Vec<[u8; 32]>,
     height: u64,
 ) -> Result<Reader, AllocError>
-    requires { length office.now.fundings.items ≡ length watches.items }
-    ensures { IfOk result (λ r. r ≡ begun_with office.now.fundings.items
+    requires { length side.now.fundings.items ≡ length watches.items }
+    ensures { IfOk result (λ r. r ≡ begun_with side.now.fundings.items
         (map (seen_up_to height) watches.items) learnt.items) }
 {
     let mut watches = watches;
-    match taught(rt, alloc, office, &mut watches, &learnt, height) {
+    match teach_and_forget(rt, alloc, side, &mut watches, &learnt, height) {
         Ok(fundings) => Reader::new(alloc, fundings, watches, learnt),
         Err(error) => {
             drop(watches);
@@ -294,7 +294,7 @@ fn reader_from<R: Wait>(
 // Puts claims as a job, if there are any.
 fn put_claims<R: Wait>(
     rt: &R,
-    office: &Office,
+    side: &SideState,
     sender: &JobSender<Job>,
     pass: &mut Pass<Job>,
     due: VecDeque<DueClaim>,
@@ -304,28 +304,28 @@ fn put_claims<R: Wait>(
     ensures put { PutsClaims due.items (hand_of pass.old) (hand_of pass.new) }
 {
     if !due.is_empty() {
-        put(rt, &office.progress, sender, pass, Job::Claims(due));
+        put(rt, &side.progress, sender, pass, Job::Claims(due));
     }
 }
 
 // Puts what fell due as a job, and goes on from what stands up to a height. The only error is that memory ran out.
-fn renewed<R: Wait>(
+fn renew_reader<R: Wait>(
     rt: &R,
     alloc: Global,
-    house: &House,
-    office: &Office,
+    shared: &SharedState,
+    side: &SideState,
     watcher: &mut Watcher,
     reader: Reader,
     height: u64,
 ) -> Result<Reader, AllocError>
-    requires watcher { IsWatcher office.now house.now.board watcher.old }
-    requires reader { length reader.seen ≡ length office.now.fundings.items }
-    ensures watcher { GoesOnWatching office.now house.now.board watcher.old watcher.new }
-    ensures reader { IfOk result (IsRenewed office.now.fundings.items height reader) }
+    requires watcher { IsWatcher side.now shared.now.board watcher.old }
+    requires reader { length reader.seen ≡ length side.now.fundings.items }
+    ensures watcher { GoesOnWatching side.now shared.now.board watcher.old watcher.new }
+    ensures reader { IfOk result (IsRenewed side.now.fundings.items height reader) }
     ensures put { OnOk result (PutsClaims reader.jobs (hand_of watcher.old.pass)
         (hand_of watcher.new.pass)) }
 {
-    let _house = house;
+    let _shared = shared;
     match reader.into_parts() {
         Ok(parts) => {
             let ReadParts {
@@ -333,8 +333,8 @@ fn renewed<R: Wait>(
                 learnt,
                 due,
             } = parts;
-            put_claims(rt, office, &watcher.sender, &mut watcher.pass, due);
-            reader_from(rt, alloc, office, watches, learnt, height)
+            put_claims(rt, side, &watcher.sender, &mut watcher.pass, due);
+            reader_from(rt, alloc, side, watches, learnt, height)
         }
         Err(error) => Err(error),
     }
@@ -343,24 +343,24 @@ fn renewed<R: Wait>(
 // ---- the thread
 
 // Goes back to the height of a fork. The only error is that memory ran out.
-fn went_back<R: Wait>(
+fn go_back<R: Wait>(
     rt: &R,
     alloc: Global,
-    house: &House,
-    office: &Office,
+    shared: &SharedState,
+    side: &SideState,
     watcher: &mut Watcher,
     follower: Follower,
     fork: u64,
     round: u64,
 ) -> Result<Follower, AllocError>
-    requires watcher { IsWatcher office.now house.now.board watcher.old }
-    requires follower { IsFollower (length office.now.fundings.items) follower }
-    ensures watcher { GoesOnWatching office.now house.now.board watcher.old watcher.new }
-    ensures follows { IfOk result (IsFollower (length office.now.fundings.items)) }
-    ensures back { IfOk result (ReadsAgain office.now.fundings.items fork round follower) }
+    requires watcher { IsWatcher side.now shared.now.board watcher.old }
+    requires follower { IsFollower (length side.now.fundings.items) follower }
+    ensures watcher { GoesOnWatching side.now shared.now.board watcher.old watcher.new }
+    ensures follows { IfOk result (IsFollower (length side.now.fundings.items)) }
+    ensures back { IfOk result (ReadsAgain side.now.fundings.items fork round follower) }
 {
     let Follower { reader, .. } = follower;
-    match renewed(rt, alloc, house, office, watcher, reader, fork) {
+    match renew_reader(rt, alloc, shared, side, watcher, reader, fork) {
         Ok(reader) => Ok(Follower {
             reader,
             round,
@@ -375,26 +375,26 @@ fn went_back<R: Wait>(
 fn go_on<R: Wait>(
     rt: &R,
     alloc: Global,
-    house: &House,
-    office: &Office,
+    shared: &SharedState,
+    side: &SideState,
     watcher: &mut Watcher,
     top: u64,
     follower: Follower,
 ) -> Result<Follower, AllocError>
-    requires watcher { IsWatcher office.now house.now.board watcher.old }
-    requires follower { IsFollower (length office.now.fundings.items) follower }
-    ensures watcher { GoesOnWatching office.now house.now.board watcher.old watcher.new }
-    ensures follows { IfOk result (IsFollower (length office.now.fundings.items)) }
-    ensures reads { IfOk result (GoesOnReading office.now.fundings.items
+    requires watcher { IsWatcher side.now shared.now.board watcher.old }
+    requires follower { IsFollower (length side.now.fundings.items) follower }
+    ensures watcher { GoesOnWatching side.now shared.now.board watcher.old watcher.new }
+    ensures follows { IfOk result (IsFollower (length side.now.fundings.items)) }
+    ensures reads { IfOk result (GoesOnReading side.now.fundings.items
         (last_in watcher.old.seat) (last_in watcher.new.seat) top follower) }
 {
-    match look(rt, alloc, house, top, follower) {
+    match look(rt, alloc, shared, top, follower) {
         Ok(Sight::Read(follower)) => Ok(follower),
         Ok(Sight::Asks(follower, channels)) => {
-            answered(rt, office, &mut watcher.seat, follower, &channels)
+            answer_follower(rt, side, &mut watcher.seat, follower, &channels)
         }
         Ok(Sight::Back(follower, fork, round)) => {
-            went_back(rt, alloc, house, office, watcher, follower, fork, round)
+            go_back(rt, alloc, shared, side, watcher, follower, fork, round)
         }
         Err(error) => Err(error),
     }
@@ -404,16 +404,16 @@ fn go_on<R: Wait>(
 fn wait_for_block<R: Wait>(
     rt: &R,
     alloc: Global,
-    house: &House,
-    office: &Office,
+    shared: &SharedState,
+    side: &SideState,
     watcher: &mut Watcher,
     follower: Follower,
 ) -> Result<Follower, AllocError>
-    requires watcher { IsWatcher office.now house.now.board watcher.old }
-    requires follower { IsFollower (length office.now.fundings.items) follower }
-    ensures watcher { GoesOnWatching office.now house.now.board watcher.old watcher.new }
-    ensures follows { IfOk result (IsFollower (length office.now.fundings.items)) }
-    ensures back { IfOk result (GoesBack office.now.fundings.items follower.height
+    requires watcher { IsWatcher side.now shared.now.board watcher.old }
+    requires follower { IsFollower (length side.now.fundings.items) follower }
+    ensures watcher { GoesOnWatching side.now shared.now.board watcher.old watcher.new }
+    ensures follows { IfOk result (IsFollower (length side.now.fundings.items)) }
+    ensures back { IfOk result (GoesBack side.now.fundings.items follower.height
         follower.round follower) }
 {
     let Follower {
@@ -422,12 +422,12 @@ fn wait_for_block<R: Wait>(
         height,
         ..
     } = follower;
-    match renewed(rt, alloc, house, office, watcher, reader, height) {
+    match renew_reader(rt, alloc, shared, side, watcher, reader, height) {
         Ok(reader) => Ok(Follower {
             reader,
             round,
             height,
-            is_done: house.stage.wait_at(rt, round, height),
+            is_done: shared.chain.wait_at(rt, round, height),
         }),
         Err(error) => Err(error),
     }
@@ -437,22 +437,22 @@ fn wait_for_block<R: Wait>(
 fn step<R: Wait>(
     rt: &R,
     alloc: Global,
-    house: &House,
-    office: &Office,
+    shared: &SharedState,
+    side: &SideState,
     watcher: &mut Watcher,
     follower: Follower,
 ) -> Result<Follower, AllocError>
-    requires watcher { IsWatcher office.now house.now.board watcher.old }
-    requires follower { IsFollower (length office.now.fundings.items) follower }
-    ensures watcher { GoesOnWatching office.now house.now.board watcher.old watcher.new }
-    ensures follower { IfOk result (IsFollower (length office.now.fundings.items)) }
+    requires watcher { IsWatcher side.now shared.now.board watcher.old }
+    requires follower { IsFollower (length side.now.fundings.items) follower }
+    ensures watcher { GoesOnWatching side.now shared.now.board watcher.old watcher.new }
+    ensures follower { IfOk result (IsFollower (length side.now.fundings.items)) }
 {
-    let mark = house.board.look(&mut watcher.place);
+    let mark = shared.board.look(&mut watcher.board_seat);
     if has_read(&follower, mark) {
-        wait_for_block(rt, alloc, house, office, watcher, follower)
+        wait_for_block(rt, alloc, shared, side, watcher, follower)
     } else {
         let top = u64::from(mark.height);
-        go_on(rt, alloc, house, office, watcher, top, follower)
+        go_on(rt, alloc, shared, side, watcher, top, follower)
     }
 }
 
@@ -468,11 +468,11 @@ fn new_watches(alloc: Global, count: usize) -> Result<Vec<Watch>, AllocError>
 }
 
 // A follower of a side's channels that has read the first block only. The only error is that memory ran out.
-fn begun(alloc: Global, office: &Office) -> Result<Follower, AllocError>
-    ensures follows { IfOk result (IsFollower (length office.now.fundings.items)) }
-    ensures begun { IfOk result (HasBegun office.now.fundings.items) }
+fn new_follower(alloc: Global, side: &SideState) -> Result<Follower, AllocError>
+    ensures follows { IfOk result (IsFollower (length side.now.fundings.items)) }
+    ensures begun { IfOk result (HasBegun side.now.fundings.items) }
 {
-    let fundings = Vec::from_slice(alloc, &office.fundings)?;
+    let fundings = Vec::from_slice(alloc, &side.fundings)?;
     let watches = new_watches(alloc, fundings.len())?;
     let reader = Reader::new(alloc, fundings, watches, Vec::new(alloc))?;
     Ok(Follower {
@@ -488,16 +488,16 @@ fn begun(alloc: Global, office: &Office) -> Result<Follower, AllocError>
 fn follow<R: Wait>(
     rt: &R,
     alloc: Global,
-    house: &House,
-    office: &Office,
+    shared: &SharedState,
+    side: &SideState,
     watcher: &mut Watcher,
 ) -> Result<(), AllocError>
-    requires { IsWatcher office.now house.now.board watcher.old }
-    ensures { GoesOnWatching office.now house.now.board watcher.old watcher.new }
+    requires { IsWatcher side.now shared.now.board watcher.old }
+    ensures { GoesOnWatching side.now shared.now.board watcher.old watcher.new }
 {
-    let mut follower = begun(alloc, office)?;
+    let mut follower = new_follower(alloc, side)?;
     for _ in rt.forever() {
-        follower = step(rt, alloc, house, office, watcher, follower)?;
+        follower = step(rt, alloc, shared, side, watcher, follower)?;
         if follower.is_done {
             drop(follower);
             return Ok(());
@@ -511,24 +511,24 @@ fn follow<R: Wait>(
 pub(crate) fn watch<R: Wait>(
     rt: &R,
     alloc: Global,
-    house: &House,
-    office: &Office,
+    shared: &SharedState,
+    side: &SideState,
     mine: Watcher,
 ) -> Seat
-    requires { IsWatcher office.now house.now.board mine }
-    ensures { HasSameCalls office.now.desk mine.seat result }
+    requires { IsWatcher side.now shared.now.board mine }
+    ensures { HasSameCalls side.now.desk mine.seat result }
 {
     let mut watcher = mine;
-    if follow(rt, alloc, house, office, &mut watcher).is_err() {
-        house.stage.fail();
+    if follow(rt, alloc, shared, side, &mut watcher).is_err() {
+        shared.chain.fail();
     }
     let Watcher {
         seat,
-        place,
+        board_seat,
         sender,
         pass,
     } = watcher;
-    drop(place);
+    drop(board_seat);
     drop(sender);
     drop(pass);
     seat

@@ -3,10 +3,10 @@
 ghost use Rattle.std.specs.Prelude.{IfSome};
 ghost use Rattle.desk.specs.Seats.{IsSeatOf};
 ghost use Rattle.node.specs.Work.{IsWork};
-ghost use Rattle.running.specs.Crews.{IsWorker};
+ghost use Rattle.running.specs.Threads.{IsWorker};
 
-use crate::houses::{House, Office};
 use crate::progress::Progress;
+use crate::shared::{SharedState, SideState};
 use desk::{Desk, Seat};
 use jobs::JobTaker;
 use node::{Done, Gate, Hands, Job, Shared};
@@ -50,35 +50,35 @@ impl<G: Gate> Gate for Counted<'_, G> {
 pub(crate) fn work<R: Wait, G: Gate>(
     rt: &R,
     alloc: Global,
-    house: &House,
-    office: &Office,
+    shared: &SharedState,
+    side: &SideState,
     gate: &G,
     mine: Worker,
 ) -> (Done, Hands)
-    requires { IsWorker office.now house.now.board mine }
-    ensures seat { IsSeatOf office.now.desk result.1.seat }
-    ensures work { IsWork office.now.payments.items mine.hands result.1 result.0 }
+    requires { IsWorker side.now shared.now.board mine }
+    ensures seat { IsSeatOf side.now.desk result.1.seat }
+    ensures work { IsWork side.now.payments.items mine.hands result.1 result.0 }
     ensures stopped { IfSome result.0.stopped (G.stops gate.now) }
 {
     let Worker { taker, mut hands } = mine;
-    let shared = Shared {
-        desk: &office.desk,
-        board: &house.board,
-        patterns: office.patterns.get(),
-        payments: office.payments.as_slice(),
-        pool: &house.stage.pool,
+    let lent = Shared {
+        desk: &side.desk,
+        board: &shared.board,
+        patterns: side.patterns.get(),
+        payments: side.payments.as_slice(),
+        pool: &shared.chain.pool,
     };
     let counted = Counted {
         gate,
-        progress: &office.progress,
+        progress: &side.progress,
         jobs: AtomicU64::new(0),
     };
-    let done = node::worker(rt, alloc, &shared, &taker, &mut hands, &counted);
+    let done = node::worker(rt, alloc, &lent, &taker, &mut hands, &counted);
     // A job that it took and did not do is dropped.
     if counted.jobs.load(Ordering::SeqCst) != done.jobs {
-        office.progress.finish(rt);
+        side.progress.finish(rt);
     }
-    office.progress.leave(rt);
+    side.progress.leave(rt);
     let Counted {
         gate: _,
         progress: _,

@@ -106,7 +106,7 @@ fn releases_in(book: &Book, channel: u64) -> usize {
         .count()
 }
 
-// Whether an entry is of a worker's seat exactly where it is what workers do. The seats before theirs are the player's, those of the channels and the watcher's.
+// Whether an entry is of a worker's seat exactly where it is what workers do. The seats before theirs are those of the chain's thread, of the channels' threads and of the watcher.
 fn is_by_its_seat(entry: &Entry, before: u32, workers: u16) -> bool {
     let last = before.saturating_add(u32::from(workers));
     is_work(&entry.call) == (entry.seat > before && entry.seat <= last)

@@ -3,7 +3,7 @@ use Rattle.keys.specs.declared.bases.Base.TheVariants.{Payment}
 use Rattle.keys.specs.declared.compressed.Key.{Key}
 use Rattle.keys.specs.Derivation.{base_key}
 use Rattle.book.specs.Books.{replay}
-use Rattle.running.specs.Crews.{payments_in}
+use Rattle.running.specs.Threads.{payments_in}
 use Rattle.running.proofs.Payments.{payments_more}
 use Rattle.running.proofs.beginning.payments_of.Goals as goal
 

@@ -1,6 +1,6 @@
 use Rattle.std.proofs.Common.{◌≡◌, map, take}
 use Rattle.book.specs.Books.{replay}
-use Rattle.running.specs.Crews.{payments_in}
+use Rattle.running.specs.Threads.{payments_in}
 use Rattle.running.proofs.beginning.payments_of.Given as goal
 
 abbrev pub invariant-loop-channel : goal.invariant-loop-channel

@@ -10,7 +10,7 @@ loop-channel-preserved g c =
     let was = c.loop-channel.invariant in
     let one = c.in_ok-answer.ensures.reader in
     record {
-      seat = still_same c.args.office.now.desk c.args.seat.now c.loop-channel.seat c.answer.new.seat was.seat c.answer.ensures.seat;
+      seat = still_same c.args.side.now.desk c.args.seat.now c.loop-channel.seat c.answer.new.seat was.seat c.answer.ensures.seat;
       many = ap (λ (r : Reader). length r.seen) one.next_is ∙ was.many;
       asked = λ after next more. was.asked after next (answered_next (last_in c.loop-channel.seat) (last_in c.answer.new.seat) after c.args.channels.now c.loop-channel.channel-index c.loop-channel.reader c.answer.new.reader next (omega arith) one more);
     }

@@ -7,7 +7,7 @@ use Rattle.running.proofs.watching.answer_each.Given as goal
 
 abbrev pub invariant-loop-channel : goal.invariant-loop-channel
 invariant-loop-channel g l = record {
-  seat : HasSameCalls l.office.desk l.initial.seat l.seat;
+  seat : HasSameCalls l.side.desk l.initial.seat l.seat;
   many : length l.reader.seen ≡ length l.initial.reader.seen;
   asked : (after : History) (next : Reader) → AreAnswered (last_in l.seat) after (drop l.channel-index l.channels) l.reader next → AreAnswered (last_in l.initial.seat) after l.channels l.initial.reader next;
 }

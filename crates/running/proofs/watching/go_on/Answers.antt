@@ -12,10 +12,10 @@ returns-in-Ok-Asks-clause-reads g c =
     let same = c.in-Ok-Asks.follower in
     let asked = c.in-Ok-Asks.channels in
     let before = last_in c.args.watcher.now.seat in
-    let after = last_in c.answered.new.seat in
+    let after = last_in c.answer_follower.new.seat in
     let found : FindsSome c.args.top f (Asks same asked) = subst (λ (s : Sight). FindsSome c.args.top f s) c.in-Ok-Asks.field-0-is c.in-Ok-Asks.ensures.found in
-    IfOk-weaker c.answered.result (HasAsked before after c.deref.result.now same) (GoesOnReading c.args.office.now.fundings.items before after c.args.top f)
-    (λ next has. record { sight = Asks same asked; found = found; follows = subst (λ (cs : List ℕ). HasAsked before after cs same next) c.deref.ensures.value has }) c.answered.ensures.asked
+    IfOk-weaker c.answer_follower.result (HasAsked before after c.deref.result.now same) (GoesOnReading c.args.side.now.fundings.items before after c.args.top f)
+    (λ next has. record { sight = Asks same asked; found = found; follows = subst (λ (cs : List ℕ). HasAsked before after cs same next) c.deref.ensures.value has }) c.answer_follower.ensures.asked
 
 pub returns-in-Ok-Back-clause-reads : goal.returns-in-Ok-Back-clause-reads
 returns-in-Ok-Back-clause-reads g c =
@@ -24,7 +24,7 @@ returns-in-Ok-Back-clause-reads g c =
     let fork = c.in-Ok-Back.fork in
     let round = c.in-Ok-Back.round in
     let before = last_in c.args.watcher.now.seat in
-    let after = last_in c.went_back.new.watcher.seat in
+    let after = last_in c.go_back.new.watcher.seat in
     let found : FindsSome c.args.top f (Back same fork round) = subst (λ (s : Sight). FindsSome c.args.top f s) c.in-Ok-Back.field-0-is c.in-Ok-Back.ensures.found in
-    IfOk-weaker c.went_back.result (ReadsAgain c.args.office.now.fundings.items fork round same) (GoesOnReading c.args.office.now.fundings.items before after c.args.top f)
-    (λ next has. record { sight = Back same fork round; found = found; follows = has }) c.went_back.ensures.back
+    IfOk-weaker c.go_back.result (ReadsAgain c.args.side.now.fundings.items fork round same) (GoesOnReading c.args.side.now.fundings.items before after c.args.top f)
+    (λ next has. record { sight = Back same fork round; found = found; follows = has }) c.go_back.ensures.back

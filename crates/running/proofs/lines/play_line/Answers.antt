@@ -1,7 +1,0 @@
-use Rattle.running.proofs.Playing.{gives_back}
-use Rattle.running.proofs.lines.play_line.Goals as goal
-
-pub returns-in-Ok-clause-played : goal.returns-in-Ok-clause-played
-returns-in-Ok-clause-played g c =
-    let back = c.given_back.ensures in
-    gives_back c.args.events.now c.args.mine c.play_all.new.line c.in-Ok.counts c.given_back.result back.counts back.a back.b c.in-Ok.ensures.plays
