@@ -4,7 +4,7 @@ A signature may be made for any key, and a key for a signature in DER. So a chec
 """
 import itertools
 
-from histories import hash160
+from bitcoin import hash160, number_item
 
 IF, NOTIF, ELSE, ENDIF, DROP, DUP, SWAP, SIZE, EQUAL, EQUALVERIFY = 0x63, 0x64, 0x67, 0x68, 0x75, 0x76, 0x7C, 0x82, 0x87, 0x88
 HASH160, CHECKSIG, CHECKMULTISIG, CHECKLOCKTIMEVERIFY, CHECKSEQUENCEVERIFY = 0xA9, 0xAC, 0xAE, 0xB1, 0xB2
@@ -97,11 +97,6 @@ def check_multi_sig(stack):
     return many_answers(signatures, keys)
 
 
-def size(item):
-    count = len(item)
-    return count.to_bytes((count.bit_length() + 8) // 8, "little") if count else b""
-
-
 def check_lock(op, item):
     """A lock is reached by a transaction that is made for it, unless it is negative, or above the greatest lock time."""
     lock = number(item, 5)
@@ -123,7 +118,7 @@ def next_stacks(op, stack):
     if op == DUP:
         return [[*stack, top, top]]
     if op == SIZE:
-        return [[*stack, top, size(top)]]
+        return [[*stack, top, number_item(len(top))]]
     if op == HASH160:
         return [[*stack, HASHES.get(top) or hash160(top)]]
     if op in (CHECKLOCKTIMEVERIFY, CHECKSEQUENCEVERIFY):

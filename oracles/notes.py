@@ -1,7 +1,7 @@
 #!/usr/bin/env python3
 """What `enforce` notes on standard error of scripts and of scenarios, by rules of this file's own.
 
-  bench/notes.py    status 1 where a call notes something else
+  oracles/notes.py    status 1 where a call notes something else
 
 Opcodes have the names of Bitcoin Core's script.h. Which branches end by a rule that is stricter than consensus is worked by hand from BIPs 65, 66, 112, 141 and 147, and from docs/ENFORCE.md. By which branches nobody can spend is
 worked out here with symbols for what a witness has. Scripts are run by consensus too, on items that are unlike: no run may end well that goes the way of such a branch. That two facts of a path contradict
@@ -13,10 +13,11 @@ import random
 import subprocess
 import sys
 
+import bitcoin
 from answers import LIMIT, program
+from bitcoin import hash160
 from consensus import CHECKLOCKTIMEVERIFY, CHECKMULTISIG, CHECKSEQUENCEVERIFY, CHECKSIG, DROP, DUP, ELSE, ENDIF, EQUAL, EQUALVERIFY, HASH160, HASHES, IF, MARK, NOTIF, SIZE, SWAP, Fails, goes_past, is_in_der, is_taken, is_true, opcodes
 from consensus import number as number_of
-from histories import hash160
 
 TOP = os.path.dirname(os.path.dirname(os.path.abspath(__file__)))
 
@@ -67,7 +68,7 @@ EXACT = [f"{NONE}: each branch ends as in consensus"]
 
 
 def push(item):
-    return f"{len(item) // 2:02x}{item}"
+    return bitcoin.push(bytes.fromhex(item)).hex()
 
 
 def end(opcode, item, rule):
@@ -541,8 +542,7 @@ def contradict(one, other):
 
 
 def number(n):
-    size = (n.bit_length() + 8) // 8
-    return "00" if n == 0 else f"{0x50 + n:02x}" if n <= 16 else push(n.to_bytes(size, "little").hex())
+    return bitcoin.pushed_number(n).hex()
 
 
 def fact_opcodes(fact):
@@ -799,4 +799,6 @@ def main():
 
 
 if __name__ == "__main__":
+    if sys.argv[1:] == ["--help"]:
+        raise SystemExit(__doc__)
     sys.exit(main())
