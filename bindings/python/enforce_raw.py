@@ -1,4 +1,4 @@
-"""The exports of the library, its structs and its numbers. Drawn from crates/enforce_c/src by `.ci/library --write`: do not edit."""
+"""The exports of the library, its structs and its numbers. Drawn from crates/enforce_c/src by `bindings/library --write`: do not edit."""
 from ctypes import POINTER, Structure, c_bool, c_size_t, c_uint8, c_uint16, c_uint32, c_uint64, sizeof
 
 # The slot is the signature of `key` over the spend.

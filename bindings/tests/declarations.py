@@ -7,7 +7,7 @@ import glob
 import os
 import re
 
-TOP = os.path.dirname(os.path.dirname(os.path.abspath(__file__)))
+TOP = os.path.dirname(os.path.dirname(os.path.dirname(os.path.abspath(__file__))))
 SOURCES = f"{TOP}/crates/enforce_c/src"
 SPECS = "crates/enforce_c/specs"
 FILES = {
@@ -15,7 +15,7 @@ FILES = {
     "bindings/rust/src/raw.rs": "rust",
     "bindings/python/enforce_raw.py": "python",
 }
-NOTE = "Drawn from crates/enforce_c/src by `.ci/library --write`: do not edit."
+NOTE = "Drawn from crates/enforce_c/src by `bindings/library --write`: do not edit."
 # The size in bytes of a number, and its name in C, Rust and Python.
 NUMBERS = {
     "bool": (1, "bool", "bool", "c_bool"),
