@@ -1,4 +1,4 @@
-/* enforce.h: the ways through a script, the scripts of BOLT 3, and the unsigned spend of claims, proved, for programs in C. Drawn from crates/enforce_c/src by `.ci/library --write`: do not edit.
+/* enforce.h: the ways through a script, the scripts of BOLT 3, and the unsigned spend of claims, proved, for programs in C. Drawn from crates/enforce_c/src by `bindings/library --write`: do not edit.
 
      uint8_t script[] = {0x63, 0x51, 0x67, 0x52, 0x68}, bytes[64]; // IF 1 ELSE 2 ENDIF
      enforce_path_row paths[64] = {0}; enforce_fact_row facts[64] = {0}; enforce_answer answer = {0};

@@ -12,7 +12,7 @@ and the classes here, and ctypes are trusted.
 import ctypes
 import os
 from dataclasses import dataclass
-from typing import List, Optional, Sequence, Tuple, Union
+from typing import List, Optional, Sequence, Tuple, Type, TypeVar, Union
 
 import enforce_raw as raw
 
@@ -25,7 +25,7 @@ if _library.enforce_abi() != raw.ABI:
 class Refused(Exception):
     """Why a call gives nothing: the status, its name, and the number that some refusals carry."""
 
-    def __init__(self, status: int, number: int):
+    def __init__(self, status: int, number: int) -> None:
         self.status, self.name = status, raw.NAMES.get(status, "Unknown")
         self.number = number if status in (raw.BAD_OPCODE, raw.TRUNCATED, raw.UNDECIDED) else None
         super().__init__(self.name if self.number is None else f"{self.name} {number}")
@@ -79,23 +79,23 @@ def _number(value: int, bits: int, name: str) -> int:
     return value
 
 
-def _buffer(data: bytes):
+def _buffer(data: bytes) -> "ctypes.Array[ctypes.c_uint8]":
     return (ctypes.c_uint8 * len(data)).from_buffer_copy(data)
 
 
 class _Rows:
     """The buffers of a listing."""
 
-    def __init__(self, paths: int, facts: int, size: int):
+    def __init__(self, paths: int, facts: int, size: int) -> None:
         self.paths, self.facts, self.bytes = (raw.PathRow * paths)(), (raw.FactRow * facts)(), (ctypes.c_uint8 * size)()
 
-    def constant(self, row) -> bytes:
+    def constant(self, row: raw.FactRow) -> bytes:
         return bytes(self.bytes[row.bytes_at : row.bytes_at + row.bytes_length])
 
-    def key(self, row) -> Union[bytes, int]:
+    def key(self, row: raw.FactRow) -> Union[bytes, int]:
         return row.key_slot if row.key_is_slot else self.constant(row)
 
-    def fact(self, row, choice) -> Fact:
+    def fact(self, row: raw.FactRow, choice: Sequence[raw.FactRow]) -> Fact:
         kind = _KINDS[row.kind]
         slots = () if row.kind in (raw.FACT_LOCK, raw.FACT_AGE) else (row.slot,)
         if row.kind == raw.FACT_CHOICE:
@@ -104,7 +104,7 @@ class _Rows:
         keys = (self.key(row),) if row.kind == raw.FACT_SIGNED else ()
         return Fact(kind, row.holds, slots, keys, b"" if keys else self.constant(row), row.number)
 
-    def path(self, row) -> Path:
+    def path(self, row: raw.PathRow) -> Path:
         rows = self.facts[row.first_fact : row.first_fact + row.facts]
         heads = [at for at, it in enumerate(rows) if it.kind in _KINDS] + [len(rows)]
         facts = tuple(self.fact(rows[at], rows[at + 1 : end]) for at, end in zip(heads, heads[1:]))
@@ -192,6 +192,9 @@ class Exact:
     item: bytes
 
 
+Slot = Union[Signature, Preimage, Exact]
+
+
 @dataclass(frozen=True)
 class Claim:
     """A claim on an output, by one path of its script. The id is in the hash's own byte order, and the slots are the top of the stack first."""
@@ -202,7 +205,7 @@ class Claim:
     script: bytes
     program: bytes
     path: int
-    slots: Tuple[Union[Signature, Preimage, Exact], ...]
+    slots: Tuple[Slot, ...]
 
 
 @dataclass(frozen=True)
@@ -231,7 +234,7 @@ class UnsignedSpend:
     signatures: Tuple[MissingSignature, ...]
 
 
-def _fill(field, value: bytes, name: str):
+def _fill(field: "ctypes.Array[ctypes.c_uint8]", value: bytes, name: str) -> None:
     if len(value) != len(field):
         raise ValueError(f"{name} has {len(field)} bytes")
     field[:] = value
@@ -240,15 +243,16 @@ def _fill(field, value: bytes, name: str):
 class _Given:
     """Rows of claims and of outputs, and the bytes that they refer to."""
 
-    def __init__(self):
-        self.bytes, self.slots = bytearray(), []
+    def __init__(self) -> None:
+        self.bytes = bytearray()
+        self.slots: List[raw.SlotRow] = []
 
     def put(self, data: bytes) -> Tuple[int, int]:
         at = len(self.bytes)
         self.bytes += data
         return at, len(data)
 
-    def slot(self, slot):
+    def slot(self, slot: Slot) -> raw.SlotRow:
         row = raw.SlotRow()
         if isinstance(slot, Signature):
             row.kind = raw.SLOT_SIGNATURE
@@ -261,7 +265,7 @@ class _Given:
             row.bytes_at, row.bytes_length = self.put(slot.item)
         return row
 
-    def claim(self, claim: Claim):
+    def claim(self, claim: Claim) -> raw.ClaimRow:
         numbers = {"index": _number(claim.index, 32, "index"), "value": _number(claim.value, 64, "value"), "path": _number(claim.path, 64, "path")}
         row = raw.ClaimRow(first_slot=len(self.slots), slots=len(claim.slots), **numbers)
         _fill(row.txid, claim.txid, "an id")
@@ -270,20 +274,23 @@ class _Given:
         self.slots += map(self.slot, claim.slots)
         return row
 
-    def output(self, value: int, script: bytes):
+    def output(self, value: int, script: bytes) -> raw.OutputRow:
         at, length = self.put(script)
         return raw.OutputRow(value=_number(value, 64, "value"), script_at=at, script_length=length)
 
-    def rows(self):
+    def rows(self) -> Tuple["ctypes.Array[raw.SlotRow]", int, "ctypes.Array[ctypes.c_uint8]", int]:
         """The rows of slots and the bytes, as two pairs of a call's arguments."""
         return _rows(raw.SlotRow, self.slots) + (_buffer(bytes(self.bytes)), len(self.bytes))
 
 
-def _rows(kind, rows):
+_Row = TypeVar("_Row", raw.SlotRow, raw.ClaimRow, raw.OutputRow, raw.PreimageRow)
+
+
+def _rows(kind: Type[_Row], rows: Sequence[_Row]) -> Tuple["ctypes.Array[_Row]", int]:
     return (kind * len(rows))(*rows), len(rows)
 
 
-def _preimage(data: bytes):
+def _preimage(data: bytes) -> raw.PreimageRow:
     row = raw.PreimageRow()
     _fill(row.bytes, data, "a preimage")
     return row

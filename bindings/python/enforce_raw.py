@@ -1,5 +1,5 @@
-"""The exports of the library, its structs and its numbers. Drawn from crates/enforce_c/src by `.ci/library --write`: do not edit."""
-from ctypes import POINTER, Structure, c_bool, c_size_t, c_uint8, c_uint16, c_uint32, c_uint64, sizeof
+"""The exports of the library, its structs and its numbers. Drawn from crates/enforce_c/src by `bindings/library --write`: do not edit."""
+from ctypes import CDLL, POINTER, Structure, c_bool, c_size_t, c_uint8, c_uint16, c_uint32, c_uint64, sizeof
 
 # The slot is the signature of `key` over the spend.
 SLOT_SIGNATURE = 0x1
@@ -296,7 +296,7 @@ LAYOUTS = {
 }
 
 
-def declare(library):
+def declare(library: CDLL) -> None:
     """Gives the exports of a loaded library their types."""
     # proved: result ≡ ABI
     library.enforce_abi.argtypes = []

@@ -1,14 +1,15 @@
 """Makes the calls that standard input names, a line each, and prints what each answers, as answers.c does."""
 import sys
+from typing import List, Optional, Tuple, Union
 
 import enforce
 
 
-def key(source):
+def key(source: Union[bytes, int]) -> str:
     return f"slot {source}" if isinstance(source, int) else source.hex()
 
 
-def fact_text(fact):
+def fact_text(fact: enforce.Fact) -> str:
     holds = "yes" if fact.holds else "no"
     said = {
         "hash": lambda: f"{fact.constant.hex()} {holds}",
@@ -24,11 +25,11 @@ def fact_text(fact):
     return " ".join(it for it in (fact.kind, slots, said.get(fact.kind, str)()) if it)
 
 
-def or_dash(number):
+def or_dash(number: Optional[int]) -> Union[int, str]:
     return "-" if number is None else number
 
 
-def listing(script):
+def listing(script: bytes) -> str:
     paths = enforce.paths(script)
     lines = [f"paths {len(paths)}"]
     for k, it in enumerate(paths):
@@ -37,40 +38,40 @@ def listing(script):
     return "\n".join(lines)
 
 
-def data(text):
+def data(text: str) -> bytes:
     return bytes.fromhex("" if text == "-" else text)
 
 
-def slot(text):
+def slot(text: str) -> enforce.Slot:
     kind, value = text.split("=")
     return {"s": enforce.Signature, "p": enforce.Preimage, "e": enforce.Exact}[kind](data(value))
 
 
-def parts(text, separator):
+def parts(text: str, separator: str) -> List[str]:
     return [] if text == "-" else text.split(separator)
 
 
-def claim(text):
+def claim(text: str) -> enforce.Claim:
     script, program, txid, index, value, path, slots = text.split("/")
     return enforce.Claim(data(txid), int(index), int(value), data(script), data(program), int(path), tuple(map(slot, parts(slots, ","))))
 
 
-def output(text):
+def output(text: str) -> Tuple[int, bytes]:
     value, script = text.split("/")
     return int(value), data(script)
 
 
-def spend(claims, outputs, preimages):
+def spend(claims: str, outputs: str, preimages: str) -> str:
     found = enforce.unsigned_spend(list(map(claim, parts(claims, ";"))), list(map(output, parts(outputs, ";"))), list(map(data, parts(preimages, ","))))
     return "\n".join([f"tx {found.tx.hex()}", *(f"sign {it.input} {it.item} {it.key.hex()} {it.digest.hex()}" for it in found.signatures)])
 
 
-def due_line(text):
+def due_line(text: str) -> str:
     found = enforce.accept(claim(text))
     return f"due {found.height} {found.sequence}"
 
 
-def answer(name, *words):
+def answer(name: str, *words: str) -> str:
     if name == "claim":
         return due_line(*words)
     if name == "spend":

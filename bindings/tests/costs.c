@@ -1,4 +1,4 @@
-/* Makes the calls of bench/programs/c_calls by the library for C, as often, and prints the same. `.ci/library` counts the instructions of both. */
+/* Makes the calls of bench/programs/c_calls by the library for C, as often, and prints the same. `bindings/library` counts the instructions of both. */
 #include <enforce.h>
 #include <stdio.h>
 #include <stdlib.h>

@@ -1,4 +1,4 @@
-//! Drawn from crates/enforce_c/src by `.ci/library --write`: do not edit.
+//! Drawn from crates/enforce_c/src by `bindings/library --write`: do not edit.
 //! The exports of the library, its structs and its numbers.
 
 /// The slot is the signature of `key` over the spend.

@@ -1,4 +1,4 @@
--- The bytes of the two worked channels, as a script of its own computed them (`bench/worked_chains.py`): ids of grants and of transactions, keys, scripts and programs. The commitments of the definitions are of these bytes,
+-- The bytes of the two worked channels, as a script of its own computed them (`oracles/worked_chains.py`): ids of grants and of transactions, keys, scripts and programs. The commitments of the definitions are of these bytes,
 -- and all that is worked out above starts from here, so that no hash is computed twice.
 use Rattle.std.proofs.Common.{◌≡◌, ℕ, List, [], ◌∷◌, ◌++◌, ap, ◌∙◌, refl}
 use Rattle.sha2.specs.Sha256.{sha256, digest_bytes, hash_after, compress, rounds, schedule, first_words}

@@ -1,4 +1,4 @@
--- The bytes of the two channels of one seed, as a script of its own computed them (`bench/worked_chains.py`): the secrets and points of the node's seed, and of each of its own commitments there the id, keys, scripts and
+-- The bytes of the two channels of one seed, as a script of its own computed them (`oracles/worked_chains.py`): the secrets and points of the node's seed, and of each of its own commitments there the id, keys, scripts and
 -- programs. The peers' commitments are those of the other chains.
 use Rattle.std.proofs.Common.{◌≡◌, ℕ, List, [], ◌∷◌, ap, ◌∙◌, refl}
 use Rattle.sha2.specs.Sha256.{sha256, digest_bytes, hash_after, compress, rounds, schedule, first_words}

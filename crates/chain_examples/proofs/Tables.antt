@@ -1,4 +1,4 @@
--- The outputs, keys and strings of the two worked channels, whose peers have each a commitment 0 and 1: what the contents of their commitments make of them, and what their hashes begin with, as `bench/worked_chains.py`
+-- The outputs, keys and strings of the two worked channels, whose peers have each a commitment 0 and 1: what the contents of their commitments make of them, and what their hashes begin with, as `oracles/worked_chains.py`
 -- computed it.
 use Rattle.std.proofs.Common.{◌≡◌, ℕ, Bool, true, false, List, [], ◌∷◌, ◌++◌, map, replicate, Option, None, sym, ap, ◌∙◌, refl, subst}
 use Rattle.std.specs.List.{flat_map}

@@ -15,7 +15,7 @@
 //! enforce_script_list(script, 5, paths, 64, facts, 64, bytes, 64, &answer);  // 0, and answer.paths is 2
 //! ```
 //!
-//! `.ci/library` makes this call and many more from C and from other languages.
+//! `bindings/library` makes this call and many more from C and from other languages.
 #![tactic(auto)]
 
 ghost use Rattle.std.specs.Prelude.{◌≡◌};

@@ -13,7 +13,7 @@
 //! }
 //! ```
 //!
-//! The program `spend` begins so. What is printed then is tested by `real/test`, and what `trace` prints by `bench/answers.py`.
+//! The program `spend` begins so. What is printed then is tested by `real/test`, and what `trace` prints by `oracles/answers.py`.
 #![tactic(auto)]
 
 mod input;

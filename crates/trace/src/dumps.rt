@@ -11,7 +11,7 @@
 //! let status = run_words(alloc, words, &mut input, &mut out);
 //! ```
 //!
-//! Tested by `bench/dumps.py`, which finds anew what it has to write, and by the calls of `bench/answers.py`.
+//! Tested by `oracles/dumps.py`, which finds anew what it has to write, and by the calls of `oracles/answers.py`.
 
 ghost use Rattle.std.specs.Prelude.{◌≤◌};
 

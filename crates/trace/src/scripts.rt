@@ -11,7 +11,7 @@
 //! let status = run_words(alloc, words, &mut input, &mut out);
 //! ```
 //!
-//! Tested by the recorded run of the program `trace`, and by the calls of `bench/answers.py`.
+//! Tested by the recorded run of the program `trace`, and by the calls of `oracles/answers.py`.
 
 ghost use Rattle.std.specs.Prelude.{◌≤◌};
 

@@ -12,7 +12,7 @@
 //! let status = run_words(alloc, words, &mut input, &mut out);
 //! ```
 //!
-//! Tested by `bench/witnesses.py`, which makes the digests anew, and by the calls of `bench/answers.py`.
+//! Tested by `oracles/witnesses.py`, which makes the digests anew, and by the calls of `oracles/answers.py`.
 
 mod causes;
 mod errors;

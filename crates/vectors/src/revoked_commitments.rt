@@ -1,4 +1,4 @@
-//! Compares `revoked` with BOLT 3, Appendix C, and with its HTLCs as they are with anchors. `bench/revoked.py` wrote the lines of this part, and what it has to print.
+//! Compares `revoked` with BOLT 3, Appendix C, and with its HTLCs as they are with anchors. `oracles/revoked.py` wrote the lines of this part, and what it has to print.
 //!
 //! A line has a transaction and a revoked commitment. Its words are the transaction without witnesses, the channel's
 //! type (`static_remotekey` or `anchors`), the commitment's five keys (revocation, delayed, local HTLC, remote HTLC,

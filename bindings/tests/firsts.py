@@ -9,7 +9,7 @@ import subprocess
 import sys
 
 sys.dont_write_bytecode = True
-TOP = os.path.dirname(os.path.dirname(os.path.abspath(__file__)))
+TOP = os.path.dirname(os.path.dirname(os.path.dirname(os.path.abspath(__file__))))
 BINDINGS = f"{TOP}/bindings"
 SECONDS = 600
 # The to_local script of BOLT 3 with these keys and 144 blocks, and what is said of it.

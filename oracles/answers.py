@@ -1,16 +1,17 @@
 #!/usr/bin/env python3
 """Calls of `trace`: what each reads, prints and returns, worked by hand from docs/TRACE.md and its pages.
 
-  bench/answers.py    status 1 where a call answers otherwise
+  oracles/answers.py    status 1 where a call answers otherwise
 
 A call that reads a text and prints something is made twice: the second time nothing can be written, and its status has to be 1. Wrong words read an input that never ends, and one that can't be read.
 """
 import glob
-import hashlib
 import json
 import os
 import subprocess
 import sys
+
+from bitcoin import little_endian, script_program, sha256d
 
 TOP = os.path.dirname(os.path.dirname(os.path.abspath(__file__)))
 USAGE = "usage: trace scenario [--strict | --dump A|B] | dump | script [--text] [HEX] | witness [--text]\n"
@@ -55,7 +56,7 @@ SCRIPTED = "note: an input has a script of its own (scriptSig), as inputs of old
 
 def program_of(script):
     """The program of an output to a script (P2WSH, BIP 141)."""
-    return "0020" + hashlib.sha256(bytes.fromhex(script)).hexdigest()
+    return script_program(bytes.fromhex(script)).hex()
 
 
 ANYONE = "note: anyone can spend by path 0: no signature of a key that the script fixes is asked for\n"
@@ -140,12 +141,12 @@ def again(name, at):
 
 def opening_texts():
     """A scenario of two channels that are unlike in all their terms and opened by different sides, without its events; and its two lines."""
-    with open(f"{TOP}/bench/unlike_channels.json", encoding="utf-8") as file:
+    with open(f"{TOP}/oracles/unlike_channels.json", encoding="utf-8") as file:
         scenario = dict(json.load(file), events=[])
     told = []
     for index, terms in enumerate(scenario["channels"]):
         # the id of a grant is a hash over its number
-        txid = hashlib.sha256(hashlib.sha256(b"grant" + index.to_bytes(8, "little")).digest()).digest()
+        txid = sha256d(b"grant", little_endian(index, 8))
         told.append({"funding": f"{txid.hex()}:0", "explorer": txid[::-1].hex(), **{name: terms[name] for name in ("capacity", "opener", "feerate", "dust", "delay", "minimum", "start")}})
     none = {"A": 0, "B": 0}
     value = sum(terms["capacity"] for terms in scenario["channels"])
@@ -297,4 +298,6 @@ def main():
 
 
 if __name__ == "__main__":
+    if sys.argv[1:] == ["--help"]:
+        raise SystemExit(__doc__)
     sys.exit(main())

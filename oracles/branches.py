@@ -1,7 +1,7 @@
 #!/usr/bin/env python3
 """The ways through a script of IF ELSE ENDIF (636768), COUNT times, by what these three opcodes do.
 
-  bench/branches.py N    prints what `enforce paths` has to print of it
+  oracles/branches.py N    prints what `enforce paths` has to print of it
 
 Each IF takes an item, and goes on into its first branch where that is true, and after its ELSE where it is false. Both branches are empty. So N IFs take N items, in either answer
 each, and leave the last item, which has to be true. What stands after an IF comes before what stands after its ELSE.
@@ -19,6 +19,6 @@ def main(count):
 
 
 if __name__ == "__main__":
-    if len(sys.argv) != 2:
+    if len(sys.argv) != 2 or not sys.argv[1].isdigit():
         raise SystemExit(__doc__)
     main(int(sys.argv[1]))

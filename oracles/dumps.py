@@ -1,21 +1,21 @@
 #!/usr/bin/env python3
 """What `trace dump` prints of books, made anew from the calls of their dumps.
 
-  bench/dumps.py          compares what ./trace dump prints of each dump of bench/dumps.txt, one a line, and of texts that are no dumps, with it; status 1 where they differ
-  bench/dumps.py --tell   prints what is told of the dump on standard input
-  bench/dumps.py FILE     compares it of the dumps of a file
+  oracles/dumps.py          compares what ./trace dump prints of each dump of oracles/dumps.txt, one a line, and of texts that are no dumps, with it; status 1 where they differ
+  oracles/dumps.py --tell   prints what is told of the dump on standard input
+  oracles/dumps.py FILE     compares it of the dumps of a file
 
-bench/dumps.txt has books of the examples as they stand at the end: of each kind of claim and of HTLC the shortest dump, and one dump with a claim that no script has. Three of them stand there again with
-a close of the channel: before a fulfil, before a signature (which is refused), and twice at the end. bench/unlike_channels.json has the calls of two channels whose terms, amounts, heights and numbers are all unlike: their dumps are made
-anew by bench/histories.py.
+oracles/dumps.txt has books of the examples as they stand at the end: of each kind of claim and of HTLC the shortest dump, and one dump with a claim that no script has. Three of them stand there again with
+a close of the channel: before a fulfil, before a signature (which is refused), and twice at the end. oracles/unlike_channels.json has the calls of two channels whose terms, amounts, heights and numbers are all unlike: their dumps are made
+anew by oracles/histories.py.
 Commitments, balances, HTLCs and amounts are found here by rules of this file's own, from BOLT 2, 3 and 5 and docs/TRACE_DUMP.md: a commitment is how many updates of each side it has.
 """
-import hashlib
 import json
 import os
 import subprocess
 import sys
 
+from bitcoin import sha256
 from histories import Books
 
 TOP = os.path.dirname(os.path.dirname(os.path.abspath(__file__)))
@@ -100,7 +100,7 @@ class Channel:
         return local, remote, kept[0], kept[1]
 
     def claims(self, commitment, is_revoked):
-        hashes = [hashlib.sha256(it).hexdigest() for it in self.preimages]
+        hashes = [sha256(it).hex() for it in self.preimages]
         local, remote, received, offered = self.amounts(commitment)
         found = []
 
@@ -120,7 +120,7 @@ class Channel:
 
     def claimable_value(self, commitment, owner, is_revoked):
         """What this side can claim of a commitment once each HTLC's transaction stands. Those of its own commitment, and of a revoked one, take their fees off."""
-        hashes = [hashlib.sha256(it).hexdigest() for it in self.preimages]
+        hashes = [sha256(it).hex() for it in self.preimages]
         local, remote, of_owner, of_other = self.amounts(commitment, owner)
         feerate = self.view(commitment)[2]
         values = [local if owner == 0 else remote, local if is_revoked else None]
@@ -212,8 +212,8 @@ def objects_of(dump):
 
 
 def new_dumps():
-    """Dumps that bench/histories.py makes anew: of two channels that are unlike in all their terms, by A, who closed the second one, by B, and by A before the close; and of a channel whose funding output has another index than 0."""
-    with open(f"{TOP}/bench/unlike_channels.json", encoding="utf-8") as file:
+    """Dumps that oracles/histories.py makes anew: of two channels that are unlike in all their terms, by A, who closed the second one, by B, and by A before the close; and of a channel whose funding output has another index than 0."""
+    with open(f"{TOP}/oracles/unlike_channels.json", encoding="utf-8") as file:
         unlike = json.load(file)
     before = dict(unlike, events=[it for it in unlike["events"] if it[0] != "close"])
     return [Books(unlike).dump("A"), Books(unlike).dump("B"), Books(before).dump("A"), Books(dict(unlike, events=[]), 70_000).dump("B")]
@@ -285,7 +285,7 @@ def main(words):
     if words == ["--tell"]:
         print(printed_text(sys.stdin.read().strip()), end="")
         return 0
-    with open(words[0] if words else f"{TOP}/bench/dumps.txt", encoding="utf-8") as file:
+    with open(words[0] if words else f"{TOP}/oracles/dumps.txt", encoding="utf-8") as file:
         lines = [*file.read().splitlines(), *REFUSED, *new_dumps()]
     wrong = sum(not is_told(line) for line in lines)
     print(f"dumps: {len(lines)} texts, {sum(refusal_of(line) is not None for line in lines)} of them refused: {wrong} differ")
@@ -293,4 +293,6 @@ def main(words):
 
 
 if __name__ == "__main__":
+    if sys.argv[1:] == ["--help"]:
+        raise SystemExit(__doc__)
     sys.exit(main(sys.argv[1:]))

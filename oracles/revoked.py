@@ -7,10 +7,11 @@ as bytes: an output is claimed if none of what its script is made of was changed
 
 The appendix has no anchors. So the commitment with the most outputs is read once more, as BOLT 3 has it with `option_anchors`: each HTLC's script has
 `1 CHECKSEQUENCEVERIFY DROP` before its last ENDIF, to_remote another script, and two anchors come with it. Both commitments are read as of the other type too."""
-import hashlib
 import json
 import pathlib
 import sys
+
+from bitcoin import little_endian, script_program, sha256d, sized_data
 
 HERE = pathlib.Path(__file__).resolve().parent
 APPENDIX = json.loads((HERE.parent / "real/tests/bolt3.json").read_text())
@@ -45,7 +46,7 @@ ANCHOR_SAT = 330
 
 
 def program_of(script):
-    return "0020" + hashlib.sha256(bytes.fromhex(script)).hexdigest()
+    return script_program(bytes.fromhex(script)).hex()
 
 
 def anchor_outputs(case):
@@ -67,9 +68,9 @@ def anchor_outputs(case):
 def changed_transaction(tx, outputs):
     """A transaction of one input with other outputs, and its id in the hash's own byte order."""
     up_to_outputs = 2 * (4 + 1 + 41)
-    spelt = "".join(it["value_sat"].to_bytes(8, "little").hex() + f"{len(it['script_pubkey']) // 2:02x}" + it["script_pubkey"] for it in outputs)
-    found = tx[:up_to_outputs] + f"{len(outputs):02x}" + spelt + tx[-8:]
-    return found, hashlib.sha256(hashlib.sha256(bytes.fromhex(found)).digest()).hexdigest()
+    spelt = b"".join(little_endian(it["value_sat"], 8) + sized_data(bytes.fromhex(it["script_pubkey"])) for it in outputs)
+    found = tx[:up_to_outputs] + f"{len(outputs):02x}" + spelt.hex() + tx[-8:]
+    return found, sha256d(bytes.fromhex(found)).hex()
 
 
 def same_script(one, other):

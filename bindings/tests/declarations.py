@@ -7,7 +7,7 @@ import glob
 import os
 import re
 
-TOP = os.path.dirname(os.path.dirname(os.path.abspath(__file__)))
+TOP = os.path.dirname(os.path.dirname(os.path.dirname(os.path.abspath(__file__))))
 SOURCES = f"{TOP}/crates/enforce_c/src"
 SPECS = "crates/enforce_c/specs"
 FILES = {
@@ -15,7 +15,7 @@ FILES = {
     "bindings/rust/src/raw.rs": "rust",
     "bindings/python/enforce_raw.py": "python",
 }
-NOTE = "Drawn from crates/enforce_c/src by `.ci/library --write`: do not edit."
+NOTE = "Drawn from crates/enforce_c/src by `bindings/library --write`: do not edit."
 # The size in bytes of a number, and its name in C, Rust and Python.
 NUMBERS = {
     "bool": (1, "bool", "bool", "c_bool"),
@@ -251,7 +251,7 @@ def python_parameters(kind, names):
 def python(told):
     names = [name for name, _, _ in told.structs]
     lines = [f'"""The exports of the library, its structs and its numbers. {NOTE}"""']
-    lines += ["from ctypes import POINTER, Structure, c_bool, c_size_t, c_uint8, c_uint16, c_uint32, c_uint64, sizeof", ""]
+    lines += ["from ctypes import CDLL, POINTER, Structure, c_bool, c_size_t, c_uint8, c_uint16, c_uint32, c_uint64, sizeof", ""]
     for constants in told.constants.values():
         for name, number, doc in constants:
             lines += [f"# {doc}", f"{name} = {number:#x}"]
@@ -267,7 +267,7 @@ def python(told):
     for name, _, fields in told.structs:
         size, offsets = told.sizes[name]
         lines.append(f"    {name}: ({size}, [{', '.join(map(str, offsets))}]),")
-    lines += ["}", "", "", "def declare(library):", '    """Gives the exports of a loaded library their types."""']
+    lines += ["}", "", "", "def declare(library: CDLL) -> None:", '    """Gives the exports of a loaded library their types."""']
     for name, params, result, _, proved in told.exports:
         words = ", ".join(word for _, kind in params for word in python_parameters(kind, names))
         lines.append(f"    # proved: {proved}")

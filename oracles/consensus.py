@@ -4,10 +4,18 @@ A signature may be made for any key, and a key for a signature in DER. So a chec
 """
 import itertools
 
-from histories import hash160
+from bitcoin import hash160, number_item
 
 IF, NOTIF, ELSE, ENDIF, DROP, DUP, SWAP, SIZE, EQUAL, EQUALVERIFY = 0x63, 0x64, 0x67, 0x68, 0x75, 0x76, 0x7C, 0x82, 0x87, 0x88
 HASH160, CHECKSIG, CHECKMULTISIG, CHECKLOCKTIMEVERIFY, CHECKSEQUENCEVERIFY = 0xA9, 0xAC, 0xAE, 0xB1, 0xB2
+# the names from byte 4c on; those of numbers and of NOPs are made
+NAMES = """
+PUSHDATA1 PUSHDATA2 PUSHDATA4 1NEGATE RESERVED 1 2 3 4 5 6 7 8 9 10 11 12 13 14 15 16 NOP VER IF NOTIF VERIF VERNOTIF ELSE ENDIF VERIFY RETURN
+TOALTSTACK FROMALTSTACK 2DROP 2DUP 3DUP 2OVER 2ROT 2SWAP IFDUP DEPTH DROP DUP NIP OVER PICK ROLL ROT SWAP TUCK CAT SUBSTR LEFT RIGHT SIZE INVERT AND OR XOR
+EQUAL EQUALVERIFY RESERVED1 RESERVED2 1ADD 1SUB 2MUL 2DIV NEGATE ABS NOT 0NOTEQUAL ADD SUB MUL DIV MOD LSHIFT RSHIFT BOOLAND BOOLOR NUMEQUAL NUMEQUALVERIFY
+NUMNOTEQUAL LESSTHAN GREATERTHAN LESSTHANOREQUAL GREATERTHANOREQUAL MIN MAX WITHIN RIPEMD160 SHA1 SHA256 HASH160 HASH256 CODESEPARATOR CHECKSIG CHECKSIGVERIFY
+CHECKMULTISIG CHECKMULTISIGVERIFY NOP1 CHECKLOCKTIMEVERIFY CHECKSEQUENCEVERIFY NOP4 NOP5 NOP6 NOP7 NOP8 NOP9 NOP10 CHECKSIGADD
+""".split()
 # a mark in a script, which no run goes past
 MARK = -1
 # an item that is told to have this hash: a signature in DER
@@ -97,11 +105,6 @@ def check_multi_sig(stack):
     return many_answers(signatures, keys)
 
 
-def size(item):
-    count = len(item)
-    return count.to_bytes((count.bit_length() + 8) // 8, "little") if count else b""
-
-
 def check_lock(op, item):
     """A lock is reached by a transaction that is made for it, unless it is negative, or above the greatest lock time."""
     lock = number(item, 5)
@@ -123,7 +126,7 @@ def next_stacks(op, stack):
     if op == DUP:
         return [[*stack, top, top]]
     if op == SIZE:
-        return [[*stack, top, size(top)]]
+        return [[*stack, top, number_item(len(top))]]
     if op == HASH160:
         return [[*stack, HASHES.get(top) or hash160(top)]]
     if op in (CHECKLOCKTIMEVERIFY, CHECKSEQUENCEVERIFY):

@@ -4,18 +4,19 @@
 They are worked out here from BOLT 3, BIP 143 and the stand-ins of docs/DECISIONS.md for keys and signatures, and no program of this repository is asked: ids of grants and of transactions, keys, scripts,
 programs, what is signed, and the first four bytes of the hashes in the tables. The prover holds each to the definitions; here each is held to what stands outside of them.
 
-Its last line is 'worked_chains: N tables, M wrong'. Wants Python 3, whose OpenSSL may lack RIPEMD-160.
+Its last line is 'worked_chains: N tables, M wrong'. Wants Python 3.
 """
-import hashlib
 import os
 import re
 import sys
 from collections import namedtuple
 
-TOP = os.path.dirname(os.path.dirname(os.path.abspath(__file__)))
-sys.path.insert(0, f"{TOP}/real")
-from ripemd160 import ripemd160
+from bitcoin import (
+    Transaction, hash160, key_program, key_script, little_endian, push, pushed_number, ripemd160, script_program,
+    sha256, sha256d,
+)
 
+TOP = os.path.dirname(os.path.dirname(os.path.abspath(__file__)))
 PROOFS = f"{TOP}/crates/chain_examples/proofs"
 OTHER = {"A": "B", "B": "A"}
 BASES = ("funding", "payment", "delayed", "htlc", "revocation")
@@ -24,38 +25,6 @@ Htlc = namedtuple("Htlc", "satoshis byte expiry")
 Output = namedtuple("Output", "value script program kind htlc")
 # what is signed: a transaction, the script of the output that it spends, and that output's value
 Signed = namedtuple("Signed", "tx code value")
-
-
-def sha256(data):
-    return hashlib.sha256(data).digest()
-
-
-def sha256d(data):
-    return sha256(sha256(data))
-
-
-def hash160(data):
-    return ripemd160(sha256(data))
-
-
-def number_bytes(number, size):
-    return number.to_bytes(size, "little")
-
-
-def sized_data(data):
-    return (bytes([len(data)]) if len(data) < 0xFD else b"\xfd" + number_bytes(len(data), 2)) + data
-
-
-def push(data):
-    return bytes([len(data)]) + data
-
-
-def number(n):
-    """The push of a number of up to three bytes."""
-    if n <= 16:
-        return bytes([0x50 + n]) if n else b"\0"
-    size = (n.bit_length() + 8) // 8
-    return push(number_bytes(n, size))
 
 
 def key(byte):
@@ -74,31 +43,12 @@ def point(secret):
     return b"\x02" + sha256(b"point" + secret)
 
 
-class Tx:
-    """A transaction of version 2 with one input; the outputs are pairs of a value and a program."""
+class Tx(Transaction):
+    """A transaction with one input, and its witness."""
 
     def __init__(self, outpoint, sequence, outputs, lock_time, witness=()):
-        self.outpoint, self.sequence, self.outputs, self.lock_time, self.witness = outpoint, sequence, outputs, lock_time, list(witness)
-
-    def points(self):
-        return self.outpoint[0] + number_bytes(self.outpoint[1], 4)
-
-    def ages(self):
-        return number_bytes(self.sequence, 4)
-
-    def payments(self):
-        return b"".join(number_bytes(value, 8) + sized_data(program) for value, program in self.outputs)
-
-    def stripped_bytes(self):
-        return number_bytes(2, 4) + b"\x01" + self.points() + b"\0" + self.ages() + bytes([len(self.outputs)]) + self.payments() + number_bytes(self.lock_time, 4)
-
-    def id(self):
-        return sha256d(self.stripped_bytes())
-
-    def signed_list(self, code, value):
-        """BIP 143."""
-        begin = number_bytes(2, 4) + sha256d(self.points()) + sha256d(self.ages()) + self.points() + sized_data(code) + number_bytes(value, 8) + self.ages()
-        return begin + sha256d(self.payments()) + number_bytes(self.lock_time, 4) + number_bytes(1, 4)
+        super().__init__([(outpoint[0] + little_endian(outpoint[1], 4), sequence)], outputs, lock_time)
+        self.outpoint, self.witness = outpoint, list(witness)
 
 
 def seed_secret(seed, number):
@@ -117,7 +67,7 @@ def secret_at(seed, n):
 
 class Channel:
     def __init__(self, grant, mine, theirs, delays=DELAYS, limits=LIMITS, their_bases=None):
-        self.grant, self.delays, self.limits = sha256d(b"grant" + number_bytes(grant, 8)), delays, limits
+        self.grant, self.delays, self.limits = sha256d(b"grant" + little_endian(grant, 8)), delays, limits
         self.bases = {side: {name: key(first + at) for at, name in enumerate(BASES)} for side, first in (("A", mine), ("B", theirs))}
         self.bases["B"].update(their_bases or {})
         keys = sorted(self.bases[side]["funding"] for side in "AB")
@@ -126,23 +76,15 @@ class Channel:
 
 
 def to_local_script(keys, delay):
-    return b"\x63" + push(keys["revocation"]) + b"\x67" + number(delay) + b"\xb2\x75" + push(keys["delayed"]) + b"\x68\xac"
-
-
-def to_key_script(public):
-    return b"\x76\xa9" + push(hash160(public)) + b"\x88\xac"
-
-
-def script_program(script):
-    return b"\0\x20" + sha256(script)
+    return b"\x63" + push(keys["revocation"]) + b"\x67" + pushed_number(delay) + b"\xb2\x75" + push(keys["delayed"]) + b"\x68\xac"
 
 
 def htlc_script(keys, is_offered, htlc):
-    begin = b"\x76\xa9" + push(hash160(keys["revocation"])) + b"\x87\x63\xac\x67" + push(keys["remote_htlc"]) + b"\x7c\x82" + number(32) + b"\x87"
+    begin = b"\x76\xa9" + push(hash160(keys["revocation"])) + b"\x87\x63\xac\x67" + push(keys["remote_htlc"]) + b"\x7c\x82" + pushed_number(32) + b"\x87"
     payment = push(ripemd160(sha256(filled_bytes(htlc.byte))))
     if is_offered:
         return begin + b"\x64\x75\x52\x7c" + push(keys["local_htlc"]) + b"\x52\xae\x67\xa9" + payment + b"\x88\xac\x68\x68"
-    return begin + b"\x63\xa9" + payment + b"\x88\x52\x7c" + push(keys["local_htlc"]) + b"\x52\xae\x67\x75" + number(htlc.expiry) + b"\xb1\x75\xac\x68\x68"
+    return begin + b"\x63\xa9" + payment + b"\x88\x52\x7c" + push(keys["local_htlc"]) + b"\x52\xae\x67\x75" + pushed_number(htlc.expiry) + b"\xb1\x75\xac\x68\x68"
 
 
 class Commitment:
@@ -175,14 +117,14 @@ class Commitment:
         fee = (724 + 172 * len(outputs)) * RATE // 1000
         left = {side: balances[side] - (fee if side == "A" else 0) for side in "AB"}
         remote = self.keys["remote"]
-        paid = [Output(left[owner], self.delayed, script_program(self.delayed), "ToLocal", None), Output(left[OTHER[owner]], to_key_script(remote), b"\0\x14" + hash160(remote), "ToRemote", None)]
+        paid = [Output(left[owner], self.delayed, script_program(self.delayed), "ToLocal", None), Output(left[OTHER[owner]], key_script(hash160(remote)), key_program(hash160(remote)), "ToRemote", None)]
         return sorted(outputs + [it for it in paid if it.value >= limit], key=lambda it: (it.value, it.program))
 
     def stage(self, at, output):
         """The HTLC transaction of an output."""
         is_offered = output.kind == "Offered"
         value = output.value - (663 if is_offered else 703) * RATE // 1000
-        return Tx((self.tx.id(), at), 0, [(value, script_program(self.delayed))], output.htlc.expiry if is_offered else 0)
+        return Tx((self.tx.txid(), at), 0, [(value, script_program(self.delayed))], output.htlc.expiry if is_offered else 0)
 
     def signed_transaction(self):
         return Signed(self.tx, self.channel.script, CAPACITY)
@@ -200,8 +142,8 @@ class Commitment:
 
     def locks(self):
         """The outputs that the commitment makes, by their outpoints."""
-        found = {(self.tx.id(), at): (it.script, it.value) for at, it in enumerate(self.outputs)}
-        found.update({(tx.id(), 0): (self.delayed, tx.outputs[0][0]) for tx in self.stages.values()})
+        found = {(self.tx.txid(), at): (it.script, it.value) for at, it in enumerate(self.outputs)}
+        found.update({(tx.txid(), 0): (self.delayed, tx.outputs[0][0]) for tx in self.stages.values()})
         return found
 
 
@@ -288,14 +230,14 @@ def recorded_values(channels, names):
         found.update({f"{name}_home_hash": hash160(it.bases["A"]["payment"]), f"{name}_away_hash": hash160(it.bases["B"]["payment"])})
     for name in names:
         it = COMMITMENTS[name]
-        found.update({f"{name}_id": it.tx.id(), f"{name}_digest": sha256d(it.tx.signed_list(it.channel.script, CAPACITY))})
+        found.update({f"{name}_id": it.tx.txid(), f"{name}_digest": it.tx.digest(it.channel.script, CAPACITY)})
         found.update({f"{name}_delayed": it.delayed, f"{name}_delayed_program": script_program(it.delayed)})
         found.update({f"{name}_keys.{word}": it.keys[word] for word in ("revocation", "delayed", "local_htlc", "remote_htlc")})
         if it.stages:
             found[f"{name}_revocation_hash"] = hash160(it.keys["revocation"])
         for at, tx in it.stages.items():
             signed, output = it.signed_stage(at), it.outputs[at]
-            found.update({f"{name}_stage_{at}_id": tx.id(), f"{name}_stage_{at}_digest": sha256d(tx.signed_list(signed.code, signed.value))})
+            found.update({f"{name}_stage_{at}_id": tx.txid(), f"{name}_stage_{at}_digest": tx.digest(signed.code, signed.value)})
             found.update({f"{name}_htlc_{at}": output.script, f"{name}_htlc_{at}_program": output.program, f"{name}_payment_{at}": ripemd160(sha256(filled_bytes(output.htlc.byte)))})
     return found
 
@@ -321,7 +263,7 @@ class Chain:
         self.blocks.append([])
 
     def add(self, tx, code, value, witness):
-        digest = sha256d(tx.signed_list(code, value))
+        digest = tx.digest(code, value)
         tx.witness = [it if isinstance(it, bytes) else it[0] + digest + b"\x01" for it in witness]
         self.blocks[-1].append(tx)
         return tx
@@ -339,7 +281,7 @@ class Chain:
         """A transaction that is named there: its id, and what its token is over."""
         code, value = spent or self.node.locks[outpoint]
         tx = self.add(Tx(outpoint, sequence, outputs, lock_time), code, value, witness)
-        self.own.update({f"{name}_id": tx.id(), f"{name}_digest": sha256d(tx.signed_list(code, value))})
+        self.own.update({f"{name}_id": tx.txid(), f"{name}_digest": tx.digest(code, value)})
         if released:
             self.given[released].append(Signed(tx, code, value))
         return tx
@@ -360,15 +302,15 @@ class Chain:
         named = self.named_transactions()
         items = [item for it in named for item in it.tx.witness]
         found = {**self.own, "items_hashed": [byte for it in items for byte in sha256(it)], "items_once": begins(sha256, items), "items_short": begins(hash160, items), "codes_once": begins(sha256, [it.code for it in named])}
-        lists = {"lists": lambda it: it.tx.signed_list(it.code, it.value), "points": lambda it: it.tx.points(), "ages": lambda it: it.tx.ages(), "payments": lambda it: it.tx.payments()}
+        lists = {"lists": lambda it: it.tx.signed_message(it.code, it.value), "points": lambda it: it.tx.outpoints(), "ages": lambda it: it.tx.sequences(), "payments": lambda it: it.tx.payments()}
         for name, spelled in lists.items():
             found.update({f"{name}_shown": begins(sha256d, map(spelled, named)), f"{name}_given": begins(sha256d, map(spelled, self.tokens()))})
         return found
 
 
-HOME = b"\0\x14" + hash160(key(0x11))
+HOME = key_program(hash160(key(0x11)))
 NEWEST, REVOKED = COMMITMENTS["first_newest"], COMMITMENTS["second_opened"]
-TO_REMOTE, TO_LOCAL = (NEWEST.tx.id(), 3), (REVOKED.tx.id(), 0)
+TO_REMOTE, TO_LOCAL = (NEWEST.tx.txid(), 3), (REVOKED.tx.txid(), 0)
 
 
 def peer_close():
@@ -380,18 +322,18 @@ def peer_close():
     it.stage("first_newest", 0, filled_bytes(7))
     it.take("punished", TO_LOCAL, [(7000, HOME)], [(REVOKED.keys["revocation"],), b"\x01", REVOKED.delayed], "second")
     it.add_block()
-    it.take("spent_on", (swept.id(), 0), [(57000, b"")], [(key(0x11),), key(0x11)], spent=(to_key_script(key(0x11)), 58000))
+    it.take("spent_on", (swept.txid(), 0), [(57000, b"")], [(key(0x11),), key(0x11)], spent=(key_script(hash160(key(0x11))), 58000))
     it.add_block()
     it.stage("first_newest", 1, b"")
     it.stage("second_opened", 1, b"")
     it.add_block()
     it.add_block()
-    it.take("slept", (REVOKED.stages[1].id(), 0), [(1000, b"")], [(REVOKED.keys["delayed"],), b"", REVOKED.delayed], sequence=2)
+    it.take("slept", (REVOKED.stages[1].txid(), 0), [(1000, b"")], [(REVOKED.keys["delayed"],), b"", REVOKED.delayed], sequence=2)
     return it.tables()
 
 
 def own_close():
-    it, remote, ids = Chain(), NEWEST.keys["remote_htlc"], NEWEST.tx.id()
+    it, remote, ids = Chain(), NEWEST.keys["remote_htlc"], NEWEST.tx.txid()
     it.close("first_newest")
     it.close("second_own")
     it.add_block()
@@ -410,10 +352,10 @@ def thefts():
     it.close("second_opened")
     it.add_block()
     it.take("takes_remote", TO_REMOTE, [(1000, b"")], [(key(0x11),), key(0x11)])
-    it.take("takes_offered", (NEWEST.tx.id(), 0), [(1000, b"")], [(revocation,), revocation, NEWEST.outputs[0].script])
+    it.take("takes_offered", (NEWEST.tx.txid(), 0), [(1000, b"")], [(revocation,), revocation, NEWEST.outputs[0].script])
     it.take("takes_local", TO_LOCAL, [(1000, b"")], [(REVOKED.keys["revocation"],), b"\x01", REVOKED.delayed])
     it.add_block()
-    it.take("takes_received", (NEWEST.tx.id(), 1), [(1000, b"")], [(revocation,), revocation, NEWEST.outputs[1].script])
+    it.take("takes_received", (NEWEST.tx.txid(), 1), [(1000, b"")], [(revocation,), revocation, NEWEST.outputs[1].script])
     return it.tables()
 
 
@@ -424,10 +366,10 @@ def one_seed():
     it, revocation = Chain(ONE_SEED), OWN.keys["revocation"]
     it.close("seeded_own")
     it.add_block()
-    it.take("takes_local", (OWN.tx.id(), 4), [(1000, b"")], [(revocation,), b"\x01", OWN.delayed])
-    it.take("takes_back", (OWN.tx.id(), 0), [(1000, b"")], [(revocation,), revocation, OWN.outputs[0].script])
+    it.take("takes_local", (OWN.tx.txid(), 4), [(1000, b"")], [(revocation,), b"\x01", OWN.delayed])
+    it.take("takes_back", (OWN.tx.txid(), 0), [(1000, b"")], [(revocation,), revocation, OWN.outputs[0].script])
     it.add_block()
-    it.take("takes_received", (OWN.tx.id(), 2), [(1000, b"")], [(revocation,), revocation, OWN.outputs[2].script])
+    it.take("takes_received", (OWN.tx.txid(), 2), [(1000, b"")], [(revocation,), revocation, OWN.outputs[2].script])
     it.given["seeded"] = [OWN.signed_transaction()]
     return it.tables()
 
@@ -437,12 +379,12 @@ def own_stages():
     it.close("seeded_own")
     it.add_block()
     it.stage("seeded_own", 2, filled_bytes(8))
-    it.take("pays", (OWN.tx.id(), 1), [(1000, b"")], [(OWN.keys["remote_htlc"],), filled_bytes(10), OWN.outputs[1].script])
+    it.take("pays", (OWN.tx.txid(), 1), [(1000, b"")], [(OWN.keys["remote_htlc"],), filled_bytes(10), OWN.outputs[1].script])
     it.add_block()
-    local = it.take("claims_local", (OWN.tx.id(), 4), [(58000, HOME)], [(delayed,), b"", OWN.delayed], sequence=2)
+    local = it.take("claims_local", (OWN.tx.txid(), 4), [(58000, HOME)], [(delayed,), b"", OWN.delayed], sequence=2)
     it.add_block()
     it.stage("seeded_own", 0, b"")
-    second = it.take("claims_second", (success.id(), 0), [(11000, HOME)], [(delayed,), b"", OWN.delayed], sequence=2)
+    second = it.take("claims_second", (success.txid(), 0), [(11000, HOME)], [(delayed,), b"", OWN.delayed], sequence=2)
     released = (success, OWN.stages[0], local, second)
     it.given["seeded"] = [*(Signed(tx, *ONE_SEED.locks[tx.outpoint]) for tx in released), OWN.signed_transaction()]
     return it.tables()
@@ -478,4 +420,6 @@ def main():
 
 
 if __name__ == "__main__":
+    if sys.argv[1:] == ["--help"]:
+        raise SystemExit(__doc__)
     sys.exit(main())

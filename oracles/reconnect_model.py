@@ -1,6 +1,6 @@
 #!/usr/bin/env python3
 """A model of connections that are cut and of nodes that start again (BOLT 2, "Message Retransmission"), written from BOLT 2 with lists and tuples. It reads nothing of
-the libraries, and bench/reconnecting.py compares these with it.
+the libraries, and oracles/reconnecting.py compares these with it.
 
   reconnect_model.py SECONDS [SEED]      plays at random for SECONDS of processor time, and prints what was seen
   reconnect_model.py drafts SECONDS      plays wrong drafts, and prints how each one fails
@@ -845,6 +845,8 @@ def check_summaries(count):
 
 
 if __name__ == "__main__":
+    if sys.argv[1:] in ([], ["--help"]):
+        raise SystemExit(__doc__)
     if sys.argv[1] == "drafts":
         sys.exit(drafts(float(sys.argv[2])))
     if sys.argv[1] == "pending":

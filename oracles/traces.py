@@ -1,18 +1,19 @@
 #!/usr/bin/env python3
 """Recomputes what `trace script` prints for the scripts whose listings the pages show, from the bytes and from those listings.
 
-  bench/traces.py            compares crates/trace/stdin and crates/trace/stdout with it; status 1 where they differ
-  bench/traces.py --write    writes them
+  oracles/traces.py            compares crates/trace/stdin and crates/trace/stdout with it; status 1 where they differ
+  oracles/traces.py --write    writes them
 
 A page, or a text of examples/commands, shows a listing as './enforce paths HEX' with its output, notes too. The opcodes, what pushes and scripts look like, programs, sentences, weights, what a witness has and who can take what it
 spends are computed here by rules of this file's own, from BIP 16, 141, 144, 174, 341 and 65, 68, 112 and docs/TRACE_SCRIPT.md.
 """
 import glob
-import hashlib
 import json
 import os
 import re
 import sys
+
+from bitcoin import compact_size, script_program
 
 TOP = os.path.dirname(os.path.dirname(os.path.abspath(__file__)))
 NAMES = {
@@ -219,20 +220,16 @@ def fact_object(line):
     return one
 
 
-def compact_length(n):
-    return 1 if n < 0xFD else 3 if n < 0x10000 else 5
-
-
 def weight(arity, facts, script, signature):
     """The bytes of the witness: the number of items, the items, and the script."""
-    total = compact_length(arity + 1) + compact_length(script) + script
+    total = len(compact_size(arity + 1)) + len(compact_size(script)) + script
     for slot in range(arity):
         sizes = {"is": lambda it: len(it["value"]) // 2, "size": lambda it: it["value"], "key": lambda it: 33, "token": lambda it: signature, "assigned": lambda it: signature}
         mine = [it for it in facts if it["holds"] and slot in it["slots"]]
         exact = [sizes[it["kind"]](it) for it in mine if it["kind"] in sizes]
         usual = max([{"hash": 32, "truth": 1}.get(it["kind"], 0) for it in mine], default=0)
         size = exact[0] if exact else usual
-        total += compact_length(size) + size
+        total += len(compact_size(size)) + size
     return total
 
 
@@ -342,7 +339,7 @@ def line_of(text, listing, notes):
     else:
         script = bytes.fromhex(text)
         ops = [] if listing == "TooLong" else opcodes(script)
-        program = "0020" + hashlib.sha256(script).hexdigest()
+        program = script_program(script).hex()
         told = {"bytes": len(script), "looks": looks(script), "program": program, "opcodes": opcode_objects(ops)}
         if isinstance(listing, str):
             told.update(refused=listing, byte=place(listing, ops, len(script)))
@@ -374,4 +371,6 @@ def main(words):
 
 
 if __name__ == "__main__":
+    if sys.argv[1:] == ["--help"]:
+        raise SystemExit(__doc__)
     sys.exit(main(sys.argv[1:]))

@@ -1,10 +1,10 @@
 #!/usr/bin/env python3
 """What has to be read to know what a contract says.
 
-  docs/reading.py WORD             WORD is a public function or law, as world::World::play or world::laws::claims_spend,
-                                   or a word of the definitions, as Rattle.world.specs.Theorem.HoldsAt
-  docs/reading.py --beyond WORD.. WORD   the list of the last word, without what stands in the lists of the words before it
-  docs/reading.py --facts WORD..   which facts show, of each relation of these words' lists, where it holds and where it does not; crate::module::* is each function there
+  .ci/reading.py WORD             WORD is a public function or law, as world::World::play or world::laws::claims_spend,
+                                  or a word of the definitions, as Rattle.world.specs.Theorem.HoldsAt
+  .ci/reading.py --beyond WORD.. WORD   the list of the last word, without what stands in the lists of the words before it
+  .ci/reading.py --facts WORD..   which facts show, of each relation of these words' lists, where it holds and where it does not; crate::module::* is each function there
 
 It walks from word to word. It begins with the word itself, of a function with its clauses (requires and ensures)
 and the types of its signature. Of each definition it takes every word that the definition cites, and so on. It

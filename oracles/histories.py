@@ -1,73 +1,15 @@
 """The books of both sides after a scenario's calls, as dumps, made anew.
 
-A channel is its messages by BOLT 2. Commitments, HTLC transactions and their scripts are those of BOLT 3, digests those of BIP 143, keys and tokens hashes (docs/DECISIONS.md). `python3 bench/histories.py FILE A` prints the dump
+A channel is its messages by BOLT 2. Commitments, HTLC transactions and their scripts are those of BOLT 3, digests those of BIP 143, keys and tokens hashes (docs/DECISIONS.md). `python3 oracles/histories.py FILE A` prints the dump
 of A's book. Nothing of the chain is played: broadcasts, blocks, looks and releases are left out.
 """
-import hashlib
 import json
-import struct
 import sys
 
-FINAL, VERSION = 0xFFFFFFFF, 2
-
-
-def sha256(*parts):
-    return hashlib.sha256(b"".join(parts)).digest()
-
-
-def sha256d(*parts):
-    return sha256(sha256(*parts))
-
-
-# ---- RIPEMD-160, since Python may lack it
-
-ORDERS = (
-    (0, 1, 2, 3, 4, 5, 6, 7, 8, 9, 10, 11, 12, 13, 14, 15), (7, 4, 13, 1, 10, 6, 15, 3, 12, 0, 9, 5, 2, 14, 11, 8), (3, 10, 14, 4, 9, 15, 8, 1, 2, 7, 0, 6, 13, 11, 5, 12),
-    (1, 9, 11, 10, 0, 8, 12, 4, 13, 3, 7, 15, 14, 5, 6, 2), (4, 0, 5, 9, 7, 12, 2, 10, 14, 1, 3, 8, 11, 6, 15, 13),
-    (5, 14, 7, 0, 9, 2, 11, 4, 13, 6, 15, 8, 1, 10, 3, 12), (6, 11, 3, 7, 0, 13, 5, 10, 14, 15, 8, 12, 4, 9, 1, 2), (15, 5, 1, 3, 7, 14, 6, 9, 11, 8, 12, 2, 10, 0, 4, 13),
-    (8, 6, 4, 1, 3, 11, 15, 0, 5, 12, 2, 13, 9, 7, 10, 14), (12, 15, 10, 4, 1, 5, 8, 7, 6, 2, 13, 14, 0, 3, 9, 11),
+from bitcoin import (
+    Transaction, hash160, key_program, key_script, little_endian, push, pushed_number, ripemd160, script_program,
+    sha256, sha256d,
 )
-TURNS = (
-    (11, 14, 15, 12, 5, 8, 7, 9, 11, 13, 14, 15, 6, 7, 9, 8), (7, 6, 8, 13, 11, 9, 7, 15, 7, 12, 15, 9, 11, 7, 13, 12), (11, 13, 6, 7, 14, 9, 13, 15, 14, 8, 13, 6, 5, 12, 7, 5),
-    (11, 12, 14, 15, 14, 15, 9, 8, 9, 14, 5, 6, 8, 6, 5, 12), (9, 15, 5, 11, 6, 8, 13, 12, 5, 12, 13, 14, 11, 8, 5, 6),
-    (8, 9, 9, 11, 13, 15, 15, 5, 7, 7, 8, 11, 14, 14, 12, 6), (9, 13, 15, 7, 12, 8, 9, 11, 7, 7, 12, 7, 6, 15, 13, 11), (9, 7, 15, 11, 8, 6, 6, 14, 12, 13, 5, 14, 13, 13, 7, 5),
-    (15, 5, 8, 11, 14, 14, 6, 14, 6, 9, 12, 9, 12, 5, 15, 8), (8, 5, 12, 9, 12, 5, 14, 6, 8, 13, 6, 5, 15, 13, 11, 11),
-)
-ADDED = (0, 0x5A827999, 0x6ED9EBA1, 0x8F1BBCDC, 0xA953FD4E, 0x50A28BE6, 0x5C4DD124, 0x6D703EF3, 0x7A6D76E9, 0)
-MIXED = (
-    lambda x, y, z: x ^ y ^ z, lambda x, y, z: (x & y) | (~x & z), lambda x, y, z: (x | ~y) ^ z, lambda x, y, z: (x & z) | (y & ~z), lambda x, y, z: x ^ (y | ~z),
-)
-
-
-def rotated_word(x, n):
-    x &= FINAL
-    return (x << n | x >> (32 - n)) & FINAL
-
-
-def line(words, state, rows):
-    a, b, c, d, e = state
-    for row in rows:
-        mix = MIXED[row if row < 5 else 9 - row]
-        for place, turn in zip(ORDERS[row], TURNS[row]):
-            a, e, d, c, b = e, d, rotated_word(c, 10), b, (rotated_word(a + mix(b, c, d) + words[place] + ADDED[row], turn) + e) & FINAL
-    return a, b, c, d, e
-
-
-def ripemd160(message):
-    state = (0x67452301, 0xEFCDAB89, 0x98BADCFE, 0x10325476, 0xC3D2E1F0)
-    padded = message + b"\x80" + b"\x00" * ((55 - len(message)) % 64) + struct.pack("<Q", 8 * len(message))
-    for at in range(0, len(padded), 64):
-        words = struct.unpack("<16I", padded[at : at + 64])
-        left, right = line(words, state, range(5)), line(words, state, range(5, 10))
-        state = tuple((state[(n + 1) % 5] + left[(n + 2) % 5] + right[(n + 3) % 5]) & FINAL for n in range(5))
-    return struct.pack("<5I", *state)
-
-
-def hash160(message):
-    return ripemd160(sha256(message))
-
-
-# ---- bytes
 
 FUNDING, PAYMENT, DELAYED, HTLC, REVOCATION, SECRETS = range(6)
 
@@ -78,42 +20,6 @@ def key_of(secret):
 
 def derived_key(base, point):
     return b"\x02" + sha256(b"derive", base, point)
-
-
-def push(item):
-    return bytes([len(item)]) + item
-
-
-def pushed_number(n):
-    return b"\x00" if n == 0 else bytes([0x50 + n]) if n <= 16 else push(n.to_bytes(n.bit_length() // 8 + 1, "little"))
-
-
-def compact_size(n):
-    return bytes([n]) if n < 0xFD else b"\xfd" + struct.pack("<H", n)
-
-
-def script_program(script):
-    return b"\x00\x20" + sha256(script)
-
-
-def output_bytes(outputs):
-    return b"".join(struct.pack("<Q", value) + push(program) for value, program in outputs)
-
-
-class Transaction:
-    """One input, without its witness."""
-
-    def __init__(self, outpoint, sequence, outputs, lock_time):
-        self.outpoint, self.sequence, self.outputs, self.lock_time = outpoint, struct.pack("<I", sequence), outputs, struct.pack("<I", lock_time)
-
-    def txid(self):
-        body = b"\x01" + self.outpoint + b"\x00" + self.sequence + compact_size(len(self.outputs)) + output_bytes(self.outputs)
-        return sha256d(struct.pack("<I", VERSION), body, self.lock_time)
-
-    def digest(self, code, value):
-        """What a signature of the input is over (BIP 143, hash type ALL)."""
-        spent = self.outpoint + compact_size(len(code)) + code + struct.pack("<Q", value) + self.sequence
-        return sha256d(struct.pack("<I", VERSION), sha256d(self.outpoint), sha256d(self.sequence), spent, sha256d(output_bytes(self.outputs)), self.lock_time, struct.pack("<I", 1))
 
 
 # ---- a channel
@@ -128,8 +34,8 @@ class Channel:
 
     def __init__(self, number, terms, seeds, index):
         self.terms = terms
-        self.funding = sha256d(b"grant", struct.pack("<Q", number)) + struct.pack("<I", index)
-        self.seeds = {side: sha256(b"channel", seeds[side], struct.pack("<I", number)) for side in "AB"}
+        self.funding = sha256d(b"grant", little_endian(number, 8)) + little_endian(index, 4)
+        self.seeds = {side: sha256(b"channel", seeds[side], little_endian(number, 4)) for side in "AB"}
         self.secrets = {side: [sha256(b"base", self.seeds[side], bytes([n])) for n in range(6)] for side in "AB"}
         self.bases = {side: [key_of(it) for it in self.secrets[side][:SECRETS]] for side in "AB"}
         self.made = {side: [] for side in "AB"}
@@ -193,11 +99,11 @@ class Commitment:
         if paid[owner] >= dust:
             found.append((paid[owner], script_program(self.to_local), 0, "to_local", self.to_local, None))
         if paid[peer] >= dust:
-            found.append((paid[peer], b"\x00\x14" + hash160(self.payment), 0, "to_remote", b"\x76\xa9\x14" + hash160(self.payment) + b"\x88\xac", None))
+            found.append((paid[peer], key_program(hash160(self.payment)), 0, "to_remote", key_script(hash160(self.payment)), None))
         self.outputs = sorted(found, key=lambda it: it[:3])
         opener = channel.terms["opener"]
         mask = int.from_bytes(sha256(channel.bases[opener][PAYMENT], channel.bases[peer_of(opener)][PAYMENT])[26:], "big") ^ number
-        self.tx = Transaction(channel.funding, 0x80 << 24 | mask >> 24, [it[:2] for it in self.outputs], 0x20 << 24 | mask & 0xFFFFFF)
+        self.tx = Transaction([(channel.funding, 0x80 << 24 | mask >> 24)], [it[:2] for it in self.outputs], 0x20 << 24 | mask & 0xFFFFFF)
 
     def stage_fee(self, offerer):
         return (663 if offerer == self.owner else 703) * self.feerate // 1000
@@ -215,7 +121,7 @@ class Commitment:
             if output[3] == "htlc":
                 offerer, htlc = output[5]
                 paid = [(output[0] - self.stage_fee(offerer), script_program(self.to_local))]
-                yield output, Transaction(self.tx.txid() + struct.pack("<I", index), 0, paid, htlc[4] if offerer == self.owner else 0)
+                yield output, Transaction([(self.tx.txid() + little_endian(index, 4), 0)], paid, htlc[4] if offerer == self.owner else 0)
 
     def signature(self):
         """The message by which the peer signs it."""
@@ -262,7 +168,7 @@ class Books:
         peer = peer_of(side)
         token = Commitment(it, side, 0, it.held[side][0]).signature()[1]
         terms = {name: it.terms[name] for name in sorted(it.terms)}
-        funding = f"{it.funding[:32].hex()}:{struct.unpack('<I', it.funding[32:])[0]}"
+        funding = f"{it.funding[:32].hex()}:{int.from_bytes(it.funding[32:], 'little')}"
         return ["open", terms, funding, side, it.seeds[side].hex(), [key.hex() for key in it.bases[peer]], [it.point(peer, n).hex() for n in (0, 1)], token]
 
     def play(self, name, side, number, it, rest):
@@ -302,5 +208,7 @@ class Books:
 
 
 if __name__ == "__main__":
+    if len(sys.argv) != 3 or sys.argv[2] not in ("A", "B"):
+        raise SystemExit(__doc__)
     with open(sys.argv[1], encoding="utf-8") as given:
         print(Books(json.load(given)).dump(sys.argv[2]))

@@ -1,5 +1,5 @@
 #!/usr/bin/env python3
-"""Compares the two sides of a channel with a model of their own (bench/reconnect_model.py), over random plays with cuts, restarts, sides put back to older states, and
+"""Compares the two sides of a channel with a model of their own (oracles/reconnect_model.py), over random plays with cuts, restarts, sides put back to older states, and
 hostile hellos, updates and messages.
 
   reconnecting.py PROGRAM [PLAYS] [SEED]     PROGRAM is bench/programs/reconnecting, as .ci/program builds it
@@ -331,4 +331,6 @@ def main():
 
 
 if __name__ == "__main__":
+    if sys.argv[1:] in ([], ["--help"]):
+        raise SystemExit(__doc__)
     sys.exit(main())

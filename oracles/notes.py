@@ -1,10 +1,10 @@
 #!/usr/bin/env python3
 """What `enforce` notes on standard error of scripts and of scenarios, by rules of this file's own.
 
-  bench/notes.py    status 1 where a call notes something else
+  oracles/notes.py    status 1 where a call notes something else
 
 Opcodes have the names of Bitcoin Core's script.h. Which branches end by a rule that is stricter than consensus is worked by hand from BIPs 65, 66, 112, 141 and 147, and from docs/ENFORCE.md. By which branches nobody can spend is
-worked out here with symbols for what a witness has. Scripts are run by consensus too, on items that are unlike: no run may end well that goes the way of such a branch. That two facts of a path contradict
+worked out by dead_ends.py. Scripts are run by consensus too, on items that are unlike: no run may end well that goes the way of such a branch. That two facts of a path contradict
 each other is found by trying items that are unlike in their bytes, their length, what they hash to, and whether they are true, a key or a token. The parts of scenarios are those of docs/SCENARIOS.md.
 """
 import json
@@ -13,23 +13,15 @@ import random
 import subprocess
 import sys
 
+import bitcoin
 from answers import LIMIT, program
-from consensus import CHECKLOCKTIMEVERIFY, CHECKMULTISIG, CHECKSEQUENCEVERIFY, CHECKSIG, DROP, DUP, ELSE, ENDIF, EQUAL, EQUALVERIFY, HASH160, HASHES, IF, MARK, NOTIF, SIZE, SWAP, Fails, goes_past, is_in_der, is_taken, is_true, opcodes
-from consensus import number as number_of
-from histories import hash160
+from consensus import HASHES, NAMES, goes_past, is_taken, opcodes
+from dead_ends import dead_ends, on_the_way
 
 TOP = os.path.dirname(os.path.dirname(os.path.abspath(__file__)))
 
 # ---- opcodes
 
-# the names from byte 4c on; those of numbers and of NOPs are made
-NAMES = """
-PUSHDATA1 PUSHDATA2 PUSHDATA4 1NEGATE RESERVED 1 2 3 4 5 6 7 8 9 10 11 12 13 14 15 16 NOP VER IF NOTIF VERIF VERNOTIF ELSE ENDIF VERIFY RETURN
-TOALTSTACK FROMALTSTACK 2DROP 2DUP 3DUP 2OVER 2ROT 2SWAP IFDUP DEPTH DROP DUP NIP OVER PICK ROLL ROT SWAP TUCK CAT SUBSTR LEFT RIGHT SIZE INVERT AND OR XOR
-EQUAL EQUALVERIFY RESERVED1 RESERVED2 1ADD 1SUB 2MUL 2DIV NEGATE ABS NOT 0NOTEQUAL ADD SUB MUL DIV MOD LSHIFT RSHIFT BOOLAND BOOLOR NUMEQUAL NUMEQUALVERIFY
-NUMNOTEQUAL LESSTHAN GREATERTHAN LESSTHANOREQUAL GREATERTHANOREQUAL MIN MAX WITHIN RIPEMD160 SHA1 SHA256 HASH160 HASH256 CODESEPARATOR CHECKSIG CHECKSIGVERIFY
-CHECKMULTISIG CHECKMULTISIGVERIFY NOP1 CHECKLOCKTIMEVERIFY CHECKSEQUENCEVERIFY NOP4 NOP5 NOP6 NOP7 NOP8 NOP9 NOP10 CHECKSIGADD
-""".split()
 CHECKSIGADD, PUSHDATA4 = 0xBA, 0x4E
 KNOWN = {*range(0x4C), *range(0x51, 0x61), 0x63, 0x64, 0x67, 0x68, 0x75, 0x76, 0x7C, 0x82, 0x87, 0x88, 0xA9, 0xAC, 0xAE, 0xB1, 0xB2}
 
@@ -67,7 +59,7 @@ EXACT = [f"{NONE}: each branch ends as in consensus"]
 
 
 def push(item):
-    return f"{len(item) // 2:02x}{item}"
+    return bitcoin.push(bytes.fromhex(item)).hex()
 
 
 def end(opcode, item, rule):
@@ -199,8 +191,8 @@ ENDS += [
     (f"5582528875{CHECK}", EXACT),
     (f"0082008875{CHECK}", strict_notes((6, LONG, NO_KEY))),
     (f"0082518875{CHECK}", EXACT),
-    (f"00a9{push(hash160(b'').hex())}88{CHECK}", strict_notes((5, LONG, NO_KEY))),
-    (f"51a9{push(hash160(b'').hex())}88{CHECK}", EXACT),
+    (f"00a9{push(bitcoin.hash160(b'').hex())}88{CHECK}", strict_notes((5, LONG, NO_KEY))),
+    (f"51a9{push(bitcoin.hash160(b'').hex())}88{CHECK}", EXACT),
     # zero with a sign is false, and so is zero of two bytes; one of two bytes is true
     *((f"{push(it)}63{CHECK}6800", EXACT) for it in ("80", "0080", "0000")),
     *((f"{push(it)}63{CHECK}6800", strict_notes((3, LONG, NO_KEY))) for it in ("81", "0100", "8000")),
@@ -215,202 +207,6 @@ ENDS += [
     (f"{push(it)}{push(KEY)}ac", EXACT)
     for it in ("310602010102010101", "300702010102010101", "300502010102010101", "300602018002010101", "30070202000102010101", "3005020002010101", "300602010103010101", "30070201010201010101", "30060201010201")
 ]
-
-# ---- branches by which nobody can spend
-
-# what a witness decides: an item of it, the hash or the length of one, and the answer of a check
-ITEM, HASHED, LENGTH, ANSWER = "item", "hash", "length", "answer"
-
-
-class Dies(Exception):
-    """Consensus refuses each run of a branch."""
-
-
-class Strict(Exception):
-    """A branch ends by a stricter rule."""
-
-
-def counted(item):
-    return f"{item.hex()} ({len(item)} byte{'s' * (len(item) != 1)})" if item else "the empty item"
-
-
-def is_minimal(item):
-    return not item or item[-1] & 0x7F or len(item) > 1 and item[-2] & 0x80
-
-
-def shown(top, below):
-    """What is shown of two entries: the lower one, or the upper one where the lower one has no bytes of the script."""
-    return next((it for it in (below, top) if isinstance(it, bytes) and it), b"")
-
-
-def equal(one, other):
-    """What EQUAL leaves of two entries."""
-    if not isinstance(one, bytes):
-        one, other = other, one
-    if not isinstance(one, bytes) or other in (ITEM, ANSWER):
-        return ANSWER
-    if isinstance(other, bytes):
-        may_hold = one == other
-        return b"\1" if may_hold else b""
-    fits = len(one) == 20 if other == HASHED else len(one) <= 4 and is_minimal(one) and 0 <= number_of(one, 4) <= 520
-    return ANSWER if fits else b""
-
-
-def check_signature(stack):
-    key, signature = stack.pop(), stack.pop()
-    if isinstance(signature, bytes) and signature and not is_in_der(signature):
-        raise Dies(f"{counted(signature)} is no signature in DER (BIP 66): is a DROP missing?")
-    if isinstance(key, bytes) and not is_key(key) or isinstance(signature, bytes) and signature:
-        raise Strict
-    return b"" if signature == b"" else ANSWER
-
-
-def is_key(item):
-    return len(item) == 33 and item[0] in (2, 3)
-
-
-def count_in(stack, limit):
-    """The number on top, of what CHECKMULTISIG counts."""
-    item = stack.pop()
-    if not isinstance(item, bytes):
-        raise Strict
-    if len(item) > 4 or not 0 <= number_of(item, 4) <= limit:
-        raise Dies(f"{counted(item)} is no number of keys (0 to 20), nor of signatures (0 to that of the keys)")
-    if not is_minimal(item):
-        raise Strict
-    return number_of(item, 4)
-
-
-def check_signatures(stack):
-    keys = [stack.pop() for _ in range(count_in(stack, 20))]
-    signatures = [stack.pop() for _ in range(count_in(stack, len(keys)))]
-    extra = stack.pop()
-    if signatures and isinstance(signatures[0], bytes) and signatures[0] and not is_in_der(signatures[0]):
-        raise Dies(f"{counted(signatures[0])} is no signature in DER (BIP 66): is a DROP missing?")
-    if isinstance(extra, bytes) and extra:
-        raise Dies(f"{counted(extra)} is the extra item of CHECKMULTISIG, which has to be empty (BIP 147)")
-    if any(isinstance(it, bytes) and not is_key(it) for it in keys):
-        raise Strict
-    return ANSWER if signatures else b"\1"
-
-
-def check_lock(item):
-    if len(item) > 5:
-        raise Dies(f"{counted(item)} is no lock, which has at most 5 bytes")
-    if number_of(item, 5) < 0:
-        says = f"is {number_of(item, 5)}, and no lock is negative" if is_minimal(item) else "is negative, and no lock is"
-        raise Dies(f"{counted(item)} {says} (a number is little-endian)")
-    if not is_minimal(item):
-        raise Strict
-
-
-class Symbols(list):
-    """A stack, below which are the items of the witness."""
-
-    def pop(self):
-        return super().pop() if self else ITEM
-
-
-def run_opcode(op, stack):
-    """Runs an opcode that opens, turns and closes no branch."""
-    if isinstance(op, bytes):
-        stack.append(op)
-    elif op in (CHECKSIG, CHECKMULTISIG):
-        stack.append(check_signature(stack) if op == CHECKSIG else check_signatures(stack))
-    elif op in (EQUAL, EQUALVERIFY):
-        top, below = stack.pop(), stack.pop()
-        found = equal(below, top)
-        if op == EQUAL:
-            stack.append(found)
-        elif found == b"":
-            item = shown(top, below)
-            raise Dies(f"{counted(item)} never equals what it is compared with" + ": a HASH160 has 20 bytes" * (len(item) == 32))
-    else:
-        top = stack.pop()
-        if op == HASH160:
-            stack.append(hash160(top) if isinstance(top, bytes) else HASHED if top == ITEM else ANSWER)
-        elif op == SWAP:
-            below = stack.pop()
-            stack += [top, below]
-        elif op != DROP:
-            stack.append(top)
-            if op in (CHECKLOCKTIMEVERIFY, CHECKSEQUENCEVERIFY) and isinstance(top, bytes):
-                check_lock(top)
-            elif op == DUP:
-                stack.append(top)
-            elif op == SIZE:
-                sizes = {ITEM: LENGTH, HASHED: b"\x14"}
-                stack.append(bytes([len(top)] * bool(top)) if isinstance(top, bytes) else sizes.get(top, ANSWER))
-
-
-def last_end(stack):
-    """How a branch ends after the last opcode, if consensus refuses that."""
-    if len(stack) > 1:
-        item = shown(stack[-1], stack[-2])
-        return ": after the last opcode it leaves two or more elements" + (f", {counted(item)} among them" if item else "") + ", and BIP 141 wants one: is a DROP missing?"
-    if stack and isinstance(stack[0], bytes) and not is_true(stack[0]):
-        return f": after the last opcode it leaves {counted(stack[0])}, which is false"
-    return None
-
-
-def branches_of(ops, at=0, stack=(), ifs=(), ways=()):
-    """Each branch: where it goes on at each IF and NOTIF whose condition the witness decides, and how it ends where consensus refuses it."""
-    stack = Symbols(stack)
-    for at in range(at, len(ops)):
-        op = ops[at]
-        if op in (IF, NOTIF):
-            top = stack.pop() if all(ifs) else b""
-            if all(ifs) and not isinstance(top, bytes):
-                for runs in (True, False):
-                    yield from branches_of(ops, at + 1, stack, (*ifs, runs), (*ways, (at, runs)))
-                return
-            ifs = (*ifs, all(ifs) and is_true(top) == (op == IF))
-        elif op == ELSE:
-            ifs = (*ifs[:-1], not ifs[-1])
-        elif op == ENDIF:
-            ifs = ifs[:-1]
-        elif all(ifs):
-            try:
-                run_opcode(op, stack)
-            except Dies as dies:
-                yield ways, f": it ends at opcode {at}, where {dies}"
-                return
-            except Strict:
-                yield ways, None
-                return
-    yield ways, last_end(stack)
-
-
-def other_part(ops, at):
-    """The place of the ELSE of an IF or NOTIF, or of its ENDIF where it has none."""
-    depth = 0
-    for place in range(at + 1, len(ops)):
-        if depth == 0 and ops[place] in (ELSE, ENDIF):
-            return place
-        depth += (ops[place] in (IF, NOTIF)) - (ops[place] == ENDIF)
-    raise ValueError
-
-
-def dead_ends(code):
-    """The ways of the branches by which nobody can spend, and the note on each."""
-    ops = opcodes(bytes.fromhex(code))
-    for ways, dies in branches_of(ops):
-        if dies:
-            places = [at if runs else other_part(ops, at) for at, runs in ways]
-            after = ", then the ".join(f"{NAMES[ops[at] - 0x4C]} at opcode {at}" for at in places)
-            yield ways, f"nobody can spend by the {f'branch after the {after}' if ways else 'only branch'}{dies}"
-
-
-def on_the_way(code, ways):
-    """The opcodes of a script, which no run goes past that leaves this way."""
-    ops = opcodes(bytes.fromhex(code))
-    marks = []
-    for at, runs in ways:
-        place = other_part(ops, at)
-        marks.append((at + 1, [MARK]) if not runs else (place + 1, [MARK]) if ops[place] == ELSE else (place, [ELSE, MARK]))
-    for place, mark in sorted(marks, reverse=True):
-        ops[place:place] = mark
-    return ops
 
 
 def with_dead_ends(code, notes):
@@ -541,8 +337,7 @@ def contradict(one, other):
 
 
 def number(n):
-    size = (n.bit_length() + 8) // 8
-    return "00" if n == 0 else f"{0x50 + n:02x}" if n <= 16 else push(n.to_bytes(size, "little").hex())
+    return bitcoin.pushed_number(n).hex()
 
 
 def fact_opcodes(fact):
@@ -799,4 +594,6 @@ def main():
 
 
 if __name__ == "__main__":
+    if sys.argv[1:] == ["--help"]:
+        raise SystemExit(__doc__)
     sys.exit(main())

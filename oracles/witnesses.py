@@ -1,18 +1,20 @@
 #!/usr/bin/env python3
 """Transactions for `trace witness`, with digests made anew by BIP 143, and what is said of their inputs, worked by hand from BIPs 65, 112, 141 and 147.
 
-  bench/witnesses.py            compares what ./trace witness prints of all inputs of one transaction, and of four of another one, with it; status 1 where they differ
-  bench/witnesses.py --given    prints the text of the first one that `trace witness` reads; --json and --pages print what it answers
+  oracles/witnesses.py            compares what ./trace witness prints of all inputs of one transaction, and of four of another one, with it; status 1 where they differ
+  oracles/witnesses.py --given    prints the text of the first one that `trace witness` reads; --json and --pages print what it answers
 """
-import hashlib
 import json
 import os
-import struct
 import subprocess
 import sys
 
+from bitcoin import (
+    VERSION, Transaction, compact_size, key_program, key_script, little_endian, script_program, sized_data,
+)
+
 TOP = os.path.dirname(os.path.dirname(os.path.abspath(__file__)))
-VERSION, LOCK_TIME = 2, 120
+LOCK_TIME = 120
 FINAL = 0xFFFFFFFF
 KEYS = [bytes([2]) + bytes([byte]) * 32 for byte in (0x11, 0x22)]
 # HASH160 of the first key
@@ -67,19 +69,6 @@ SAYS = {
     "OtherScript": "the last item of the witness has another hash than the program",
     "BadOpcode 1": "the last item of the witness is no script of the opcodes here",
 }
-
-
-def script_program(script):
-    return b"\x00\x20" + hashlib.sha256(script).digest()
-
-
-def key_program(key_hash):
-    return b"\x00\x14" + key_hash
-
-
-def key_script(key_hash):
-    """The script code of a key's hash (BIP 143)."""
-    return b"\x76\xa9\x14" + key_hash + b"\x88\xac"
 
 
 def clean_run(path, counted, height):
@@ -160,29 +149,15 @@ def value(index):
     return 1000 * index + 5
 
 
-def sha256d(message):
-    return hashlib.sha256(hashlib.sha256(message).digest()).digest()
-
-
-def compact_size(n):
-    return bytes([n]) if n < 0xFD else b"\xfd" + struct.pack("<H", n)
-
-
-def outpoint(index):
-    return bytes([index + 1]) * 32 + struct.pack("<I", 0)
-
-
-def output(amount, program):
-    return struct.pack("<Q", amount) + compact_size(len(program)) + program
+def transaction_of(rows):
+    """The transaction without its witnesses. Each input spends the first output of a transaction of its own."""
+    inputs = [(bytes([index + 1]) * 32 + little_endian(0, 4), row[0]) for index, row in enumerate(rows)]
+    return Transaction(inputs, OUTPUTS, LOCK_TIME)
 
 
 def digest(rows, index):
     """The digest for an input (BIP 143, hash type ALL)."""
-    sequence, _, code, _, _ = rows[index]
-    signed = struct.pack("<I", VERSION) + sha256d(b"".join(outpoint(it) for it in range(len(rows)))) + sha256d(b"".join(struct.pack("<I", it[0]) for it in rows))
-    signed += outpoint(index) + compact_size(len(code)) + code + struct.pack("<Q", value(index)) + struct.pack("<I", sequence)
-    signed += sha256d(b"".join(output(*it) for it in OUTPUTS)) + struct.pack("<I", LOCK_TIME) + struct.pack("<I", 1)
-    return sha256d(signed)
+    return transaction_of(rows).digest(rows[index][2], value(index), index)
 
 
 def bytes_of(item, rows, index):
@@ -196,13 +171,11 @@ def bytes_of(item, rows, index):
 
 def given_text(rows):
     """The text that is read."""
-    tx = struct.pack("<I", VERSION) + b"\x00\x01" + compact_size(len(rows))
-    tx += b"".join(outpoint(index) + b"\x00" + struct.pack("<I", row[0]) for index, row in enumerate(rows))
-    tx += compact_size(len(OUTPUTS)) + b"".join(output(*it) for it in OUTPUTS)
+    tx = little_endian(VERSION, 4) + b"\x00\x01" + transaction_of(rows).body()
     for index, row in enumerate(rows):
         items = [bytes_of(item, rows, index) for item in row[3]]
-        tx += compact_size(len(items)) + b"".join(compact_size(len(item)) + item for item in items)
-    lines = [(tx + struct.pack("<I", LOCK_TIME)).hex()] + [f"{value(index)} {row[1].hex()}" for index, row in enumerate(rows)]
+        tx += compact_size(len(items)) + b"".join(map(sized_data, items))
+    lines = [(tx + little_endian(LOCK_TIME, 4)).hex()] + [f"{value(index)} {row[1].hex()}" for index, row in enumerate(rows)]
     return "".join(f"{line}\n" for line in lines)
 
 
@@ -257,4 +230,6 @@ def main(words):
 
 
 if __name__ == "__main__":
+    if sys.argv[1:] == ["--help"]:
+        raise SystemExit(__doc__)
     sys.exit(main(sys.argv[1:]))
