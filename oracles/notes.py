@@ -236,10 +236,12 @@ def lock_rows():
         is_plain = age > 0 and n in (age, age + (1 << 22))
         waits = [units_note(age)] * (n >> 22 & 1 and not n >> 31 & 1 and age > 0)
         yield f"{number(n)}b275{push(KEY)}ac", [f"opcode 1, CHECKSEQUENCEVERIFY of {n}, asks for {asks}"] * (not is_plain) + waits
-    # lock times: the greatest of 4 bytes, one more, the greatest of 5 bytes, and of two paths the second
+    # lock times: the greatest that a median time past is above, the greatest of 4 bytes, one more, the greatest of 5 bytes, and of two paths the second
     beyond = "a lock time has 4 bytes, so it is at most 4294967295"
-    for n in (500, 499_999_999, 500_000_000, 2**32 - 1, 2**32, 2**39 - 1):
-        yield f"{number(n)}b175{push(KEY)}ac", [f"no transaction has the lock time of path 0: {beyond}"] * (n >= 2**32) + [time_note(n)] * (500_000_000 <= n < 2**32)
+    never = "nobody can ever spend by path 0: its lock time is 4294967295, and no median time past is above that (BIP 113)"
+    for n in (500, 499_999_999, 500_000_000, 2**32 - 2, 2**32 - 1, 2**32, 2**39 - 1):
+        beyond_or_never = [f"no transaction has the lock time of path 0: {beyond}"] * (n >= 2**32) + [never] * (n == 2**32 - 1)
+        yield f"{number(n)}b175{push(KEY)}ac", beyond_or_never + [time_note(n)] * (500_000_000 <= n < 2**32 - 1)
     yield f"6351{number(499)}b17567{number(2**32)}b1755168", [f"no transaction has the lock time of path 1: {beyond}", "anyone can spend by path 0: no signature of a key that the script fixes is asked for"]
 
 
@@ -375,6 +377,8 @@ def spender_notes(facts, slots):
             yield "anyone can spend by path 0: no signature of a key that the script fixes is asked for"
     if any(kind == "key" and ("hash", slot) in held for kind, slot in held):
         yield "a key is taken by its hash on path 0: by consensus, though not by relay policy, an uncompressed key with that hash is taken too"
+    if any(kind in ("token", "assigned") and ("hash", slot) in held for kind, slot in held):
+        yield "a signature with a given hash is asked for on path 0: what it signs has that hash in it, so nobody can ever make one"
 
 
 def wait_notes(facts):

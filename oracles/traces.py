@@ -71,7 +71,7 @@ WAITS = "path 0 waits {} unit{} of 512 seconds, which its age does not tell: tha
 # what enforce notes of the scripts above
 NOTES = {
     **{it: [ANYONE] for it in [*SIZES, NUMBERS, FEW_KEYS, LAST, *UNITS, BLOCK, "", "0181", "01ff75", "02ff0075", "4b" + "00" * 75 + "75"]},
-    LAST: [ANYONE, "path 0 waits until the median time past is above 4294967295: its lock is a time, in seconds since 1970 (BIP 113)"],
+    LAST: ["nobody can ever spend by path 0: its lock time is 4294967295, and no median time past is above that (BIP 113)"],
     **{it: [ANYONE, WAITS.format(count, "s" * (count != 1))] for count, it in enumerate(UNITS)},
     NEVER: ["no transaction has the lock time of path 0: a lock time has 4 bytes, so it is at most 4294967295"],
     UNITS[0]: [ANYONE, "opcode 1, CHECKSEQUENCEVERIFY of 4194304, asks for an age of 0 units of 512 seconds: of a number only bits 0 to 15, 22 and 31 count (BIP 68)"],

@@ -150,7 +150,8 @@ def givens(told):
     late = {**asked["outputs"][1], "value": 1_000_000_000}
     paying = {**asked, "outputs": [late], "preimages": []}
     for most, limit in (({}, 250_000), ({"most_feerate_per_kw": 300}, 300), ({"most_feerate_per_kw": 1_000_000}, 1_000_000)):
-        yield {**paying, **most, "feerate_per_kw": limit}, None, []
+        raised = [f"the feerate is {limit // 250} satoshis for a virtual byte, and above the limit that holds without most_feerate_per_kw"] * (limit > 250_000)
+        yield {**paying, **most, "feerate_per_kw": limit}, None, raised
         over = f"{limit + 1} satoshis for 1,000 units of weight are {(limit + 1) // 250} for a virtual byte; most_feerate_per_kw raises the limit of {limit}"
         yield {**paying, **most, "feerate_per_kw": limit + 1}, ("TooHighFeerate", 14), [over]
     for feerate, notes in ((253, []), (252, ["nodes pass on no transaction below a feerate_per_kw of 253 by default"])):
@@ -159,14 +160,61 @@ def givens(told):
     for value, notes in ((10 * fee, []), (10 * fee - 1, [f"the fee is above a tenth of the value: {fee} of {10 * fee - 1} satoshis"])):
         yield {**paying, "outputs": [{**late, "value": value}], "feerate_per_kw": 1000}, None, notes
     key = told["terms"]["keys"]["remote_htlcpubkey"]
-    for destination in ("5103" + "11" * 3, "6003" + "11" * 3, *(it for it, _ in DUST)):
-        yield {**paying, "destination": destination}, None, []
+    for destination in ("5103" + "11" * 3, "6003" + "11" * 3, "5220" + "11" * 32, *(it for it, _ in DUST)):
+        yield {**paying, "destination": destination}, None, destination_notes(destination)
     cut = [it[:-2] for it, _ in DUST] + ["0014" + "11" * 19, "0015" + "11" * 21, "001f" + "11" * 31, "0021" + "11" * 33]
     other = ["5102" + "11" * 2, "6029" + "11" * 41, "5020" + "11" * 32, "6120" + "11" * 32, "", "6a0400010203", key, f"21{key}ac", late["script"]]
     for destination in (*cut, *other):
         yield {**paying, "destination": destination}, ("BadDestination", 13), [PAID]
     yield {**paying, "destination": "", "feerate_per_kw": 250_001}, ("BadDestination", 13), [PAID]
-    yield {**paying, "destination": "", "outputs": [{**late, "value": 400}]}, ("Dust", 10), []
+    poor = {**paying, "destination": "", "outputs": [{**late, "value": 400}]}
+    # an output without a program has 9 bytes, and an input that spends it 148 (BIP 141)
+    yield poor, ("Dust", 10), [dust_note(wanted_plan(told, poor, [0], 501)["fee"], 400, 3 * (9 + 148))]
+
+
+def dust_note(fee, total, least):
+    return f"the fee is {fee} of {total} satoshis, and nodes relay no less than {least} to this destination: {total - fee} are left"
+
+
+def destination_notes(destination):
+    """What is noted of a program that is paid: no rule stands for later versions, nor for taproot with another length (BIP 341)."""
+    code, size = int(destination[:2], 16), int(destination[2:4], 16)
+    if not 0x51 <= code <= 0x60:
+        return []
+    if (code, size) == (0x51, 32):
+        return ["destination: it is not tested whether its 32 bytes are a key of the curve: if they are none, nobody can spend from it (BIP 341)"]
+    return [f"destination: anyone can spend from it today: no rule stands yet for witness version {code - 0x50} with {size} bytes"]
+
+
+def named(told):
+    """Requests that are refused, with the note that names the output, the slot or the amounts; and plans with a note on a slot."""
+    asked, _, _ = next(requests(told))
+    first, late = asked["outputs"]
+    wanted, key = first["slots"][0][1], told["terms"]["keys"]["remote_htlcpubkey"]
+    fee = wanted_plan(told, {**asked, "outputs": [late], "preimages": [], "feerate_per_kw": 1000}, [0], 501)["fee"]
+    fixed = {**late, "shell": "02000000" + "01" + late["outpoint"][:64] + "02000000" + "00" + "00000000" + "00" + "00000000"}
+    measured = keyed_claim(told, "82014288", 2000)
+    time = "no claim waits for a time: here lock times are heights, and ages are blocks"
+    yield {**asked, "outputs": [first, late, late]}, ("SameOutpoint", 5), ["outputs[2]: outputs[1] is the same one"]
+    yield {**asked, "outputs": [first, fixed]}, ("FixedTransaction", 4), ["outputs[1].shell: wanted: null"]
+    yield {**asked, "outputs": [first, measured]}, ("MeasuredSignature", 6), ["outputs[1].slots[0]: the path asks for more of this signature than that it is valid: size 0 66 yes"]
+    yield {**asked, "outputs": [late, first], "preimages": ["01" * 32]}, ("NoPreimage", 7), [f"outputs[1].slots[0]: preimages has none whose SHA-256 is {wanted}"]
+    yield {**asked, "outputs": [first, {**late, "value": MAX_MONEY}]}, ("ValueTooLarge", 8), [f"the outputs have {MAX_MONEY + first['value']} satoshis together, and there are at most {MAX_MONEY}"]
+    yield {**asked, "outputs": [{**late, "value": fee}], "feerate_per_kw": 1000}, ("NothingLeft", 9), [f"the fee is {fee} satoshis, and the outputs have {fee} together"]
+    yield {**asked, "outputs": [{**late, "value": fee + 293}], "feerate_per_kw": 1000}, ("Dust", 10), [dust_note(fee, fee + 293, 294)]
+    yield {**asked, "outputs": [first, keyed_claim(told, "040065cd1db175", 2000)]}, ("BadClaim", 3), [f"outputs[1].path: Unmet lock 500000000: {time}"]
+    yield {**asked, "outputs": [first, keyed_claim(told, "03010040b275", 2000)]}, ("BadClaim", 3), [f"outputs[1].path: Unmet age 4194305: {time}"]
+
+
+def conditions(told):
+    """Plans by the first of two ways, and what is noted of the item that IF takes."""
+    asked, _, _ = next(requests(told))
+    key = told["terms"]["keys"]["remote_htlcpubkey"]
+    script = f"6321{key}ac675168"
+    output = {"outpoint": "07" * 32 + ":0", "path": 0, "program": "0020" + sha256(bytes.fromhex(script)).hex(), "script": script, "shell": None, "value": 1_000_000}
+    minimal = "outputs[0].slots[0]: nodes pass on no IF or NOTIF of anything but the empty item and 01 (minimal IF)"
+    for item, notes in (("01", []), ("02", [minimal]), ("0100", [minimal])):
+        yield {**asked, "outputs": [{**output, "slots": [["exact", item], ["sig", key]]}], "preimages": []}, notes
 
 
 def without(it, name):
@@ -199,7 +247,8 @@ def bad_shapes(told):
         yield changed_request(asked, **members), note
     yield line(without(asked, "feerate_per_kw")), "feerate_per_kw: it is missing"
     yield line(asked).replace('"feerate_per_kw":253', '"feerate_per_kw":500,"feerate_per_kw":253'), "feerate_per_kw: a member of this name stands twice in one object"
-    yield line(asked).replace('"path":2', '"path":1,"path":2', 1), "path: a member of this name stands twice in one object"
+    yield line(asked).replace('"path":2', '"path":1,"path":2', 1), "outputs[0].path: a member of this name stands twice in one object"
+    yield line({**asked, "outputs": [both[0], both[1]]}).replace('"path":2', '"path":1,"path":2').replace('"path":1,"path":2', '"path":2', 1), "outputs[1].path: a member of this name stands twice in one object"
     for members, note in (
         ({"value": 0.001}, "value: wanted: satoshis, as an integer without point, sign and quotes"),
         ({"value": "100000"}, "value: wanted: satoshis, as an integer without point, sign and quotes"),
@@ -297,6 +346,12 @@ def ask(count):
         found = spend_answers(line(asked))
         wanted = (line(wanted_plan(told, asked, [0], 501)), 0) if refusal is None else (line({"refused": refusal[0], "number": refusal[1]}), 1)
         count.check(found == (*wanted, notes), f"a destination and a feerate: {found}")
+    for asked, refusal, notes in named(told):
+        found = spend_answers(line(asked))
+        count.check(found == (line({"refused": refusal[0], "number": refusal[1]}), 1, notes), f"a refusal whose cause is told: {found}")
+    for asked, notes in conditions(told):
+        found = spend_answers(line(asked))
+        count.check(found == (line(wanted_plan(told, asked, [0], 0)), 0, notes), f"a plan by an IF: {found}")
     for text, name, number, notes in faults(told):
         found = spend_answers(text)
         count.check(found == (line({"refused": name, "number": number}), 1, notes), f"a fault that is to be named by {notes}: {found}")

@@ -1,4 +1,4 @@
-// Notes on a fulfil in one channel of an HTLC whose hash stands in another channel too.
+// Notes on a preimage that a side has from one channel, and does not use in another one.
 
 use digest::sha256;
 use scenario::Event;
@@ -7,9 +7,9 @@ use std::fmt::Write;
 use terms::Side;
 use updates::OwnUpdate;
 
-// A side's fulfil of an HTLC.
+// A preimage that a side has by a fulfil in a channel.
 #[derive(Clone, Copy)]
-struct Fulfil {
+struct Known {
     side: Side,
     channel: u64,
     preimage: [u8; 32],
@@ -17,50 +17,71 @@ struct Fulfil {
     hash: [u8; 32],
 }
 
-/// Notes the first fulfil of a side whose peer offers the same hash in another channel too, if that channel is closed, and the side neither fulfils by this preimage nor fails anything there. There are
-/// this many channels.
+/// Notes the first fulfil of a side, and the first one that its peer is sent, whose hash the peer offers in another channel too, if that channel is closed, and the side does not remove that HTLC
+/// there. There are this many channels.
 pub fn note_fulfil(
     notes: &mut String,
     channels: usize,
     events: &[Event],
 ) -> Result<(), AllocError> {
+    note_own(notes, channels as u64, events)?;
+    note_learnt(notes, channels as u64, events)
+}
+
+// Notes the first fulfil of a side whose preimage it does not use in another channel.
+fn note_own(notes: &mut String, channels: u64, events: &[Event]) -> Result<(), AllocError> {
     for (index, event) in events.iter().enumerate() {
         if let Some(fulfil) = fulfil_in(event) {
-            if let Some(place) = left_in(channels as u64, events, &fulfil) {
-                return write_fulfil(notes, index, &fulfil, place);
+            if let Some(place) = left_in(channels, events, &fulfil) {
+                let (side, channel) = (name_of(fulfil.side), fulfil.channel);
+                return writeln!(
+                    notes,
+                    "note: event {index}: {side} fulfils an HTLC of this hash in channel {channel}, and not in channel {place}: a fulfil in one channel is not known in another"
+                );
             }
         }
     }
     Ok(())
 }
 
-// Writes that a side fulfils in one channel, and not in the other.
-fn write_fulfil(
-    notes: &mut String,
-    index: usize,
-    fulfil: &Fulfil,
-    place: u64,
-) -> Result<(), AllocError> {
-    let channel = fulfil.channel;
-    let side = match fulfil.side {
+// Notes the first fulfil by which the peer learns a preimage that it does not use in another channel.
+fn note_learnt(notes: &mut String, channels: u64, events: &[Event]) -> Result<(), AllocError> {
+    for (index, event) in events.iter().enumerate() {
+        if let Some(fulfil) = fulfil_in(event) {
+            let learnt = Known {
+                side: fulfil.side.other(),
+                ..fulfil
+            };
+            if is_delivered(events, index, &learnt) {
+                if let Some(place) = left_in(channels, events, &learnt) {
+                    let (side, channel) = (name_of(learnt.side), learnt.channel);
+                    return writeln!(
+                        notes,
+                        "note: event {index}: {side} learns by this fulfil in channel {channel} the preimage of an HTLC in channel {place}, and does not fulfil that one: a fulfil in one channel is not known in another"
+                    );
+                }
+            }
+        }
+    }
+    Ok(())
+}
+
+fn name_of(side: Side) -> &'static str {
+    match side {
         Side::A => "A",
         Side::B => "B",
-    };
-    writeln!(
-        notes,
-        "note: event {index}: {side} fulfils an HTLC of this hash in channel {channel}, and not in channel {place}: a fulfil in one channel is not known in another"
-    )
+    }
 }
 
 // The fulfil that an event is.
-fn fulfil_in(event: &Event) -> Option<Fulfil> {
+fn fulfil_in(event: &Event) -> Option<Known> {
     match event {
         Event::Own {
             side,
             channel,
             update,
         } => match update {
-            OwnUpdate::Fulfil { preimage, .. } => Some(Fulfil {
+            OwnUpdate::Fulfil { preimage, .. } => Some(Known {
                 side: *side,
                 channel: *channel,
                 preimage: *preimage,
@@ -72,15 +93,22 @@ fn fulfil_in(event: &Event) -> Option<Fulfil> {
     }
 }
 
-// The first other channel that is closed, in which the peer offers the hash, and the side neither fulfils by the preimage nor fails anything.
-fn left_in(channels: u64, events: &[Event], fulfil: &Fulfil) -> Option<u64> {
+// Whether something is delivered to a side in a channel after an event.
+fn is_delivered(events: &[Event], index: usize, known: &Known) -> bool {
+    events.iter().enumerate().any(|(at, event)| match event {
+        Event::Deliver { side, channel } => {
+            at > index && *side == known.side && *channel == known.channel
+        }
+        _ => false,
+    })
+}
+
+// The first other channel that is closed, and in which the peer offers the hash, and the side leaves that HTLC there.
+fn left_in(channels: u64, events: &[Event], known: &Known) -> Option<u64> {
     for channel in 0..channels {
-        if channel != fulfil.channel
-            && events.iter().any(|event| is_offer(event, channel, fulfil))
+        if channel != known.channel
             && events.iter().any(|event| is_close(event, channel))
-            && !events
-                .iter()
-                .any(|event| is_removal(event, channel, fulfil))
+            && is_left(events, channel, known)
         {
             return Some(channel);
         }
@@ -88,33 +116,52 @@ fn left_in(channels: u64, events: &[Event], fulfil: &Fulfil) -> Option<u64> {
     None
 }
 
-// Whether an event is an offer of the peer in a channel, with the hash of a fulfil.
-fn is_offer(event: &Event, channel: u64, fulfil: &Fulfil) -> bool {
+// Whether a side leaves an HTLC of its peer with a hash that it knows in a channel.
+fn is_left(events: &[Event], channel: u64, known: &Known) -> bool {
+    let mut number: u64 = 0;
+    for (index, event) in events.iter().enumerate() {
+        if let Some(hash) = offer_in(event, channel, known.side.other()) {
+            if hash == known.hash && !is_removed(events, index, channel, number, known) {
+                return true;
+            }
+            number = number.wrapping_add(1);
+        }
+    }
+    false
+}
+
+// The hash of an offer of a side in a channel.
+fn offer_in(event: &Event, channel: u64, by: Side) -> Option<[u8; 32]> {
     match event {
         Event::Own {
             side,
             channel: place,
             update,
-        } => match update {
-            OwnUpdate::Offer { hash, .. } => {
-                *place == channel && *side == fulfil.side.other() && *hash == fulfil.hash
-            }
-            _ => false,
+        } if *place == channel && *side == by => match update {
+            OwnUpdate::Offer { hash, .. } => Some(*hash),
+            _ => None,
         },
-        _ => false,
+        _ => None,
     }
 }
 
-// Whether an event is a fulfil by the same preimage, or a fail, of the same side in a channel.
-fn is_removal(event: &Event, channel: u64, fulfil: &Fulfil) -> bool {
+// Whether a side removes an HTLC after its offer, which has this number where no earlier offer was refused.
+fn is_removed(events: &[Event], index: usize, channel: u64, number: u64, known: &Known) -> bool {
+    events.iter().enumerate().any(|(at, event)| {
+        at > index && is_removal(event, channel, number, known)
+    })
+}
+
+// Whether an event fails the HTLC with this number, or fulfils it. A refused offer has no number, so that of a fulfil by its preimage may be a lower one.
+fn is_removal(event: &Event, channel: u64, number: u64, known: &Known) -> bool {
     match event {
         Event::Own {
             side,
             channel: place,
             update,
-        } if *place == channel && *side == fulfil.side => match update {
-            OwnUpdate::Fulfil { preimage, .. } => *preimage == fulfil.preimage,
-            OwnUpdate::Fail { .. } => true,
+        } if *place == channel && *side == known.side => match update {
+            OwnUpdate::Fulfil { id, preimage } => { *id <= number && *preimage == known.preimage }
+            OwnUpdate::Fail { id } => *id == number,
             _ => false,
         },
         _ => false,

@@ -3,7 +3,7 @@
 //! [`notes_of`] makes a text from the words of a call, its status and the input that was read. It says where a script or a scenario is at fault, what bytes and texts look
 //! like that are no witness script, which branches ended by a rule that is stricter than consensus, which paths no witness meets, what endangers money, which
 //! member of a scenario stands twice, and which HTLC of a payment in parts is not fulfilled. It is a pure function, proved not to panic. What it says is tested, not proved, but for whether a member stands twice (`json_names`).
-//! [`scenario_notes`] is the part of it that reads a refused scenario, and [`repeat_notes`] the part on members. [`Kept`] is a reader that keeps what passes through it.
+//! [`scenario_notes`] is the part of it that reads a refused scenario, [`played_notes`] the part on a played one, and [`repeat_notes`] the part on members. [`Kept`] is a reader that keeps what passes through it.
 //!
 //! `script_notes` makes the notes on scripts, messages and wrong words. `enforce` writes the notes on standard error, after all that `enforce_words` printed. They change no status.
 //! `trace` has them in what it tells.
@@ -26,7 +26,7 @@ mod repeats;
 mod scenarios;
 mod uncounted;
 
-use played::played_notes;
+pub use played::played_notes;
 pub use readers::Kept;
 pub use repeats::repeat_notes;
 pub use scenarios::scenario_notes;

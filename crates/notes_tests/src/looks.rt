@@ -70,13 +70,25 @@ const PRIVATE_KEY: &str =
     "note: this looks like a private key, which nothing here asks for: it stands in the history of the shell now, so delete it there, and move what it guards to another key\n";
 
 // Texts of scripts that are not hexadecimal, and the notes on them.
-const TEXTS: [(&str, &str); 13] = [
+const TEXTS: [(&str, &str); 16] = [
     (
         "L1aW4aubDFB7yfras2S1mN3bqg9nwySY8nkoLmJebSLD5BWv3ENZ",
         PRIVATE_KEY,
     ),
     (
         "wsh(pk(xprv9s21ZrQH143K3QTDL4LXw2F7HEK3wJUD2nW2nRk4stbPy6cq3jPPqjiChkVvvNKmPGJxWUtg6LnF5kejMRNNU3TGtRBeJgk33yuGBxrMPHi))",
+        PRIVATE_KEY,
+    ),
+    (
+        "'L1aW4aubDFB7yfras2S1mN3bqg9nwySY8nkoLmJebSLD5BWv3ENZ'",
+        PRIVATE_KEY,
+    ),
+    (
+        "wif:L1aW4aubDFB7yfras2S1mN3bqg9nwySY8nkoLmJebSLD5BWv3ENZ",
+        PRIVATE_KEY,
+    ),
+    (
+        "zprvAdG4iTXWBoARxkkzNpNh8r6Qag3irQB8PzEMkAFeTRXxHpbF9z4QgEvBRmfvqWvGp42t42nvgGpNgYSJA9iefm1yYNZKEm7z6qUWCroSQnE",
         PRIVATE_KEY,
     ),
     (

@@ -88,8 +88,25 @@ const NOT_IN_1: &str =
 const NOT_IN_0: &str =
     "note: event 3: B fulfils an HTLC of this hash in channel 1, and not in channel 0: a fulfil in one channel is not known in another\n";
 
+const OTHER_AND_OFFER_IN_1: &str =
+    ",[\"offer\",\"A\",1,12000000,\"0000000000000000000000000000000000000000000000000000000000000000\",60],[\"offer\",\"A\",1,12000000,\"66687aadf862bd776c8fc18b8e9f8e20089714856ee233b3902a591d0d5f2925\",60]";
+
+const BEYOND_IN_1: &str =
+    ",[\"fulfil\",\"B\",1,1,\"0000000000000000000000000000000000000000000000000000000000000000\"]";
+
+const BY_A_IN_1: &str =
+    ",[\"fulfil\",\"A\",1,0,\"0000000000000000000000000000000000000000000000000000000000000000\"]";
+
+const TO_B_IN_1: &str = ",[\"deliver\",\"B\",1]";
+
+const NOT_IN_1_EITHER: &str =
+    "note: event 4: B fulfils an HTLC of this hash in channel 0, and not in channel 1: a fulfil in one channel is not known in another\n";
+
+const LEARNT: &str =
+    "note: event 3: B learns by this fulfil in channel 1 the preimage of an HTLC in channel 0, and does not fulfil that one: a fulfil in one channel is not known in another\n";
+
 // Events, and the notes on them.
-const FULFILS: [(&[&str], &str); 11] = [
+const FULFILS: [(&[&str], &str); 23] = [
     (&[OFFER_IN_0, OFFER_IN_1, FULFIL_IN_0, CLOSE_1], NOT_IN_1),
     (
         &[
@@ -105,7 +122,7 @@ const FULFILS: [(&[&str], &str); 11] = [
         &[OFFER_IN_0, OFFER_IN_1, FULFIL_IN_0, OTHER_PREIMAGE, CLOSE_1],
         NOT_IN_1,
     ),
-    // it is fulfilled there too, or something is failed there
+    // it is fulfilled there too, or failed there
     (
         &[OFFER_IN_0, OFFER_IN_1, FULFIL_IN_0, FULFIL_IN_1, CLOSE_1],
         "",
@@ -120,6 +137,96 @@ const FULFILS: [(&[&str], &str); 11] = [
         ],
         "",
     ),
+    // another one is failed there: there is none of this number, or it was offered first
+    (
+        &[
+            OFFER_IN_0,
+            OFFER_IN_1,
+            FULFIL_IN_0,
+            ",[\"fail\",\"B\",1,1]",
+            CLOSE_1,
+        ],
+        NOT_IN_1,
+    ),
+    (
+        &[
+            OFFER_IN_0,
+            OTHER_AND_OFFER_IN_1,
+            FULFIL_IN_0,
+            ",[\"fail\",\"B\",1,0]",
+            CLOSE_1,
+        ],
+        NOT_IN_1_EITHER,
+    ),
+    (
+        &[
+            OFFER_IN_0,
+            OTHER_AND_OFFER_IN_1,
+            FULFIL_IN_0,
+            ",[\"fail\",\"B\",1,1]",
+            CLOSE_1,
+        ],
+        "",
+    ),
+    // a fulfil there of a number that there is not, before the offer, and of a number that counts no refused offer
+    (
+        &[OFFER_IN_0, OFFER_IN_1, FULFIL_IN_0, BEYOND_IN_1, CLOSE_1],
+        NOT_IN_1,
+    ),
+    (
+        &[OFFER_IN_0, FULFIL_IN_1, FULFIL_IN_0, OFFER_IN_1, CLOSE_1],
+        NOT_IN_1,
+    ),
+    (
+        &[
+            OFFER_IN_0,
+            OTHER_AND_OFFER_IN_1,
+            FULFIL_IN_0,
+            FULFIL_IN_1,
+            CLOSE_1,
+        ],
+        "",
+    ),
+    // a forward: A fulfils what B offers in channel 1, and B leaves what A offers in channel 0
+    (
+        &[OFFER_IN_0, OFFER_OF_B, BY_A_IN_1, TO_B_IN_1, CLOSE_0],
+        LEARNT,
+    ),
+    (
+        &[
+            OFFER_IN_0,
+            OFFER_OF_B,
+            BY_A_IN_1,
+            TO_B_IN_1,
+            FULFIL_IN_0,
+            CLOSE_0,
+        ],
+        "",
+    ),
+    (
+        &[
+            OFFER_IN_0,
+            OFFER_OF_B,
+            BY_A_IN_1,
+            TO_B_IN_1,
+            ",[\"fail\",\"B\",0,0]",
+            CLOSE_0,
+        ],
+        "",
+    ),
+    // the fulfil does not come to B, comes to it in another channel, or channel 0 is open
+    (&[OFFER_IN_0, OFFER_OF_B, TO_B_IN_1, BY_A_IN_1, CLOSE_0], ""),
+    (
+        &[
+            OFFER_IN_0,
+            OFFER_OF_B,
+            BY_A_IN_1,
+            ",[\"deliver\",\"B\",0],[\"deliver\",\"A\",1]",
+            CLOSE_0,
+        ],
+        "",
+    ),
+    (&[OFFER_IN_0, OFFER_OF_B, BY_A_IN_1, TO_B_IN_1, CLOSE_1], ""),
     // the other channel is open
     (&[OFFER_IN_0, OFFER_IN_1, FULFIL_IN_0], ""),
     (&[OFFER_IN_0, OFFER_IN_1, FULFIL_IN_0, CLOSE_0], ""),

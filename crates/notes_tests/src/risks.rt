@@ -26,7 +26,7 @@ struct Case {
     notes: &'static [&'static str],
 }
 
-const RISKS: [Case; 19] = [
+const RISKS: [Case; 27] = [
     // the number 1; the empty script; IF 1 ELSE 2 ENDIF
     Case {
         code: &["51"],
@@ -61,6 +61,17 @@ const RISKS: [Case; 19] = [
             "note: whoever sees such a witness can spend too by path 0: what has a given hash is asked for, and no signature of a key that the script fixes\n",
         ],
     },
+    // DUP HASH160 EQUALVERIFY of what is a signature then, and of another item
+    Case {
+        code: &["76a914", HASH, "8821", KEY, "ac"],
+        notes: &[
+            "note: a signature with a given hash is asked for on path 0: what it signs has that hash in it, so nobody can ever make one\n",
+        ],
+    },
+    Case {
+        code: &["a914", HASH, "8821", KEY, "ac"],
+        notes: &[],
+    },
     // 65536 CHECKSEQUENCEVERIFY DROP and a signature: an age of 0
     Case {
         code: &["03000001b27521", KEY, "ac"],
@@ -90,12 +101,45 @@ const RISKS: [Case; 19] = [
             "note: opcode 1, CHECKSEQUENCEVERIFY of 65537, asks for an age of 1 block: of a number only bits 0 to 15, 22 and 31 count (BIP 68)\n",
         ],
     },
-    // 4294967295 and 4294967296 CHECKLOCKTIMEVERIFY, and the latter where anyone could spend
+    // 4294967294, 4294967295 and 4294967296 CHECKLOCKTIMEVERIFY, and the last where anyone could spend
+    Case {
+        code: &["05feffffff00b17521", KEY, "ac"],
+        notes: &[
+            "note: path 0 waits until the median time past is above 4294967294: its lock is a time, in seconds since 1970 (BIP 113)\n",
+        ],
+    },
     Case {
         code: &["05ffffffff00b17521", KEY, "ac"],
         notes: &[
-            "note: path 0 waits until the median time past is above 4294967295: its lock is a time, in seconds since 1970 (BIP 113)\n",
+            "note: nobody can ever spend by path 0: its lock time is 4294967295, and no median time past is above that (BIP 113)\n",
         ],
+    },
+    // height 850000, a second of 2026, and 288 blocks with the most significant byte first, and the first as a script has it
+    Case {
+        code: &["030cf850b17521", KEY, "ac"],
+        notes: &[
+            "note: opcode 1, CHECKLOCKTIMEVERIFY of 5306380: the same bytes in the other order are 850000, and a number is little-endian\n",
+        ],
+    },
+    Case {
+        code: &["046ab13b10b17521", KEY, "ac"],
+        notes: &[
+            "note: opcode 1, CHECKLOCKTIMEVERIFY of 272347498: the same bytes in the other order are 1789999888, and a number is little-endian\n",
+        ],
+    },
+    Case {
+        code: &["020120b27521", KEY, "ac"],
+        notes: &[
+            "note: opcode 1, CHECKSEQUENCEVERIFY of 8193: the same bytes in the other order are 288, and a number is little-endian\n",
+        ],
+    },
+    Case {
+        code: &["0350f80cb17521", KEY, "ac"],
+        notes: &[],
+    },
+    Case {
+        code: &["022001b27521", KEY, "ac"],
+        notes: &[],
     },
     Case {
         code: &["050000000001b17521", KEY, "ac"],

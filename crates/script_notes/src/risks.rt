@@ -1,24 +1,31 @@
-// Notes on what endangers money: paths that others can take too, locks that ask for less than they say, and locks by time.
+// Notes on what endangers money: paths that others can take too, locks that ask for less than they say, locks whose bytes seem to be turned round, and locks by time.
 
 use crate::conflicts::conflict_in;
+use facts::{Fact, Stated};
 use paths::{Checked, Path};
 use script::Op;
 use script::limits::LOCKTIME_THRESHOLD;
 use std::alloc::{AllocError, Global};
 use std::fmt::Write;
 use warnings::{
-    LockWarning, SequenceLock, Taker, greatest_units, has_unreachable_lock, is_offered_htlc,
-    lock_warnings, taker_of, takes_hashed_key,
+    LockWarning, SequenceLock, Taker, TurnedLock, greatest_units, has_unreachable_lock,
+    is_offered_htlc, lock_warnings, taker_of, takes_hashed_key, turned_locks,
 };
+
+// The greatest lock time (BIP 144).
+const MAX_LOCK_TIME: u64 = 4_294_967_295;
 
 /// Notes on the paths of a listed script.
 pub fn note_risks(notes: &mut String, alloc: Global, checked: &Checked) -> Result<(), AllocError> {
     let paths = checked.paths();
     note_paths(notes, paths, Risk::Unreachable)?;
+    note_paths(notes, paths, Risk::NeverFinal)?;
     note_paths(notes, paths, Risk::Anyone)?;
     note_paths(notes, paths, Risk::Finder)?;
     note_paths(notes, paths, Risk::HashedKey)?;
+    note_paths(notes, paths, Risk::HashedSignature)?;
     note_locks(notes, alloc, checked.script().ops())?;
+    note_turned(notes, alloc, checked.script().ops())?;
     note_waits(notes, paths)?;
     // with keys that have another form than a key's, it has fewer paths
     if paths.len() == 3 && is_offered_htlc(checked.script().bytes()) {
@@ -32,12 +39,16 @@ pub fn note_risks(notes: &mut String, alloc: Global, checked: &Checked) -> Resul
 enum Risk {
     // No transaction has the lock time that is asked for.
     Unreachable,
+    // No transaction with the lock time that is asked for is ever final.
+    NeverFinal,
     // Anyone can spend.
     Anyone,
     // Whoever sees a witness can spend.
     Finder,
     // A key is taken by its hash.
     HashedKey,
+    // A signature is asked for whose hash is given.
+    HashedSignature,
 }
 
 impl Risk {
@@ -45,9 +56,11 @@ impl Risk {
     fn beginning(self) -> &'static str {
         match self {
             Risk::Unreachable => "note: no transaction has the lock time of path",
+            Risk::NeverFinal => "note: nobody can ever spend by path",
             Risk::Anyone => "note: anyone can spend by path",
             Risk::Finder => "note: whoever sees such a witness can spend too by path",
             Risk::HashedKey => "note: a key is taken by its hash on path",
+            Risk::HashedSignature => "note: a signature with a given hash is asked for on path",
         }
     }
 
@@ -55,12 +68,18 @@ impl Risk {
     fn ending(self) -> &'static str {
         match self {
             Risk::Unreachable => ": a lock time has 4 bytes, so it is at most 4294967295\n",
+            Risk::NeverFinal => {
+                ": its lock time is 4294967295, and no median time past is above that (BIP 113)\n"
+            }
             Risk::Anyone => ": no signature of a key that the script fixes is asked for\n",
             Risk::Finder => {
                 ": what has a given hash is asked for, and no signature of a key that the script fixes\n"
             }
             Risk::HashedKey => {
                 ": by consensus, though not by relay policy, an uncompressed key with that hash is taken too\n"
+            }
+            Risk::HashedSignature => {
+                ": what it signs has that hash in it, so nobody can ever make one\n"
             }
         }
     }
@@ -70,8 +89,10 @@ impl Risk {
 fn has_risk(path: &Path, risk: Risk) -> bool {
     let facts = path.facts.values();
     if has_unreachable_lock(facts) {
+        let is_greatest = path.lock == Some(MAX_LOCK_TIME);
         return match risk {
-            Risk::Unreachable => true,
+            Risk::Unreachable => !is_greatest,
+            Risk::NeverFinal => is_greatest,
             _ => false,
         };
     }
@@ -79,11 +100,33 @@ fn has_risk(path: &Path, risk: Risk) -> bool {
         return false;
     }
     match risk {
-        Risk::Unreachable => false,
+        Risk::Unreachable | Risk::NeverFinal => false,
         Risk::Anyone => taker_of(facts) == Taker::Anyone,
         Risk::Finder => taker_of(facts) == Taker::Finder,
         Risk::HashedKey => takes_hashed_key(facts),
+        Risk::HashedSignature => facts
+            .iter()
+            .any(|stated| is_hashed_signature(facts, stated)),
     }
+}
+
+// Whether a fact asks for a signature whose hash another one of its path gives.
+fn is_hashed_signature(facts: &[Stated], stated: &Stated) -> bool {
+    match &stated.fact {
+        Fact::Token(slot, _) => stated.holds && is_hashed(facts, *slot),
+        Fact::Assigned(slots, _) => {
+            stated.holds && slots.values().iter().any(|slot| is_hashed(facts, *slot))
+        }
+        _ => false,
+    }
+}
+
+// Whether a path says what the hash of a slot is.
+fn is_hashed(facts: &[Stated], slot: usize) -> bool {
+    facts.iter().any(|stated| match &stated.fact {
+        Fact::Hash(place, _) => stated.holds && *place == slot,
+        _ => false,
+    })
 }
 
 // Notes the paths that have a risk in one line, if there are any.
@@ -135,6 +178,28 @@ fn note_lock(notes: &mut String, warning: &LockWarning) -> Result<(), AllocError
             )
         }
     }
+}
+
+// Notes the locks whose number seems to have its bytes turned round.
+fn note_turned(notes: &mut String, alloc: Global, ops: &[Op]) -> Result<(), AllocError> {
+    let locks = turned_locks(alloc, ops)?;
+    for lock in &locks {
+        note_turned_lock(notes, ops, lock)?;
+    }
+    Ok(())
+}
+
+// Notes one such lock.
+fn note_turned_lock(notes: &mut String, ops: &[Op], lock: &TurnedLock) -> Result<(), AllocError> {
+    let (op, number, turned) = (lock.op, lock.number, lock.turned);
+    let name = match ops.get(op) {
+        Some(Op::CheckLockTimeVerify) => "CHECKLOCKTIMEVERIFY",
+        _ => "CHECKSEQUENCEVERIFY",
+    };
+    writeln!(
+        notes,
+        "note: opcode {op}, {name} of {number}: the same bytes in the other order are {turned}, and a number is little-endian"
+    )
 }
 
 // The end of the word for what there are this many of.

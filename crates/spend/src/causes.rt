@@ -5,7 +5,7 @@ use claim::{AcceptError, accept};
 use json_value::Value;
 use page::Page;
 use page::Piece::Count;
-use paths::{Checked, check};
+use paths::{Checked, Fact, check};
 use script::Script;
 use std::alloc::Global;
 use std::fmt::Display;
@@ -67,11 +67,23 @@ fn note_accepted(
     }
 }
 
+// Whether a fact is a lock.
+fn is_lock(fact: &Fact) -> bool {
+    match fact {
+        Fact::Lock(_) | Fact::Age(_) => true,
+        _ => false,
+    }
+}
+
 // The member at fault, and the words after the refusal.
 fn words_of(error: &AcceptError) -> (&'static str, &'static str) {
     match error {
         AcceptError::NoSuchPath => ("path", ": the number of the script's paths is"),
         AcceptError::WrongArity => ("slots", ": the number of the path's slots is"),
+        AcceptError::Unmet(stated) if is_lock(&stated.fact) => (
+            "path",
+            ": no claim waits for a time: here lock times are heights, and ages are blocks\n",
+        ),
         AcceptError::Unmet(_) => (
             "slots",
             ": they do not show this fact; slot 0 is the top of the stack, so the last item of the witness before the script\n",

@@ -15,6 +15,7 @@ mod dust;
 mod errors;
 mod notes;
 mod outputs;
+mod outputs_at_fault;
 mod plans;
 mod requests;
 mod shapes;

@@ -1,9 +1,14 @@
 // What is said beside an answer, on standard error: a line each. It is tested, not proved.
 
+ghost use Rattle.spend.specs.Asking.{IsWithin};
+
 use crate::asking::Asked;
 use crate::causes::note_claims;
+use crate::dust::{dust_threshold, is_witness_program};
 use crate::errors::PlanError;
-use crate::plans::Plan;
+use crate::outputs_at_fault::{note_claims_at_fault, note_slots, output_at};
+use crate::plans::{Plan, asked_fee};
+use crate::requests::MOST_FEERATE_PER_KW;
 use crate::shapes::{note_shape, said};
 use json_names::first_repeated_member;
 use json_value::Value;
@@ -28,27 +33,69 @@ fn say(notes: &Page, err: &mut dyn Write) {
     }
 }
 
-/// Says what a person has to look at in a plan: its feerate and its fee.
+/// Says what a person has to look at in a plan: its destination, its feerate, its fee, and the slots that nodes do not pass on.
 pub fn say_plan(alloc: Global, asked: &Asked, plan: &Plan, err: &mut dyn Write) {
     let mut notes = Page::new(alloc);
-    if asked.feerate_per_kw < RELAYED_FEERATE_PER_KW {
-        notes.push("note: nodes pass on no transaction below a feerate_per_kw of 253 by default\n");
-    }
-    let mut total: u128 = 0;
-    for claim in asked.claims.values() {
-        total = total.saturating_add(u128::from(claim.place().value));
-    }
+    note_destination(&mut notes, asked.destination.bytes());
+    note_feerate(&mut notes, asked);
+    let total = total_of(asked);
     if plan.fee_sat.saturating_mul(DEAR) > total {
         notes.write(
             "note: the fee is above a tenth of the value: % of % satoshis\n",
             &[Sum(plan.fee_sat), Sum(total)],
         );
     }
+    note_slots(alloc, &mut notes, asked.claims.values());
     say(&notes, err);
 }
 
+// What the outputs are worth together.
+fn total_of(asked: &Asked) -> u128 {
+    let mut total: u128 = 0;
+    for claim in asked.claims.values() {
+        total = total.saturating_add(u128::from(claim.place().value));
+    }
+    total
+}
+
+// Notes a destination from which anyone can spend, or maybe nobody.
+fn note_destination(notes: &mut Page, program: &[u8]) {
+    let [code, _, key @ ..] = program else {
+        return;
+    };
+    if !is_witness_program(program) || *code == 0 {
+        return;
+    }
+    let version = u64::from(code.saturating_sub(0x50));
+    if version == 1 && key.len() == 32 {
+        notes.push(
+            "note: destination: it is not tested whether its 32 bytes are a key of the curve: if they are none, nobody can spend from it (BIP 341)\n",
+        );
+    } else {
+        notes.write(
+            "note: destination: anyone can spend from it today: no rule stands yet for witness version % with % bytes\n",
+            &[Count(version), Count(key.len() as u64)],
+        );
+    }
+}
+
+// Notes a feerate that nodes do not pass on, or that is above the limit that a request has without its own.
+fn note_feerate(notes: &mut Page, asked: &Asked) {
+    if asked.feerate_per_kw < RELAYED_FEERATE_PER_KW {
+        notes.push("note: nodes pass on no transaction below a feerate_per_kw of 253 by default\n");
+    }
+    if asked.feerate_per_kw > MOST_FEERATE_PER_KW {
+        notes.write(
+            "note: the feerate is % satoshis for a virtual byte, and above the limit that holds without most_feerate_per_kw\n",
+            &[Count(u64::from(asked.feerate_per_kw / 250))],
+        );
+    }
+}
+
 /// Says why what is asked is not planned.
-pub fn say_refusal(alloc: Global, asked: &Asked, error: PlanError, err: &mut dyn Write) {
+pub fn say_refusal(alloc: Global, asked: &Asked, error: PlanError, err: &mut dyn Write)
+    requires { IsWithin asked.now }
+{
     let mut notes = Page::new(alloc);
     match error {
         PlanError::BadDestination => notes.push(
@@ -62,9 +109,40 @@ pub fn say_refusal(alloc: Global, asked: &Asked, error: PlanError, err: &mut dyn
                 Count(u64::from(asked.most_feerate_per_kw)),
             ],
         ),
-        _ => {}
+        PlanError::ValueTooLarge => notes.write(
+            "note: the outputs have % satoshis together, and there are at most 2100000000000000\n",
+            &[Sum(total_of(asked))],
+        ),
+        PlanError::NothingLeft | PlanError::Dust => note_fee(alloc, &mut notes, asked),
+        _ => note_claims_at_fault(alloc, &mut notes, asked, error),
     }
     say(&notes, err);
+}
+
+// Notes what the fee leaves.
+fn note_fee(alloc: Global, notes: &mut Page, asked: &Asked)
+    requires { IsWithin asked.now }
+{
+    let Some(fee_sat) = asked_fee(alloc, asked) else {
+        return;
+    };
+    let total = total_of(asked);
+    if total <= fee_sat {
+        notes.write(
+            "note: the fee is % satoshis, and the outputs have % together\n",
+            &[Sum(fee_sat), Sum(total)],
+        );
+    } else {
+        notes.write(
+            "note: the fee is % of % satoshis, and nodes relay no less than % to this destination: % are left\n",
+            &[
+                Sum(fee_sat),
+                Sum(total),
+                Count(dust_threshold(asked.destination.bytes())),
+                Sum(total - fee_sat),
+            ],
+        );
+    }
 }
 
 /// Says which part of the bytes is refused.
@@ -75,6 +153,9 @@ pub fn say_input(alloc: Global, bytes: &[u8], error: PlanError, err: &mut dyn Wr
             PlanError::BadShape => match first_repeated_member(alloc, bytes) {
                 Ok(Some(member)) => {
                     notes.push("note: ");
+                    if let Some(output) = output_at(bytes, member.at) {
+                        notes.write("outputs[%].", &[Count(output)]);
+                    }
                     notes.push(said(member.name.as_str()));
                     notes.push(": a member of this name stands twice in one object\n");
                 }

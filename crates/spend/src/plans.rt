@@ -1,11 +1,11 @@
 //! The spend that is planned for what is asked.
 
-ghost use Rattle.std.specs.Prelude.{◌≡◌, ◌≤◌, ◌<◌, ◌^◌, map, length, IfOk};
+ghost use Rattle.std.specs.Prelude.{◌≡◌, ◌≤◌, ◌<◌, ◌^◌, map, length, IfOk, IfSome};
 ghost use Rattle.tx.specs.declared.limits.TheConstants.{MAX_INPUTS as max_inputs, MAX_VALUE as max_value, MAX_BYTES as max_bytes};
 ghost use Rattle.filling.specs.Refusals.{total_claimed};
 ghost use Rattle.spend.specs.Asking.{IsWithin};
 ghost use Rattle.spend.specs.Dust.{dust_threshold};
-ghost use Rattle.spend.specs.Planning.{paying, given_refusal, Spends, Weighs, Leaves, Pays, Plans};
+ghost use Rattle.spend.specs.Planning.{paying, given_refusal, asked_fee, Spends, Weighs, Leaves, Pays, Plans};
 
 use crate::asking::Asked;
 use crate::destinations::is_destination;
@@ -126,6 +126,20 @@ fn payment(claims: &[&Claim], asked: &Asked, fee: u128) -> Result<u64, PlanError
     match given_refusal(asked) {
         Some(error) => Err(error),
         None => Ok(value_sat),
+    }
+}
+
+/// The fee of what is asked; `None` where its spend is refused before it has a weight, or where memory ran out.
+pub fn asked_fee(alloc: Global, asked: &Asked) -> Option<u128>
+    requires { IsWithin asked.now }
+    ensures { IfSome result (λ n. n ≡ asked_fee asked.now) }
+{
+    let Ok(claims) = lent(alloc, asked.claims.values()) else {
+        return None;
+    };
+    match asked_weight(alloc, &claims, asked) {
+        Ok(weight) => Some(fee_sat(asked.feerate_per_kw, weight)),
+        Err(_) => None,
     }
 }
 

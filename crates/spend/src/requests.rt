@@ -13,7 +13,7 @@ use std::alloc::Global;
 use texts::{PlainClaim, ReadValue, ShapeError, member, object_of, read_member};
 
 /// The greatest feerate that is taken where a request has no other limit: 1,000 satoshis for a virtual byte.
-const MOST_FEERATE_PER_KW: u32 = 250_000;
+pub const MOST_FEERATE_PER_KW: u32 = 250_000;
 
 /// What the JSON object asks for, as it was read. Nothing of it is tested yet.
 #[derive(Debug, Drop)]

@@ -80,11 +80,12 @@ others : (i j : ℕ) → map sentence_of (yes (Is i []) ∷ no (Is i []) ∷ yes
     ∷ []
 others i j = refl
 
--- the greatest lock by height and the least by time, and the greatest that a transaction can have, of 32 bits, and the least that none has
-locks : map sentence_of (yes (Lock 499999999) ∷ yes (Lock 500000000) ∷ yes (Lock 4294967295) ∷ yes (Lock 4294967296) ∷ no (Lock 4294967296) ∷ []) ≡
+-- the greatest lock by height, and the least and the greatest by time; the greatest that a transaction can have, of 32 bits, and the least that none has
+locks : map sentence_of (yes (Lock 499999999) ∷ yes (Lock 500000000) ∷ yes (Lock 4294967294) ∷ yes (Lock 4294967295) ∷ yes (Lock 4294967296) ∷ no (Lock 4294967296) ∷ []) ≡
     (codes "in block " ++ (decimal 500000000 ++ codes " at the earliest"))
     ∷ (codes "once the median time past is above " ++ (decimal 500000000 ++ codes " seconds since 1970 (BIP 113)"))
-    ∷ (codes "once the median time past is above " ++ (decimal 4294967295 ++ codes " seconds since 1970 (BIP 113)"))
+    ∷ (codes "once the median time past is above " ++ (decimal 4294967294 ++ codes " seconds since 1970 (BIP 113)"))
+    ∷ codes "never: no median time past is above 4294967295 (BIP 113)"
     ∷ codes "never: no transaction has a lock time above 4294967295"
     ∷ (codes "while the check of the lock time " ++ (decimal 4294967296 ++ codes " fails"))
     ∷ []

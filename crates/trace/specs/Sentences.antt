@@ -50,13 +50,15 @@ about (Lock n) p = []
 about (Age n) p = []
 
 -- An output that is locked to height n is spent in block n + 1 at the earliest, and one that is locked to a time in a block after which the median time of eleven blocks is past it (BIP 65, 113).
--- A transaction's lock time has 32 bits, so that no greater one is ever reached
+-- A transaction's lock time has 32 bits, so that no greater one is ever reached; nor is the greatest, since times of blocks have 32 bits too
 abbrev pub lock_words : ℕ → List ℕ
 lock_words n =
     if nat_lt n LOCKTIME_THRESHOLD
     then codes "in block " ++ (decimal (n + 1) ++ codes " at the earliest")
-    else if nat_lt n 0x100000000
+    else if nat_lt n 0xffffffff
     then codes "once the median time past is above " ++ (decimal n ++ codes " seconds since 1970 (BIP 113)")
+    else if n == 0xffffffff
+    then codes "never: no median time past is above 4294967295 (BIP 113)"
     else codes "never: no transaction has a lock time above 4294967295"
 
 -- what a relative lock counts: blocks, or units of 512 seconds where bit 22 is set (BIP 68), one of them or several

@@ -40,7 +40,7 @@ fn run(
     match words {
         Ok(words) => match words.as_slice() {
             [_, word, rest @ ..] => {
-                let (status, help) = run_word(alloc, word.as_str(), rest, input, out);
+                let (status, help) = run_word(alloc, word.as_str(), rest, input, out, err);
                 if status == WRONG_WORDS {
                     refuse_words(err, help)
                 } else {
@@ -63,10 +63,11 @@ fn run_word(
     rest: &[String],
     input: &mut dyn Read,
     out: &mut dyn Write,
+    err: &mut dyn Write,
 ) -> (u8, &'static str) {
     if word == "scenario" {
         (
-            scenarios::run_words(alloc, rest, input, out),
+            scenarios::run_words(alloc, rest, input, out, err),
             scenarios::HELP,
         )
     } else if word == "dump" {

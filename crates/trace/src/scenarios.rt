@@ -8,7 +8,7 @@
 //! `world` plays what `scenario` reads, and has the books, the chain and the pool. The program `trace` passes its streams.
 //!
 //! ```rust
-//! let status = run_words(alloc, words, &mut input, &mut out);
+//! let status = run_words(alloc, words, &mut input, &mut out, &mut err);
 //! ```
 //!
 //! Tested by `show/check`, which computes the lines of all examples anew, and by the calls of `oracles/answers.py`.
@@ -38,7 +38,7 @@ use crate::scenarios::openings::tell_opening;
 use crate::scenarios::playing::played;
 use crate::scenarios::wishes::Wish;
 use chain::Coins as _;
-use enforce_notes::{repeat_notes, scenario_notes};
+use enforce_notes::{played_notes, repeat_notes, scenario_notes};
 use page::Page;
 use page::Piece::Count;
 use scenario::{Event, Scenario, ScenarioError};
@@ -68,7 +68,10 @@ fn tell_event(
     line.write(r#"{"event":%,"words":"#, &[Count(index as u64)]);
     line.show(&words);
     match played(world, event) {
-        Ok(outcomes) => told.tell_played(alloc, line, world, before, event, outcomes.as_slice()),
+        Ok(outcomes) => {
+            told.tell_played(alloc, line, world, before, event, outcomes.as_slice());
+            told.note_refused(index, outcomes.as_slice());
+        }
         Err(_) => line.fail(),
     }
 }
@@ -115,10 +118,11 @@ fn words_in(value: &Value) -> &[Value] {
     }
 }
 
-// Writes what is wished of a world and the events of its scenario, and returns the status: where that is wished, also 1 where an event was refused.
+// Writes what is wished of a world and the events of its scenario, and returns the status: where that is wished, also 1 where an event was refused, which a note names then.
 fn tell_world(
     alloc: Global,
     out: &mut dyn Write,
+    err: &mut dyn Write,
     world: &mut World,
     events: &[Event],
     words: &[Value],
@@ -137,31 +141,51 @@ fn tell_world(
         alloc, out, &mut line, world, &mut told, events, words, notes,
     );
     match wish {
-        Wish::Strictly if told.has_refused => 1,
+        Wish::Strictly if !told.first_refused.text().is_empty() => {
+            say(err, told.first_refused.text());
+            1
+        }
         _ => status,
     }
 }
 
-// Reports why these bytes are refused: an object on a line, with the notes on them, of which there may be none. Returns the status.
-fn refuse_scenario<D: Display>(alloc: Global, out: &mut dyn Write, refusal: &D, bytes: &[u8]) -> u8
+// Writes notes on standard error, as `enforce run` does. Where they can't be written, nothing else changes.
+fn say(err: &mut dyn Write, notes: &str) {
+    let _ = err.write_all(notes.as_bytes());
+}
+
+// Reports why these bytes are refused: an object on a line, with the notes on them, of which there may be none. They stand on standard error too. Returns the status.
+fn refuse_scenario<D: Display>(
+    alloc: Global,
+    out: &mut dyn Write,
+    err: &mut dyn Write,
+    refusal: &D,
+    bytes: &[u8],
+) -> u8
     ensures { result ≤ 1 }
 {
     let mut line = Page::new(alloc);
     line.push(r#"{"refused":""#);
     line.show(refusal);
     line.push("\"");
-    match scenario_notes(alloc, bytes) {
+    let notes = scenario_notes(alloc, bytes);
+    match &notes {
         Ok(notes) => tell_notes(&mut line, Form::Json, notes.as_str()),
         Err(_) => line.fail(),
     }
     line.push("}\n");
-    write_told(out, &mut line, 1)
+    let status = write_told(out, &mut line, 1);
+    if let Ok(notes) = notes {
+        say(err, notes.as_str());
+    }
+    status
 }
 
 // Writes what is wished of a scenario that was read from these bytes, of which `value` is the JSON, and returns the status.
 fn tell_scenario(
     alloc: Global,
     out: &mut dyn Write,
+    err: &mut dyn Write,
     scenario: &Scenario,
     value: &Value,
     notes: &str,
@@ -173,12 +197,15 @@ fn tell_scenario(
     match World::new(alloc, &scenario.seeds, scenario.channels.values()) {
         Ok(mut world) => {
             let (events, words) = (scenario.events.values(), words_in(value));
-            let status = tell_world(alloc, out, &mut world, events, words, notes, wish);
+            let status = tell_world(alloc, out, err, &mut world, events, words, notes, wish);
             world.leak();
+            if let Ok(notes) = played_notes(alloc, false, bytes) {
+                say(err, notes.as_str());
+            }
             status
         }
         Err(WorldError::NoMemory) => refuse_memory(out),
-        Err(error) => refuse_scenario(alloc, out, &error, bytes),
+        Err(error) => refuse_scenario(alloc, out, err, &error, bytes),
     }
 }
 
@@ -186,6 +213,7 @@ fn tell_scenario(
 fn tell_read(
     alloc: Global,
     out: &mut dyn Write,
+    err: &mut dyn Write,
     scenario: &Scenario,
     notes: &str,
     bytes: &[u8],
@@ -194,35 +222,47 @@ fn tell_read(
     ensures { result ≤ 1 }
 {
     match Value::from_slice(alloc, bytes) {
-        Ok(value) => tell_scenario(alloc, out, scenario, &value, notes, bytes, wish),
+        Ok(value) => tell_scenario(alloc, out, err, scenario, &value, notes, bytes, wish),
         Err(_) => refuse_memory(out),
     }
 }
 
 // Writes what is wished of the scenario in the bytes, and returns the status.
-fn tell_bytes(alloc: Global, out: &mut dyn Write, bytes: &[u8], wish: Wish) -> u8
+fn tell_bytes(
+    alloc: Global,
+    out: &mut dyn Write,
+    err: &mut dyn Write,
+    bytes: &[u8],
+    wish: Wish,
+) -> u8
     ensures { result ≤ 1 }
 {
     match Scenario::read(alloc, bytes) {
         Ok(scenario) => match repeat_notes(alloc, bytes) {
-            Ok(notes) => tell_read(alloc, out, &scenario, notes.as_str(), bytes, wish),
+            Ok(notes) => tell_read(alloc, out, err, &scenario, notes.as_str(), bytes, wish),
             Err(_) => refuse_memory(out),
         },
         Err(ScenarioError::NoMemory) => refuse_memory(out),
-        Err(error) => refuse_scenario(alloc, out, &error, bytes),
+        Err(error) => refuse_scenario(alloc, out, err, &error, bytes),
     }
 }
 
 /// Runs the word `scenario` on the words after it and returns its status: 0 when all is written, 1 for refused input, a failed write, or if memory ran out, 2 for wrong words, which are detected
-/// before any input is read. After `--strict` it is 1 also where an event was refused. After `--dump A` or `--dump B` the dump of that side's book is written, and no line of an event.
-pub fn run_words(alloc: Global, words: &[String], input: &mut dyn Read, out: &mut dyn Write) -> u8
+/// before any input is read. After `--strict` it is 1 also where an event was refused, which a note on standard error names. The notes of `enforce run` stand there too. After `--dump A` or `--dump B` the dump of that side's book is written, and no line of an event.
+pub fn run_words(
+    alloc: Global,
+    words: &[String],
+    input: &mut dyn Read,
+    out: &mut dyn Write,
+    err: &mut dyn Write,
+) -> u8
     ensures { result ≤ 2 }
 {
     let Some(wish) = Wish::read(words) else {
         return WRONG_WORDS;
     };
     match read_all(alloc, input) {
-        Ok(bytes) => tell_bytes(alloc, out, bytes.as_slice(), wish),
+        Ok(bytes) => tell_bytes(alloc, out, err, bytes.as_slice(), wish),
         Err(InputError::NoMemory) => refuse_memory(out),
         Err(error) => write_refusal(alloc, out, error.text(), None),
     }

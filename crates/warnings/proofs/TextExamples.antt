@@ -1,8 +1,8 @@
 -- Texts that are not hexadecimal: addresses of BIP 173 and of the first block, the beginning of a PSBT of BIP 174, and slips of the hand.
-use Rattle.std.proofs.Common.{◌≡◌, [], ◌∷◌, map, refl, Some, None}
+use Rattle.std.proofs.Common.{◌≡◌, [], ◌∷◌, ◌++◌, map, refl, Some, None}
 use Rattle.std.specs.Prelude.{codes}
 use Rattle.warnings.specs.declared.text_faults.TextFault.TheVariants.{PrivateKey, Psbt, Address, Descriptor, Assembly, Prefix, Blank, NoDigit, Odd}
-use Rattle.warnings.specs.TextFaults.{text_fault, is_base58_address, is_segwit_address, is_wif, has_private_key, form_of, fault_at}
+use Rattle.warnings.specs.TextFaults.{text_fault, is_base58_address, is_segwit_address, is_wif, begins_with_wif, has_private_key, form_of, fault_at}
 
 looks : map text_fault (
     codes "cHNidP8BAHECAAAAASaB" ∷ codes "bc1qw508d6qejxtdg4y5r3zarvary0c5xw7kv8f3t4" ∷ codes "BC1QW508D6QEJXTDG4Y5R3ZARVARY0C5XW7KV8F3T4"
@@ -10,7 +10,7 @@ looks : map text_fault (
     ∷ codes "3P14159f73E4gFr7JterCCQh9QjiTjiZrG" ∷ codes "mipcBbFg9gMiCh81Kj8tqqdgoZub1ZJRfn" ∷ codes "wsh(pk(02aa))" ∷ codes "OP_DUP OP_HASH160"
     ∷ codes "2 02aa OP_CHECKSIG" ∷ []) ≡
     Some Psbt ∷ Some Address ∷ Some Address ∷ Some Address ∷ Some Address ∷ Some Address ∷ Some Address ∷ Some Descriptor ∷ Some Assembly ∷ Some Assembly ∷ []
-unfolding is_base58_address is_segwit_address is_wif has_private_key form_of fault_at
+unfolding is_base58_address is_segwit_address is_wif begins_with_wif has_private_key form_of fault_at
 looks = refl
 
 -- what is hexadecimal, in either letter case, has no fault; else the first byte that is no digit is named, and of digits alone their number where it is odd
@@ -19,7 +19,7 @@ slips : map text_fault (
     ∷ codes "5g" ∷ codes "g5" ∷ codes "5/" ∷ codes "5:" ∷ codes "5@" ∷ codes "5G" ∷ codes "5`" ∷ (0xef ∷ 0xbc ∷ 0x95 ∷ []) ∷ []) ≡
     None ∷ None ∷ None ∷ Some (Odd 1) ∷ Some (Odd 3) ∷ Some Prefix ∷ Some Prefix ∷ Some (Blank 0) ∷ Some (Blank 2) ∷ Some (Blank 2) ∷ Some (Blank 1) ∷ Some (Blank 1)
     ∷ Some (NoDigit 1) ∷ Some (NoDigit 0) ∷ Some (NoDigit 1) ∷ Some (NoDigit 1) ∷ Some (NoDigit 1) ∷ Some (NoDigit 1) ∷ Some (NoDigit 1) ∷ Some (NoDigit 0) ∷ []
-unfolding is_base58_address is_segwit_address is_wif has_private_key form_of fault_at
+unfolding is_base58_address is_segwit_address is_wif begins_with_wif has_private_key form_of fault_at
 slips = refl
 
 -- an address has 26 to 35 characters, none of them 0, O, I or l
@@ -28,7 +28,7 @@ near_addresses : map text_fault (
     ∷ codes "1zzzzzzzzzzzzzzzzzzzzzzzz0" ∷ codes "1zzzzzzzzzzzzzzzzzzzzzzzzO" ∷ codes "1zzzzzzzzzzzzzzzzzzzzzzzzI" ∷ codes "1zzzzzzzzzzzzzzzzzzzzzzzzl"
     ∷ codes "4zzzzzzzzzzzzzzzzzzzzzzzzz" ∷ []) ≡
     Some Address ∷ Some (NoDigit 1) ∷ Some Address ∷ Some (NoDigit 1) ∷ Some (NoDigit 1) ∷ Some (NoDigit 1) ∷ Some (NoDigit 1) ∷ Some (NoDigit 1) ∷ Some (NoDigit 1) ∷ []
-unfolding is_base58_address is_segwit_address is_wif has_private_key form_of fault_at
+unfolding is_base58_address is_segwit_address is_wif begins_with_wif has_private_key form_of fault_at
 near_addresses = refl
 
 -- keys in WIF, uncompressed and compressed, of Bitcoin and of its test network; an extended one (BIP 32), also in a descriptor; 50 and 53 characters, one that is none of Base58, and another first one
@@ -38,5 +38,17 @@ private_keys : map text_fault (
     ∷ codes "wpkh(tprv8Zgx)" ∷ codes "Kzzzzzzzzzzzzzzzzzzzzzzzzzzzzzzzzzzzzzzzzzzzzzzzzz" ∷ codes "Kzzzzzzzzzzzzzzzzzzzzzzzzzzzzzzzzzzzzzzzzzzzzzzzzzzzz" ∷ codes "Kzzzzzzzzzzzzzzzzzzzzzzzzzzzzzzzzzzzzzzzzzzzzzzzzzz0"
     ∷ codes "Mzzzzzzzzzzzzzzzzzzzzzzzzzzzzzzzzzzzzzzzzzzzzzzzzzzz" ∷ []) ≡
     Some PrivateKey ∷ Some PrivateKey ∷ Some PrivateKey ∷ Some PrivateKey ∷ Some PrivateKey ∷ Some PrivateKey ∷ Some PrivateKey ∷ Some (NoDigit 0) ∷ Some (NoDigit 0) ∷ Some (NoDigit 0) ∷ Some (NoDigit 0) ∷ []
-unfolding is_base58_address is_segwit_address is_wif has_private_key form_of fault_at
+unfolding is_base58_address is_segwit_address is_wif begins_with_wif has_private_key form_of fault_at
 private_keys = refl
+
+-- a key in quotes, after a prefix, after a blank, before the end of a line, and in a descriptor; the other letters of an extended one (SLIP 132); a key with a letter on either side; a PSBT with the
+-- letters of an extended one
+keys_in_texts : map text_fault (
+    codes "'L1aW4aubDFB7yfras2S1mN3bqg9nwySY8nkoLmJebSLD5BWv3ENZ'" ∷ codes "wif:L1aW4aubDFB7yfras2S1mN3bqg9nwySY8nkoLmJebSLD5BWv3ENZ" ∷ codes " 5HueCGU8rMjxEXxiPuD5BDku4MkFqeZyd4dZ1jvhTVqvbTLvyTJ"
+    ∷ (codes "5HueCGU8rMjxEXxiPuD5BDku4MkFqeZyd4dZ1jvhTVqvbTLvyTJ" ++ 10 ∷ []) ∷ codes "wpkh(L1aW4aubDFB7yfras2S1mN3bqg9nwySY8nkoLmJebSLD5BWv3ENZ)"
+    ∷ codes "yprvABrGsX5C9jantZVwdwcQhDXkqsu4RoSAZKBwPnLA3uyeVM3C3fvTuqzru4fovMSLqYSqALGe9MBqCf7Pg7Y7CTsjoNnLYg6HxR2Xo44NX7E" ∷ codes "zprvA" ∷ codes "uprv8" ∷ codes "vprv9" ∷ codes "wsh(Zprv)"
+    ∷ codes "IL1aW4aubDFB7yfras2S1mN3bqg9nwySY8nkoLmJebSLD5BWv3ENZ" ∷ codes "L1aW4aubDFB7yfras2S1mN3bqg9nwySY8nkoLmJebSLD5BWv3ENZz" ∷ codes "cHNidPxprv" ∷ []) ≡
+    Some PrivateKey ∷ Some PrivateKey ∷ Some PrivateKey ∷ Some PrivateKey ∷ Some PrivateKey ∷ Some PrivateKey ∷ Some PrivateKey ∷ Some PrivateKey ∷ Some PrivateKey ∷ Some PrivateKey
+    ∷ Some (NoDigit 0) ∷ Some (NoDigit 0) ∷ Some Psbt ∷ []
+unfolding is_base58_address is_segwit_address is_wif begins_with_wif has_private_key form_of fault_at
+keys_in_texts = refl

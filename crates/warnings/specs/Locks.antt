@@ -1,15 +1,17 @@
 -- Relative locks (BIP 68, BIP 112), and absolute ones that no transaction reaches (BIP 65).
-use Rattle.std.specs.Prelude.{ℕ, ◌+◌, ◌%◌, ◌/◌, Bool, false, ◌&&◌, ◌||◌, ◌==◌, nat_lt, if◌then◌else◌, List, [], ◌∷◌, ◌++◌, Option, Some, None, option_and_then, option_to_list, max}
+use Rattle.std.specs.Prelude.{ℕ, ◌+◌, ◌%◌, ◌/◌, Bool, false, ◌&&◌, ◌||◌, ◌==◌, nat_le, nat_lt, if◌then◌else◌, List, [], ◌∷◌, ◌++◌, Option, Some, None, option_and_then, option_to_list, max, reverse}
 use Rattle.std.specs.List.{list_any}
 use Rattle.facts.specs.Symbols.{Fact, Stated}
 use Rattle.facts.specs.declared.symbols.FactOver.TheVariants.{Lock, Age}
 use Rattle.script.specs.declared.opcode.Op.{Op}
-use Rattle.script.specs.declared.opcode.Op.TheVariants.{Push, Number, CheckSequenceVerify}
+use Rattle.script.specs.declared.opcode.Op.TheVariants.{Push, Number, CheckLockTimeVerify, CheckSequenceVerify}
 use Rattle.script.specs.declared.num.Number.{Number as Signed}
 use Rattle.script.specs.Number.{number_of}
 use Rattle.warnings.specs.declared.locks.SequenceLock.{SequenceLock}
 use Rattle.warnings.specs.declared.locks.SequenceLock.TheVariants.{Off, Blocks, Units}
 use Rattle.warnings.specs.declared.locks.LockWarning.{LockWarning}
+use Rattle.warnings.specs.declared.locks.Pushed.{Pushed}
+use Rattle.warnings.specs.declared.locks.TurnedLock.{TurnedLock}
 
 -- bit 31 switches the lock off, bit 22 selects units of 512 seconds, and bits 0 to 15 have the age
 unfoldable pub sequence_lock : ℕ → SequenceLock
@@ -45,9 +47,10 @@ abbrev pub warnings_in : ℕ → Option ℕ → List Op → List LockWarning
 warnings_in at before [] = []
 warnings_in at before (op ∷ ops) = option_to_list (warned_at at before op) ++ warnings_in (at + 1) (number_pushed op) ops
 
--- a lock time above 4,294,967,295, which no transaction has: its lock time has 4 bytes (BIP 144)
+-- a lock time above 4,294,967,294. Above the next number no transaction has it, since its lock time has 4 bytes (BIP 144). By the next one none is final: that is below no median time past, which has 4
+-- bytes too (BIP 113)
 abbrev pub is_beyond : Fact → Bool
-is_beyond (Lock n) = nat_lt 4294967295 n
+is_beyond (Lock n) = nat_lt 4294967294 n
 is_beyond fact = false
 
 abbrev pub asks_beyond : Stated → Bool
@@ -71,3 +74,37 @@ greater (Some n) (Some m) = Some (max m n)
 abbrev pub greatest_units : List Stated → Option ℕ
 greatest_units [] = None
 greatest_units (s ∷ facts) = greater (units_of s.fact) (greatest_units facts)
+
+-- the number of the same bytes from the last to the first
+abbrev pub turned_of : List ℕ → Option ℕ
+turned_of item = option_and_then magnitude_of (number_of 5 (reverse item))
+
+abbrev pub both_of : Option ℕ → Option ℕ → Option Pushed
+both_of (Some n) (Some m) = Some (record { number = n; turned = m })
+both_of (Some n) None = None
+both_of None m = None
+
+-- what an opcode pushes, if that is a number in both orders
+unfoldable pub pushed_by : Op → Option Pushed
+pushed_by (Push item) = both_of (option_and_then magnitude_of (number_of 5 item)) (turned_of item)
+pushed_by op = None
+
+-- an absolute lock by a height above 5,000,000, which is decades away, or by a time before the first block, 1,231,006,505, which restrains nobody. The other order has a height from 100,000 to
+-- 5,000,000, or a time from the first block to 2049. A relative lock of more than 4,032 blocks, which the other order has as 256 to 2,016
+unfoldable pub seems_turned : Op → ℕ → ℕ → Bool
+seems_turned CheckLockTimeVerify n m =
+    nat_lt 5000000 n
+    && ((nat_lt n 500000000 && nat_le 100000 m && nat_le m 5000000) || (nat_lt n 1231006505 && nat_le 1231006505 m && nat_lt m 2500000000))
+seems_turned CheckSequenceVerify n m = nat_lt 4032 n && nat_lt n 65536 && nat_le 256 m && nat_le m 2016
+seems_turned op n m = false
+
+abbrev pub turned_by : ℕ → Op → Pushed → Option TurnedLock
+turned_by at op p = if seems_turned op p.number p.turned then Some (record { op = at; number = p.number; turned = p.turned }) else None
+
+unfoldable pub turned_at : ℕ → Option Pushed → Op → Option TurnedLock
+turned_at at before op = option_and_then (turned_by at op) before
+
+-- the locks among opcodes, of which the first is at a position, with what was pushed right before it
+abbrev pub turned_in : ℕ → Option Pushed → List Op → List TurnedLock
+turned_in at before [] = []
+turned_in at before (op ∷ ops) = option_to_list (turned_at at before op) ++ turned_in (at + 1) (pushed_by op) ops

@@ -1,5 +1,5 @@
 -- Texts that are not hexadecimal, as ASCII codes.
-use Rattle.std.specs.Prelude.{ℕ, ◌%◌, Bool, ◌&&◌, ◌||◌, not, ◌==◌, nat_le, nat_lt, if◌then◌else◌, List, length, slice_index, Option, Some, None, codes}
+use Rattle.std.specs.Prelude.{ℕ, ◌%◌, Bool, false, ◌&&◌, ◌||◌, not, ◌==◌, nat_le, nat_lt, if◌then◌else◌, List, [], ◌∷◌, length, take, slice_index, Option, Some, None, codes}
 use Rattle.std.specs.Option.{option_map_or}
 use Rattle.std.specs.List.{list_all, position_from}
 use Rattle.warnings.specs.Parts.{has_at, has_part}
@@ -39,15 +39,29 @@ is_wif text =
     && (has_at 0 (codes "5") text || has_at 0 (codes "K") text || has_at 0 (codes "L") text || has_at 0 (codes "9") text || has_at 0 (codes "c") text)
     && list_all is_base58 text
 
--- such a key, or an extended private key anywhere, as in a descriptor (BIP 32)
+-- a digit or a letter
+abbrev pub is_alphanumeric : ℕ → Bool
+is_alphanumeric b = (nat_le 48 b && nat_le b 57) || (nat_le 65 b && nat_le b 90) || (nat_le 97 b && nat_le b 122)
+
+-- the digits and letters at the front are such a key
+unfoldable pub begins_with_wif : List ℕ → Bool
+begins_with_wif text =
+    option_map_or (λ end. nat_le end (length text) && is_wif (take end text)) (position_from (λ b. not (is_alphanumeric b)) 0 text) (is_wif text)
+
+-- such a key anywhere, as in quotes, after a prefix or in a descriptor: no digit or letter stands right before it or right after it. `inside` says whether one stands before the text
+abbrev pub has_wif_after : Bool → List ℕ → Bool
+has_wif_after inside [] = false
+has_wif_after inside (b ∷ text) = (not inside && begins_with_wif (b ∷ text)) || has_wif_after (is_alphanumeric b) text
+
+-- such a key, or an extended private key anywhere: after the first letter it has prv (BIP 32, SLIP 132)
 unfoldable pub has_private_key : List ℕ → Bool
-has_private_key text = is_wif text || has_part (codes "xprv") text || has_part (codes "tprv") text
+has_private_key text = has_wif_after false text || has_part (codes "prv") text
 
 -- what the text looks like; the first letters of a PSBT are those of its magic bytes in Base64 (BIP 174)
 unfoldable pub form_of : List ℕ → Option TextFault
 form_of text =
-    if has_private_key text then Some PrivateKey
-    else if has_at 0 (codes "cHNidP") text then Some Psbt
+    if has_at 0 (codes "cHNidP") text then Some Psbt
+    else if has_private_key text then Some PrivateKey
     else if is_segwit_address text || is_base58_address text then Some Address
     else if has_part (codes "(") text then Some Descriptor
     else if has_part (codes "OP_") text then Some Assembly

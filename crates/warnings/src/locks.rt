@@ -1,7 +1,8 @@
-// Relative locks that ask for less than their number says, or are by time, and locks that no transaction reaches.
+// Relative locks that ask for less than their number says, or are by time, locks that no transaction reaches, and those whose bytes seem to be turned round.
 
-ghost use Rattle.std.specs.Prelude.{◌≡◌, ◌++◌, IfOk, OnOk, None, option_to_list};
-ghost use Rattle.warnings.specs.Locks.{sequence_lock, is_plain, number_pushed, warned_at, warnings_in, is_beyond, asks_beyond, has_unreachable_lock, units_of, greater, greatest_units};
+ghost use Rattle.std.specs.Prelude.{◌≡◌, ◌++◌, IfOk, OnOk, None, option_to_list, option_and_then};
+ghost use Rattle.script.specs.Number.{number_of};
+ghost use Rattle.warnings.specs.Locks.{sequence_lock, is_plain, number_pushed, warned_at, warnings_in, is_beyond, asks_beyond, has_unreachable_lock, units_of, greater, greatest_units, magnitude_of, turned_of, pushed_by, seems_turned, turned_at, turned_in};
 
 use facts::{Fact, Stated};
 use script::Op;
@@ -124,24 +125,25 @@ pub fn lock_warnings(alloc: Global, ops: &[Op]) -> Result<Vec<LockWarning>, Allo
     Ok(warnings)
 }
 
-// Whether a fact, if it holds, asks for a lock time that no transaction has.
+// Whether a fact, if it holds, asks for a lock time by which no transaction is ever final.
 fn is_beyond(fact: &Fact) -> bool
     ensures { result ≡ is_beyond fact.now }
 {
     match fact {
-        Fact::Lock(number) => *number > 4_294_967_295,
+        Fact::Lock(number) => *number > 4_294_967_294,
         _ => false,
     }
 }
 
-// Whether a fact of a path asks for a lock time that no transaction has.
+// Whether a fact of a path asks for a lock time by which no transaction is ever final.
 fn asks_beyond(stated: &Stated) -> bool
     ensures { result ≡ asks_beyond stated.now }
 {
     stated.holds && is_beyond(&stated.fact)
 }
 
-/// Whether a path with these facts asks for a lock time that no transaction has: above 4,294,967,295, since it has 4 bytes (BIP 144).
+/// Whether a path with these facts asks for a lock time by which no transaction is ever final: from 4,294,967,295 on. A greater one has more than 4 bytes (BIP 144). That one has to be
+/// below a median time past, which has 4 bytes too (BIP 113).
 pub fn has_unreachable_lock(facts: &[Stated]) -> bool
     ensures { result ≡ has_unreachable_lock facts.now }
 {
@@ -184,4 +186,130 @@ pub fn greatest_units(facts: &[Stated]) -> Option<u16>
         units = greater(units_of(&stated.fact), units);
     }
     units
+}
+
+/// A lock whose number seems to have its bytes turned round.
+#[derive(Clone, Copy, Debug, PartialEq, Eq, Drop)]
+pub struct TurnedLock {
+    /// The index of the opcode, counted from 0.
+    pub op: usize,
+    /// The number that the opcode before it pushes.
+    pub number: u64,
+    /// The number that the same bytes are from the last to the first.
+    pub turned: u64,
+}
+
+// Bytes that were pushed, as a number in either order.
+#[derive(Clone, Copy)]
+struct Pushed {
+    number: u64,
+    turned: u64,
+}
+
+// The number of bytes, if it is not negative.
+#[tactic(auto, unfolding(crate::specs::Locks::number_pushed))]
+fn number_in(bytes: &[u8]) -> Option<u64>
+    ensures { result ≡ option_and_then magnitude_of (number_of 5 bytes.now) }
+{
+    match read(bytes, Limit::Lock) {
+        Some(number) => {
+            if number.negative {
+                None
+            } else {
+                Some(number.magnitude)
+            }
+        }
+        None => None,
+    }
+}
+
+// The number of the bytes from the last to the first, if it is not negative. The only error is that memory ran out.
+fn turned_of(alloc: Global, bytes: &[u8]) -> Result<Option<u64>, AllocError>
+    ensures { IfOk result (λ n. n ≡ turned_of bytes.now) }
+{
+    let mut turned = Vec::new(alloc);
+    turned.extend_from_slice(bytes)?;
+    turned.reverse();
+    Ok(number_in(turned.as_slice()))
+}
+
+// What an opcode pushes, if that is a number in both orders. The only error is that memory ran out.
+#[tactic(auto, unfolding(crate::specs::Locks::pushed_by))]
+fn pushed_by(alloc: Global, op: &Op) -> Result<Option<Pushed>, AllocError>
+    ensures { IfOk result (λ p. p ≡ pushed_by op.now) }
+{
+    match op {
+        Op::Push(item) => {
+            let turned = turned_of(alloc, item.bytes())?;
+            Ok(match (number_in(item.bytes()), turned) {
+                (Some(number), Some(turned)) => Some(Pushed { number, turned }),
+                _ => None,
+            })
+        }
+        _ => Ok(None),
+    }
+}
+
+// Whether a lock's number is far from what is meant with one, and with its bytes turned round near to it.
+#[tactic(auto, unfolding(crate::specs::Locks::seems_turned))]
+fn seems_turned(op: &Op, number: u64, turned: u64) -> bool
+    ensures { result ≡ seems_turned op.now number turned }
+{
+    match op {
+        Op::CheckLockTimeVerify => {
+            5_000_000 < number
+                && ((number < 500_000_000 && 100_000 <= turned && turned <= 5_000_000)
+                    || (number < 1_231_006_505
+                        && 1_231_006_505 <= turned
+                        && turned < 2_500_000_000))
+        }
+        Op::CheckSequenceVerify => {
+            4_032 < number && number < 65_536 && 256 <= turned && turned <= 2_016
+        }
+        _ => false,
+    }
+}
+
+// The warning about an opcode before which this was pushed.
+#[tactic(auto, unfolding(crate::specs::Locks::turned_at))]
+fn turned_at(at: usize, before: Option<Pushed>, op: &Op) -> Option<TurnedLock>
+    ensures { result ≡ turned_at at before op.now }
+{
+    match before {
+        Some(pushed) => {
+            if seems_turned(op, pushed.number, pushed.turned) {
+                Some(TurnedLock {
+                    op: at,
+                    number: pushed.number,
+                    turned: pushed.turned,
+                })
+            } else {
+                None
+            }
+        }
+        None => None,
+    }
+}
+
+// Appends a lock, if there is one. The only error is that memory ran out.
+fn push_turned(locks: &mut Vec<TurnedLock>, lock: Option<TurnedLock>) -> Result<(), AllocError>
+    ensures { OnOk result (locks.new.items ≡ locks.old.items ++ option_to_list lock) }
+{
+    if let Some(lock) = lock {
+        locks.push(lock)?;
+    }
+    Ok(())
+}
+
+/// The locks of a script whose number, pushed right before them, seems to have its bytes turned round. The only error is that memory ran out.
+pub fn turned_locks(alloc: Global, ops: &[Op]) -> Result<Vec<TurnedLock>, AllocError>
+    ensures { IfOk result (λ v. v.items ≡ turned_in 0 None ops.now) }
+{
+    let mut locks = Vec::new(alloc);
+    let mut before: Option<Pushed> = None;
+    for (at, op) in ops.iter().enumerate() {
+        push_turned(&mut locks, turned_at(at, before, op))?;
+        before = pushed_by(alloc, op)?;
+    }
+    Ok(locks)
 }

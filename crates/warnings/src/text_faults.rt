@@ -1,15 +1,15 @@
 // Texts that are not hexadecimal.
 
-ghost use Rattle.std.specs.Prelude.{◌≡◌, not};
+ghost use Rattle.std.specs.Prelude.{◌≡◌, not, false};
 ghost use Rattle.std.specs.List.{list_all, position_from};
-ghost use Rattle.warnings.specs.TextFaults.{is_digit, is_blank, is_base58, is_base58_address, is_segwit_address, is_wif, has_private_key, form_of, odd_of, fault_at, text_fault};
+ghost use Rattle.warnings.specs.TextFaults.{is_digit, is_blank, is_base58, is_base58_address, is_segwit_address, is_wif, is_alphanumeric, begins_with_wif, has_wif_after, has_private_key, form_of, odd_of, fault_at, text_fault};
 
 use crate::parts::{has_at, has_part};
 
 /// Why a text is not hexadecimal. Bytes are counted from 0.
 #[derive(Clone, Copy, Debug, PartialEq, Eq, Drop)]
 pub enum TextFault {
-    /// It looks like a private key, in WIF, or has an extended one in it (BIP 32).
+    /// It has a private key in it, in WIF or an extended one (BIP 32).
     PrivateKey,
     /// It begins as a PSBT in Base64 does (BIP 174).
     Psbt,
@@ -102,12 +102,53 @@ fn is_wif(text: &[u8]) -> bool
         && are_base58(text)
 }
 
-// Whether bytes look like a private key, or have an extended one in them.
+// Whether a byte is a digit or a letter (ASCII).
+fn is_alphanumeric(byte: u8) -> bool
+    ensures { result ≡ is_alphanumeric byte }
+{
+    (48 <= byte && byte <= 57) || (65 <= byte && byte <= 90) || (97 <= byte && byte <= 122)
+}
+
+// The first byte that is no digit and no letter.
+fn first_no_alphanumeric(text: &[u8]) -> Option<usize>
+    ensures { result ≡ position_from (λ b. not (is_alphanumeric b)) 0 text.now }
+{
+    text.iter().position(|byte| !is_alphanumeric(*byte))
+}
+
+// Whether the digits and letters at the front are a private key in WIF.
+#[tactic(auto, unfolding(crate::specs::TextFaults::begins_with_wif))]
+fn begins_with_wif(text: &[u8]) -> bool
+    ensures { result ≡ begins_with_wif text.now }
+{
+    match first_no_alphanumeric(text) {
+        Some(end) => end <= text.len() && is_wif(&text[..end]),
+        None => is_wif(text),
+    }
+}
+
+// Whether bytes have a private key in WIF in them, with no digit or letter right before it or after it.
+fn has_wif(text: &[u8]) -> bool
+    ensures { result ≡ has_wif_after false text.now }
+{
+    let mut rest = text;
+    let mut is_inside = false;
+    while let Some((first, after)) = rest.split_first() {
+        if !is_inside && begins_with_wif(rest) {
+            return true;
+        }
+        is_inside = is_alphanumeric(*first);
+        rest = after;
+    }
+    false
+}
+
+// Whether bytes have a private key in them.
 #[tactic(auto, unfolding(crate::specs::TextFaults::has_private_key))]
 fn has_private_key(text: &[u8]) -> bool
     ensures { result ≡ has_private_key text.now }
 {
-    is_wif(text) || has_part(text, b"xprv") || has_part(text, b"tprv")
+    has_wif(text) || has_part(text, b"prv")
 }
 
 // What a text looks like; `None` where it looks like none of these.
@@ -115,10 +156,10 @@ fn has_private_key(text: &[u8]) -> bool
 fn form_of(text: &[u8]) -> Option<TextFault>
     ensures { result ≡ form_of text.now }
 {
-    if has_private_key(text) {
-        Some(TextFault::PrivateKey)
-    } else if has_at(text, 0, b"cHNidP") {
+    if has_at(text, 0, b"cHNidP") {
         Some(TextFault::Psbt)
+    } else if has_private_key(text) {
+        Some(TextFault::PrivateKey)
     } else if is_segwit_address(text) || is_base58_address(text) {
         Some(TextFault::Address)
     } else if has_part(text, b"(") {

@@ -61,8 +61,8 @@ pub struct Told {
     pub of_a: u64,
     /// The same of B.
     pub of_b: u64,
-    /// Whether an event was refused.
-    pub has_refused: bool,
+    /// The note on the first event that was refused; empty where none was.
+    pub first_refused: Page,
     // both as they were written last
     told_a: u64,
     told_b: u64,
@@ -77,7 +77,7 @@ impl Told {
             waiting: Vec::new(alloc),
             of_a: 0,
             of_b: 0,
-            has_refused: false,
+            first_refused: Page::new(alloc),
             told_a: 0,
             told_b: 0,
         }

@@ -87,12 +87,22 @@ impl Told {
         line.push(r#","answer":""#);
         line.show(outcome);
         line.write(r#"","height":%"#, &[Count(world.chain().height())]);
-        if matches!(outcome, Outcome::Refused(_)) {
-            self.has_refused = true;
-        } else {
+        if !matches!(outcome, Outcome::Refused(_)) {
             self.tell_changes(alloc, line, world, before, event, outcome);
         }
         line.push("}\n");
+    }
+
+    /// Keeps the note on the first event that was refused, if this one is it.
+    pub fn note_refused(&mut self, index: usize, outcomes: &[Outcome]) {
+        if let [Outcome::Refused(error)] = outcomes {
+            if self.first_refused.text().is_empty() {
+                self.first_refused.count("note: event ", index as u64);
+                self.first_refused.push(" is the first that was refused, ");
+                self.first_refused.show(error);
+                self.first_refused.push("\n");
+            }
+        }
     }
 }
 

@@ -155,9 +155,12 @@ fn write_lock<W: fmt::Write>(f: &mut fmt::Formatter<W>, lock: u64, holds: bool) 
     if lock < LOCKTIME_THRESHOLD {
         return write_number(f, "in block ", lock + 1, " at the earliest");
     }
-    if lock <= MAX_LOCK_TIME {
+    if lock < MAX_LOCK_TIME {
         let start = "once the median time past is above ";
         return write_number(f, start, lock, " seconds since 1970 (BIP 113)");
+    }
+    if lock == MAX_LOCK_TIME {
+        return f.write_str("never: no median time past is above 4294967295 (BIP 113)");
     }
     f.write_str("never: no transaction has a lock time above 4294967295")
 }
