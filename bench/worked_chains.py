@@ -13,8 +13,8 @@ import sys
 from collections import namedtuple
 
 TOP = os.path.dirname(os.path.dirname(os.path.abspath(__file__)))
-sys.path.insert(0, f"{TOP}/real")
-from ripemd160 import ripemd160
+sys.path.insert(0, TOP)
+from real.lib.ripemd160 import ripemd160
 
 PROOFS = f"{TOP}/crates/worked_chains/proofs"
 OTHER = {"A": "B", "B": "A"}
