@@ -1,4 +1,6 @@
-"""Makes a partially signed transaction of a plan, and puts its signatures into the places that the plan has for them. Tested, not proved."""
+"""Makes a partially signed transaction of a plan, and puts its signatures into the places that the plan has for them.
+Tested, not proved.
+"""
 from real.lib import psbt, scripts, signatures
 from real.lib.errors import Refused
 from real.lib.psbt import Partial, key_of
@@ -9,8 +11,13 @@ MAX_CHECKS = 100_000
 
 
 def input_fields(index, spent, outpoint):
-    """The fields of an input: what it spends, the hash type, the script, the keys' derivations, and preimages whose hash the script has."""
-    fields = {key_of(psbt.WITNESS_UTXO): psbt.output_field(spent.output), key_of(psbt.SIGHASH_TYPE): signatures.ALL.to_bytes(4, "little")}
+    """The fields of an input: what it spends, the hash type, the script, the keys' derivations, and preimages whose
+    hash the script has.
+    """
+    fields = {
+        key_of(psbt.WITNESS_UTXO): psbt.output_field(spent.output),
+        key_of(psbt.SIGHASH_TYPE): signatures.ALL.to_bytes(4, "little"),
+    }
     if spent.previous is not None:
         before = read_transaction(spent.previous)
         place = int.from_bytes(outpoint[32:], "little")
@@ -34,8 +41,16 @@ def input_fields(index, spent, outpoint):
 
 def make(plan):
     """The partially signed transaction of a plan, without a signature."""
-    inputs = [input_fields(index, it, given.outpoint) for index, (it, given) in enumerate(zip(plan.inputs, plan.transaction.inputs))]
-    return Partial(plan.transaction, {key_of(psbt.UNSIGNED_TX): plan.transaction.stripped_bytes()}, inputs, [{} for _ in plan.transaction.outputs])
+    inputs = [
+        input_fields(index, it, given.outpoint)
+        for index, (it, given) in enumerate(zip(plan.inputs, plan.transaction.inputs))
+    ]
+    return Partial(
+        plan.transaction,
+        {key_of(psbt.UNSIGNED_TX): plan.transaction.stripped_bytes()},
+        inputs,
+        [{} for _ in plan.transaction.outputs],
+    )
 
 
 def checked_signature(wanted, item, curve, place):
@@ -79,7 +94,9 @@ def check_fields(index, spent, partially):
         raise Refused(f"OtherOutput {index}")
     if fields.get(key_of(psbt.WITNESS_SCRIPT), spent.script) != spent.script:
         raise Refused(f"OtherScript {index}")
-    if fields.get(key_of(psbt.SIGHASH_TYPE), signatures.ALL.to_bytes(4, "little")) != signatures.ALL.to_bytes(4, "little"):
+    if fields.get(key_of(psbt.SIGHASH_TYPE), signatures.ALL.to_bytes(4, "little")) != signatures.ALL.to_bytes(
+        4, "little"
+    ):
         raise Refused(f"HashType {index}")
 
 
@@ -87,7 +104,10 @@ def finish(plan, partially, curve):
     """The signed transaction of a plan, with the signatures of a partially signed one."""
     if partially.transaction.stripped_bytes() != plan.transaction.stripped_bytes():
         raise Refused("OtherSpend")
-    if sum(len(it.wanted) * len(formed_items(fields)) for it, fields in zip(plan.inputs, partially.inputs)) > MAX_CHECKS:
+    if (
+        sum(len(it.wanted) * len(formed_items(fields)) for it, fields in zip(plan.inputs, partially.inputs))
+        > MAX_CHECKS
+    ):
         raise Refused("TooManyChecks")
     for index, spent in enumerate(plan.inputs):
         check_fields(index, spent, partially)

@@ -1,6 +1,8 @@
-"""The paths of scripts, by the proved library for C where it is built here, and else by the program `trace`. How they are asked is tested, not proved.
+"""The paths of scripts, by the proved library for C where it is built here, and else by the program `trace`. How they
+are asked is tested, not proved.
 
-ENFORCE_LIBRARY names the shared library. Without it the one of out/library is taken, where `./enforce --install-library out/library` put it.
+ENFORCE_LIBRARY names the shared library. Without it the one of out/library is taken, where `./enforce
+--install-library out/library` put it.
 """
 import os
 import sys

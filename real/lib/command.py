@@ -56,7 +56,9 @@ def help_or_usage(words, text, usage):
 
 
 def ends(run, refusal="refused {}".format):
-    """Runs a tool to its end, and gives its status. A refusal is one line on standard output, with its note on standard error; a failed write is a line there, unless nobody reads any more."""
+    """Runs a tool to its end, and gives its status. A refusal is one line on standard output, with its note on
+    standard error; a failed write is a line there, unless nobody reads any more.
+    """
     if sys.stdout is None:
         return REFUSED
     try:

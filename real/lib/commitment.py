@@ -1,4 +1,6 @@
-"""The outputs of a revoked commitment, by scripts that are built anew from its keys (BOLT 3, "Commitment Transaction Outputs"). Tested, not proved."""
+"""The outputs of a revoked commitment, by scripts that are built anew from its keys (BOLT 3, "Commitment Transaction
+Outputs"). Tested, not proved.
+"""
 from dataclasses import dataclass
 from typing import List, Optional
 
@@ -37,7 +39,9 @@ class Keys:
 
 @dataclass
 class Known:
-    """An output whose program is known: what it is, its script, and the items that stand between the signature and the script. The key signs."""
+    """An output whose program is known: what it is, its script, and the items that stand between the signature and the
+    script. The key signs.
+    """
 
     kind: str
     program: bytes
@@ -61,12 +65,26 @@ def number(value):
 
 
 def to_local_script(keys, delay_blocks):
-    return b"\x63" + push(keys.revocation) + b"\x67" + number(delay_blocks) + b"\xb2\x75" + push(keys.delayed) + b"\x68\xac"
+    return (
+        b"\x63"
+        + push(keys.revocation)
+        + b"\x67"
+        + number(delay_blocks)
+        + b"\xb2\x75"
+        + push(keys.delayed)
+        + b"\x68\xac"
+    )
 
 
 def htlc_script(keys, htlc, channel_type=STATIC_REMOTEKEY):
     end = HTLC_ENDS[channel_type]
-    start = b"\x76\xa9" + push(hash160(keys.revocation)) + b"\x87\x63\xac\x67" + push(keys.remote_htlc) + b"\x7c\x82\x01\x20\x87"
+    start = (
+        b"\x76\xa9"
+        + push(hash160(keys.revocation))
+        + b"\x87\x63\xac\x67"
+        + push(keys.remote_htlc)
+        + b"\x7c\x82\x01\x20\x87"
+    )
     payment = push(ripemd160(htlc.payment_hash))
     if htlc.is_offered:
         return start + b"\x64\x75\x52\x7c" + push(keys.local_htlc) + b"\x52\xae\x67\xa9" + payment + b"\x88\xac" + end
@@ -79,7 +97,9 @@ def program_of(script):
 
 
 def named_outputs(keys, funding_keys):
-    """What an output is that is not taken from a channel with anchors, by its program, and the value that it has to have; None where it may have any."""
+    """What an output is that is not taken from a channel with anchors, by its program, and the value that it has to
+    have; None where it may have any.
+    """
     yield program_of(push(keys.remote) + b"\xad\x51\xb2"), "to_remote", None
     for key in funding_keys:
         yield program_of(push(key) + b"\xac\x73\x64\x60\xb2\x68"), "anchor", ANCHOR_SAT
@@ -92,12 +112,21 @@ def known_outputs(keys, delay_blocks, htlcs, channel_type=STATIC_REMOTEKEY):
     yield Known("to_remote", payment, scripts.key_script(payment), [], keys.remote)
     for it in htlcs:
         script = htlc_script(keys, it, channel_type)
-        yield Known("offered" if it.is_offered else "received", program_of(script), script, [keys.revocation], keys.revocation, it)
+        yield Known(
+            "offered" if it.is_offered else "received",
+            program_of(script),
+            script,
+            [keys.revocation],
+            keys.revocation,
+            it,
+        )
 
 
 def table_of(keys, delay_blocks, htlcs, channel_type=STATIC_REMOTEKEY):
-    """What is known of an output, by its program. The script of an offered HTLC has no expiry, so those with one hash have one program, and nothing tells which output is whose: of these the HTLC that
-    expires first is kept, so that no deadline is too late."""
+    """What is known of an output, by its program. The script of an offered HTLC has no expiry, so those with one hash
+    have one program, and nothing tells which output is whose: of these the HTLC that expires first is kept, so that no
+    deadline is too late.
+    """
     found = {}
     for it in known_outputs(keys, delay_blocks, sorted(htlcs, key=lambda it: it.expiry_height), channel_type):
         found.setdefault(it.program, it)
@@ -105,7 +134,9 @@ def table_of(keys, delay_blocks, htlcs, channel_type=STATIC_REMOTEKEY):
 
 
 def keys_of(curve, bases, point, is_legacy):
-    """The keys of the commitment with this per-commitment point. The remote key is the payment base point itself, unless the channel is older than static_remotekey."""
+    """The keys of the commitment with this per-commitment point. The remote key is the payment base point itself,
+    unless the channel is older than static_remotekey.
+    """
     return Keys(
         revocation=derivation.revocation(curve, bases["revocation"], point),
         delayed=derivation.derived_key(curve, bases["owner_delayed"], point),
@@ -116,8 +147,10 @@ def keys_of(curve, bases, point, is_legacy):
 
 
 def private_keys_of(curve, bases, privates, secret, point, is_legacy):
-    """The private keys that sign penalties, by their public keys: from the private keys of the revocation and payment base points, in any order. One of the two may be missing. Beside them the places
-    of keys that are that of neither base point; where all are, the first is refused."""
+    """The private keys that sign penalties, by their public keys: from the private keys of the revocation and payment
+    base points, in any order. One of the two may be missing. Beside them the places of keys that are that of neither
+    base point; where all are, the first is refused.
+    """
     if not privates:
         raise Refused("NoKey")
     found, unused = {}, []
@@ -126,7 +159,9 @@ def private_keys_of(curve, bases, privates, secret, point, is_legacy):
             raise Refused(f"BadKey {place}")
         base = curve.public_key(private)
         if base == bases["revocation"]:
-            found[derivation.revocation(curve, base, point)] = derivation.revocation_private_key(private, base, secret, point)
+            found[derivation.revocation(curve, base, point)] = derivation.revocation_private_key(
+                private, base, secret, point
+            )
         elif base == bases["payment"]:
             key = derivation.derived_key(curve, base, point) if is_legacy else base
             found[key] = derivation.derived_private_key(private, base, point) if is_legacy else private

@@ -1,4 +1,6 @@
-"""The number of a commitment, which its lock time and sequence have (BOLT 3, "Commitment Transaction"). Tested, not proved."""
+"""The number of a commitment, which its lock time and sequence have (BOLT 3, "Commitment Transaction"). Tested, not
+proved.
+"""
 from real.lib.errors import Refused
 from real.lib.plan import read_object
 from real.lib.transaction import read_transaction, sha256
@@ -18,7 +20,9 @@ def read_base(shape, name):
 
 
 def mask_of(opener_payment, other_payment):
-    """What the number is masked with: the last bytes of the SHA-256 of both payment base points, first that of the side that opened the channel."""
+    """What the number is masked with: the last bytes of the SHA-256 of both payment base points, first that of the
+    side that opened the channel.
+    """
     return int.from_bytes(sha256(opener_payment + other_payment)[-NUMBER_SIZE:], "big")
 
 
@@ -29,7 +33,9 @@ def has_form(transaction):
 
 
 def number_of(transaction, mask):
-    """The commitment number. A transaction whose lock time and sequence have another form, or that has more inputs, is no commitment."""
+    """The commitment number. A transaction whose lock time and sequence have another form, or that has more inputs, is
+    no commitment.
+    """
     if not has_form(transaction):
         raise Refused("NotCommitment")
     lower, upper = (it % (1 << HALF) for it in (transaction.lock_time, transaction.inputs[0].sequence))
@@ -37,13 +43,20 @@ def number_of(transaction, mask):
 
 
 def notes_of(found):
-    """A number that no channel reaches comes out where a base point is another channel's, or the two are changed round."""
+    """A number that no channel reaches comes out where a base point is another channel's, or the two are changed
+    round.
+    """
     if found["commitment_number"] >= DOUBTED:
-        yield f"no channel has had {found['commitment_number']} commitments: the payment base points are changed round, or another channel's"
+        yield (
+            f"no channel has had {found['commitment_number']} commitments: the payment base points are changed round,"
+            " or another channel's"
+        )
 
 
 def commitment_numbers(given):
-    """What is said of the transaction that a JSON text has: its number, and that of its per-commitment secret, which counts down from the last (BOLT 3, "Per-commitment Secret Requirements")."""
+    """What is said of the transaction that a JSON text has: its number, and that of its per-commitment secret, which
+    counts down from the last (BOLT 3, "Per-commitment Secret Requirements").
+    """
     shape = read_object(given, "seen").check_names("transaction", "opener_payment", "other_payment")
     transaction = read_transaction(shape.line("transaction"))
     bases = [read_base(shape, it) for it in ("opener_payment", "other_payment")]

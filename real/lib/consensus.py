@@ -1,7 +1,9 @@
-"""A run of a version 0 script by the rules of consensus, with real signatures, over the opcodes that the proved machine knows. Tested, not proved.
+"""A run of a version 0 script by the rules of consensus, with real signatures, over the opcodes that the proved
+machine knows. Tested, not proved.
 
-It decides nothing that the machine decides. It tells two things beside: whether a stop of the machine is one of consensus too, or a rule that is stricter there; and which rules
-of relay a run breaks (BIP 146, and the policy that Bitcoin Core names by these words).
+It decides nothing that the machine decides. It tells two things beside: whether a stop of the machine is one of
+consensus too, or a rule that is stricter there; and which rules of relay a run breaks (BIP 146, and the policy that
+Bitcoin Core names by these words).
 """
 from dataclasses import dataclass
 from typing import Set
@@ -38,7 +40,11 @@ def is_minimal_number(item):
 
 def is_minimal_push(opcode, pushed):
     """Whether no shorter opcode pushes the same (MINIMALDATA)."""
-    return opcode in (0, *range(scripts.FIRST_NUMBER, scripts.LAST_NUMBER + 1)) or len(pushed) > 1 or not (1 <= pushed[0] <= 16 or pushed[0] == 0x81)
+    return (
+        opcode in (0, *range(scripts.FIRST_NUMBER, scripts.LAST_NUMBER + 1))
+        or len(pushed) > 1
+        or not (1 <= pushed[0] <= 16 or pushed[0] == 0x81)
+    )
 
 
 class Spend:
@@ -142,7 +148,11 @@ class Run:
     def check_lock_time(self):
         """BIP 65."""
         wanted, reached = self.number(self.top(), LOCK_SIZE), self.spend.lock_time
-        self.fail_unless(0 <= wanted <= reached and (wanted < LOCKTIME_THRESHOLD) == (reached < LOCKTIME_THRESHOLD) and self.spend.sequence != FINAL)
+        self.fail_unless(
+            0 <= wanted <= reached
+            and (wanted < LOCKTIME_THRESHOLD) == (reached < LOCKTIME_THRESHOLD)
+            and self.spend.sequence != FINAL
+        )
 
     def check_sequence(self):
         """BIP 112."""
@@ -223,7 +233,9 @@ class Run:
 
 @dataclass
 class End:
-    """How a run ends: whether it is valid by consensus, the opcode at which it fails (at the end, their number), and the rules of relay that a valid one breaks."""
+    """How a run ends: whether it is valid by consensus, the opcode at which it fails (at the end, their number), and
+    the rules of relay that a valid one breaks.
+    """
 
     valid: bool
     opcode: int

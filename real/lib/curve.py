@@ -8,7 +8,15 @@ import os
 from real.lib.errors import NotRun
 from real.lib.transaction import sha256
 
-NAMES = ("libsecp256k1.so.6", "libsecp256k1.so.5", "libsecp256k1.so.2", "libsecp256k1.so.1", "libsecp256k1.so.0", "libsecp256k1.so", "libsecp256k1.dylib")
+NAMES = (
+    "libsecp256k1.so.6",
+    "libsecp256k1.so.5",
+    "libsecp256k1.so.2",
+    "libsecp256k1.so.1",
+    "libsecp256k1.so.0",
+    "libsecp256k1.so",
+    "libsecp256k1.dylib",
+)
 # for signing and verifying, as all versions of the library know it
 CONTEXT = 0x0301
 COMPRESSED = 0x0102
@@ -59,7 +67,9 @@ class Curve:
         return getattr(self.library, f"secp256k1_{name}")(self.context, *given)
 
     def verify(self, key, digest, der):
-        """Whether a signature in strict DER, without its hash type, is the key's over the digest. A high s counts, as it does by consensus."""
+        """Whether a signature in strict DER, without its hash type, is the key's over the digest. A high s counts, as
+        it does by consensus.
+        """
         point, signature = ctypes.create_string_buffer(64), ctypes.create_string_buffer(64)
         if not self.call("ec_pubkey_parse", point, key, len(key)):
             return False
@@ -224,7 +234,9 @@ class Recording(Record):
         return self.note_answer("added", self.curve.sum_with_generator(key, number), key, number)
 
     def weighted_sum(self, first, one, second, other):
-        return self.note_answer("combined", self.curve.weighted_sum(first, one, second, other), first, one, second, other)
+        return self.note_answer(
+            "combined", self.curve.weighted_sum(first, one, second, other), first, one, second, other
+        )
 
     def sign(self, private, digest):
         return self.note_answer("sign", self.curve.sign(private, digest), private, digest)

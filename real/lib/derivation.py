@@ -26,7 +26,9 @@ def point_of(found):
 
 
 def derived_key(curve, base, point):
-    """A key of the commitment: the base point, and SHA-256 of the per-commitment point and the base point times the generator."""
+    """A key of the commitment: the base point, and SHA-256 of the per-commitment point and the base point times the
+    generator.
+    """
     return point_of(curve.sum_with_generator(base, sha256(point + base)))
 
 
@@ -35,10 +37,14 @@ def derived_private_key(private, base, point):
 
 
 def revocation(curve, base, point):
-    """The revocation key: the base point and the per-commitment point, each times the SHA-256 of both with itself first."""
+    """The revocation key: the base point and the per-commitment point, each times the SHA-256 of both with itself
+    first.
+    """
     return point_of(curve.weighted_sum(base, sha256(base + point), point, sha256(point + base)))
 
 
 def revocation_private_key(private, base, secret, point):
     """Its private key, from that of the base point and the per-commitment secret."""
-    return private_key_of(number_of(private) * number_of(sha256(base + point)) + number_of(secret) * number_of(sha256(point + base)))
+    return private_key_of(
+        number_of(private) * number_of(sha256(base + point)) + number_of(secret) * number_of(sha256(point + base))
+    )

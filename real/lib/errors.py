@@ -1,4 +1,6 @@
-"""What ends a tool of this folder: an input that is refused, or something that it needs and does not find. Tested, not proved."""
+"""What ends a tool of this folder: an input that is refused, or something that it needs and does not find. Tested, not
+proved.
+"""
 
 
 class Refused(Exception):

@@ -22,7 +22,10 @@ def is_hex(word):
 def hex_hint(word):
     """Why a word is not bytes in hexadecimal."""
     if ADDRESS.fullmatch(word) or ADDRESS.fullmatch(word.lower()):
-        return "this is an address; its program is what bitcoin-cli validateaddress ADDRESS has as scriptPubKey, on the address's own network"
+        return (
+            "this is an address; its program is what bitcoin-cli validateaddress ADDRESS has as scriptPubKey, on the"
+            " address's own network"
+        )
     if word[:2] in ("0x", "0X"):
         return "hexadecimal stands here without 0x"
     if any(it.isspace() for it in word):
@@ -35,7 +38,10 @@ def hex_hint(word):
 def value_hint(word):
     """Why a word is no value in satoshis."""
     if BITCOINS.fullmatch(word):
-        return f"a value stands here in satoshis: {word} bitcoins, as a node prints them, are {int(Decimal(word) * SATOSHIS)}"
+        return (
+            f"a value stands here in satoshis: {word} bitcoins, as a node prints them, are"
+            f" {int(Decimal(word) * SATOSHIS)}"
+        )
     if word.isascii() and word.isdecimal():
         return f"a value has at most {MAX_MONEY} satoshis, 21 million bitcoins"
     return "a value is a whole number of satoshis, in digits alone"

@@ -1,4 +1,6 @@
-"""Reads what real/judge is given: a transaction with the outputs that it spends, as lines or partially signed. Tested, not proved."""
+"""Reads what real/judge is given: a transaction with the outputs that it spends, as lines or partially signed. Tested,
+not proved.
+"""
 from real.lib import hints, judgement, psbt, scripts, summary
 from real.lib.errors import Refused, bytes_of
 from real.lib.transaction import MAX_MONEY, Output, read_transaction
@@ -7,7 +9,11 @@ from real.lib.transaction import MAX_MONEY, Output, read_transaction
 def output_of(number, line):
     """A value and a program, as line `number` of the input has them."""
     words = line.split(" ")
-    if len(words) != 2 or not (words[0].isascii() and words[0].isdecimal() and len(words[0]) <= 16) or int(words[0]) > MAX_MONEY:
+    if (
+        len(words) != 2
+        or not (words[0].isascii() and words[0].isdecimal() and len(words[0]) <= 16)
+        or int(words[0]) > MAX_MONEY
+    ):
         raise Refused(f"BadLine {number}", f"line {number}: {hints.line_hint(line)}")
     try:
         return Output(int(words[0]), bytes_of(words[1]))
@@ -33,12 +39,20 @@ def read_lines(given):
         lines.pop()
     transaction = read_transaction(transaction_bytes(lines[0].strip() if lines else ""))
     if len(lines) - 1 != len(transaction.inputs):
-        raise Refused("BadCount", f"lines after the transaction: {len(lines) - 1}; inputs: {len(transaction.inputs)}; each input has a line, with value and program")
+        raise Refused(
+            "BadCount",
+            (
+                f"lines after the transaction: {len(lines) - 1}; inputs: {len(transaction.inputs)}; each input has a"
+                " line, with value and program"
+            ),
+        )
     return transaction, [output_of(number, line.strip()) for number, line in enumerate(lines[1:], 2)], {}
 
 
 def unjudged_reason(fields, output):
-    """Why an input of a partially signed transaction is not judged, or None. Outputs of other kinds than version 0 are named later."""
+    """Why an input of a partially signed transaction is not judged, or None. Outputs of other kinds than version 0 are
+    named later.
+    """
     taproot = psbt.taproot_fields(fields)
     if taproot:
         return judgement.Settled("TaprootFields", f"the input has the fields {', '.join(taproot)} (BIP 371)")
@@ -46,7 +60,9 @@ def unjudged_reason(fields, output):
         return judgement.Settled("NoOutput", "neither WITNESS_UTXO nor NON_WITNESS_UTXO tells what the input spends")
     is_judged = scripts.is_key_hash(output.program) or scripts.is_script_hash(output.program)
     if is_judged and psbt.final_witness(fields) is None:
-        return judgement.Settled("NotFinal", "the input has no FINAL_SCRIPTWITNESS; real/psbt finish makes it from signatures")
+        return judgement.Settled(
+            "NotFinal", "the input has no FINAL_SCRIPTWITNESS; real/psbt finish makes it from signatures"
+        )
     return None
 
 

@@ -30,7 +30,10 @@ def count_of(count, word):
 def whole_page(it):
     fee = "a fee that is not known" if it["fee"] is None else f"a fee of {count_of(it['fee'], 'satoshi')}"
     faults = "".join(f"  fault   {each}: {FAULTS[each]}\n" for each in it["faults"])
-    return f"transaction {it['txid']}: {count_of(it['inputs'], 'input')}, {count_of(it['outputs'], 'output')}, {fee}\n{faults}{wait_line(it.get('lock'))}"
+    return (
+        f"transaction {it['txid']}: {count_of(it['inputs'], 'input')}, {count_of(it['outputs'], 'output')},"
+        f" {fee}\n{faults}{wait_line(it.get('lock'))}"
+    )
 
 
 WAITS = {
@@ -63,7 +66,10 @@ def head(it):
     if it["answer"] == "not judged":
         return f"{start} is not judged: {why}"
     at = f" at opcode {it['opcode']} ({it['op'] or 'end'}), byte {it['byte']}" if "opcode" in it else ""
-    return f"{start} {'stops' if it['answer'] == 'stops' else 'is stricter here: consensus takes it, and the machine stops'}{at}: {why}"
+    return (
+        f"{start} {'stops' if it['answer'] == 'stops' else 'is stricter here: consensus takes it, and the machine stops'}{at}:"
+        f" {why}"
+    )
 
 
 def page(it):

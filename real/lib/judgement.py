@@ -1,7 +1,8 @@
-"""Stands a token in the place of each real signature, and has the proved judge say what becomes of each input. The judge is proved; what is done here is tested, not proved.
+"""Stands a token in the place of each real signature, and has the proved judge say what becomes of each input. The
+judge is proved; what is done here is tested, not proved.
 
-A token names a key and a digest, so it may stand where the library says that a signature is this key's over this digest. Where that would change more than the signature, the
-input is not judged, and is told why.
+A token names a key and a digest, so it may stand where the library says that a signature is this key's over this
+digest. Where that would change more than the signature, the input is not judged, and is told why.
 """
 from dataclasses import dataclass, field
 from typing import Dict, List, Optional, Set
@@ -12,7 +13,8 @@ from real.lib.errors import Refused
 from real.lib.transaction import Digests, Input, Output, Transaction, hash160
 
 MAX_INPUTS, MAX_OUTPUTS, MAX_ITEMS, MAX_TEXT = 4_000, 4_000, 1_001, 10_000
-# in a whole transaction: signatures times keys, the opcodes of each script times the paths that it may have, and the bytes that may stand on the stacks
+# in a whole transaction: signatures times keys, the opcodes of each script times the paths that it may have, and the
+# bytes that may stand on the stacks
 MAX_CHECKS, MAX_STEPS, MAX_STACK = 100_000, 600_000, 4_194_304
 # more branches than these have more paths than are listed
 LISTED_BRANCHES = 6
@@ -25,7 +27,9 @@ NOT_SPENT = Output(0, b"\x6a")
 
 
 class Settled(Exception):
-    """What is answered of an input without the judge: that it is not judged, if nothing else is said, the name of the reason, and the reason in words."""
+    """What is answered of an input without the judge: that it is not judged, if nothing else is said, the name of the
+    reason, and the reason in words.
+    """
 
     def __init__(self, reason, says, answer="not judged"):
         super().__init__(reason)
@@ -73,7 +77,9 @@ class Case:
 
 @dataclass
 class Way:
-    """A listed path, as far as signatures go: the slots that are signatures, and of each slot the facts that measure it."""
+    """A listed path, as far as signatures go: the slots that are signatures, and of each slot the facts that measure
+    it.
+    """
 
     signatures: Set[int] = field(default_factory=set)
     measures: Dict[int, List[dict]] = field(default_factory=dict)
@@ -108,9 +114,14 @@ def other_kind(program):
     if scripts.is_taproot(program):
         return Settled("Taproot", "the output is one of version 1 (BIP 341)")
     if scripts.is_nesting(program):
-        return Settled("NestedInput", "the output has the hash of a script (BIP 16); a witness program that is nested in it is not judged")
+        return Settled(
+            "NestedInput",
+            "the output has the hash of a script (BIP 16); a witness program that is nested in it is not judged",
+        )
     if scripts.is_witness_program(program):
-        return Settled("OtherWitnessProgram", "the output is of another version or length than version 0 with 20 or 32 bytes")
+        return Settled(
+            "OtherWitnessProgram", "the output is of another version or length than version 0 with 20 or 32 bytes"
+        )
     return Settled("LegacyInput", "the output is no witness program (BIP 141)")
 
 
@@ -135,24 +146,37 @@ def find_script(case):
 
 def stack_of(operations, items):
     """How many bytes a stack may have at most, where each item may be a token."""
-    sizes = [max(len(it), signatures.TOKEN_SIZE) for it in items if it] + [len(pushed) for _, _, pushed in operations if pushed is not None]
+    sizes = [max(len(it), signatures.TOKEN_SIZE) for it in items if it] + [
+        len(pushed) for _, _, pushed in operations if pushed is not None
+    ]
     return sum(sizes) + max(sizes, default=0) * sum(opcode == scripts.DUP for _, opcode, _ in operations)
 
 
 def within_budget(case, budget):
-    """Names an opcode that the machine does not know, and settles an input whose script has too many paths and opcodes, or copies too much."""
+    """Names an opcode that the machine does not know, and settles an input whose script has too many paths and
+    opcodes, or copies too much.
+    """
     try:
         found = scripts.operations(case.script)
         branches = sum(opcode in (scripts.IF, scripts.NOTIF) for _, opcode, _ in found)
         if not budget.take("steps", len(found) << min(branches, LISTED_BRANCHES)):
-            raise Settled("TooManySteps", f"the scripts of the transaction have more than {MAX_STEPS} opcodes on all their paths together")
+            raise Settled(
+                "TooManySteps",
+                f"the scripts of the transaction have more than {MAX_STEPS} opcodes on all their paths together",
+            )
         if not budget.take("stack", stack_of(found, case.items)):
-            raise Settled("TooMuchStack", f"the stacks of the transaction's scripts may have more than {MAX_STACK} bytes together")
+            raise Settled(
+                "TooMuchStack",
+                f"the stacks of the transaction's scripts may have more than {MAX_STACK} bytes together",
+            )
     except Refused as why:
         kind, at = str(why).split()
         opcode = case.script[int(at)]
         if kind == "BadOpcode":
-            raise Settled("UnknownOpcode", f"byte {at} of the script is {opcode:02x}, {scripts.name_of(opcode)}, which the machine does not know") from None
+            raise Settled(
+                "UnknownOpcode",
+                f"byte {at} of the script is {opcode:02x}, {scripts.name_of(opcode)}, which the machine does not know",
+            ) from None
 
 
 def way_of(path):
@@ -177,7 +201,9 @@ def holds_of(fact, item):
 
 
 def is_measured(way, slot, signed):
-    """Whether a path measures a signature: one in its place as a signature at all, another one where its token answers otherwise."""
+    """Whether a path measures a signature: one in its place as a signature at all, another one where its token answers
+    otherwise.
+    """
     facts = way.measures.get(slot, [])
     if slot in way.signatures:
         return bool(facts)
@@ -188,7 +214,10 @@ def ways_of(case, listing):
     """The listed paths with this number of items. A script whose branches do not close has none."""
     refused = listing.get("refused")
     if refused not in (None, "OpenBranch"):
-        raise Settled("NotListed", f"the paths of the script are not listed ({refused}), so what it asks of its signatures is not known")
+        raise Settled(
+            "NotListed",
+            f"the paths of the script are not listed ({refused}), so what it asks of its signatures is not known",
+        )
     return [way_of(it) for it in listing.get("paths", []) if it["arity"] == len(case.items)]
 
 
@@ -208,7 +237,13 @@ def find_formed_items(case):
     for place in case.formed:
         kind = case.items[place][-1]
         if kind != signatures.ALL:
-            raise Settled("HashType", f"item {place} has the form of a signature of hash type {signatures.name_of_hash_type(kind)}, and the digest here is that of ALL")
+            raise Settled(
+                "HashType",
+                (
+                    f"item {place} has the form of a signature of hash type {signatures.name_of_hash_type(kind)}, and"
+                    " the digest here is that of ALL"
+                ),
+            )
 
 
 def find_signatures(case, listing, curve, budget):
@@ -220,17 +255,27 @@ def find_signatures(case, listing, curve, budget):
         item, slot = case.items[place], case.slot(place)
         key = signing_key(case, place, item, keys, curve)
         if key is None and not all(slot in it.signatures for it in ways):
-            raise Settled("AmbiguousItem", f"item {place} has the form of a signature, is valid for no key, and may be something else on a path")
+            raise Settled(
+                "AmbiguousItem",
+                f"item {place} has the form of a signature, is valid for no key, and may be something else on a path",
+            )
         token = signatures.token(key, case.digest) if key else signatures.nobodys_token(item)
         signed = Signed(place, key, item, token)
         if any(is_measured(it, slot, signed) for it in ways):
-            raise Settled("MeasuredSignature", f"the script measures or compares item {place}, a signature, and its token is another item")
+            raise Settled(
+                "MeasuredSignature",
+                f"the script measures or compares item {place}, a signature, and its token is another item",
+            )
         case.signed.append(signed)
 
 
 def within_limits(case, transaction):
     """Settles each input of a transaction that the judge does not read."""
-    counts = ("TooManyInputs", len(transaction.inputs), MAX_INPUTS), ("TooManyOutputs", len(transaction.outputs), MAX_OUTPUTS)
+    counts = ("TooManyInputs", len(transaction.inputs), MAX_INPUTS), (
+        "TooManyOutputs",
+        len(transaction.outputs),
+        MAX_OUTPUTS,
+    )
     for name, count, most in counts:
         if count > most:
             raise Settled(name, f"the transaction has {count}, and {most} at most are judged")
@@ -240,7 +285,10 @@ def within_limits(case, transaction):
 
 def prepare(transaction, spent, curve, trace, reasons):
     """Each input with its tokens, or settled."""
-    cases = [Case(index, it, output, settled=reasons.get(index)) for index, (it, output) in enumerate(zip(transaction.inputs, spent))]
+    cases = [
+        Case(index, it, output, settled=reasons.get(index))
+        for index, (it, output) in enumerate(zip(transaction.inputs, spent))
+    ]
     budget = Budget()
     attempt(cases, within_limits, transaction)
     attempt(cases, find_script)
@@ -269,7 +317,9 @@ def attempt(cases, step, *given):
 
 def with_tokens(transaction, cases):
     """The transaction that the judge reads: without input scripts, which no digest has, and with tokens."""
-    inputs = [Input(it.given.outpoint, b"", it.given.sequence, it.tokens() if it.settled is None else []) for it in cases]
+    inputs = [
+        Input(it.given.outpoint, b"", it.given.sequence, it.tokens() if it.settled is None else []) for it in cases
+    ]
     return Transaction(transaction.version, inputs, transaction.outputs, transaction.lock_time)
 
 
@@ -299,20 +349,34 @@ def agree(said, end):
 
 
 def conflict(case, said, transaction):
-    """Why the judge and a run by the rules of consensus end otherwise: where that run ends as the judge with tokens, a token is not what stood there, else they disagree."""
+    """Why the judge and a run by the rules of consensus end otherwise: where that run ends as the judge with tokens, a
+    token is not what stood there, else they disagree.
+    """
     spend = consensus.TokenSpend(transaction, case.index, case.digest, None)
     if not agree(said, consensus.end_of(spend, case.script, case.tokens()[: len(case.items)])):
-        return Settled("Disagreement", f"the judge says {said.get('stopped', 'clean')}, and a run by the rules of consensus does not end so")
+        return Settled(
+            "Disagreement",
+            f"the judge says {said.get('stopped', 'clean')}, and a run by the rules of consensus does not end so",
+        )
     if any(map(signatures.is_token, scripts.pushes(case.script) or ())):
-        return Settled("PushedToken", "the script pushes an item with the form of a token, which the judge takes for a signature")
-    return Settled("MeasuredSignature", "the script measures or compares a signature on a way that is not listed, and its token is another item")
+        return Settled(
+            "PushedToken", "the script pushes an item with the form of a token, which the judge takes for a signature"
+        )
+    return Settled(
+        "MeasuredSignature",
+        "the script measures or compares a signature on a way that is not listed, and its token is another item",
+    )
 
 
 def stack_of_stop(case, said, spend, transaction):
-    """The stack where the judge stops, the top first, of a run with the real signatures. With tokens it has to be the judge's."""
+    """The stack where the judge stops, the top first, of a run with the real signatures. With tokens it has to be the
+    judge's.
+    """
     blank = consensus.TokenSpend(transaction, case.index, case.digest, None)
     runs = (blank, case.tokens()[: len(case.items)]), (spend, case.items)
-    by_tokens, real = ([it.hex() for it in consensus.stack_before(each, case.script, items, said["opcode"])] for each, items in runs)
+    by_tokens, real = (
+        [it.hex() for it in consensus.stack_before(each, case.script, items, said["opcode"])] for each, items in runs
+    )
     if by_tokens != said["stack"]:
         raise Settled("Disagreement", "the judge's stack is another one than that of a run by the rules of consensus")
     return real
@@ -321,19 +385,29 @@ def stack_of_stop(case, said, spend, transaction):
 def answer(case, said, transaction, curve):
     """What is answered of an input that was judged."""
     if "digest" in said and said["digest"] != case.digest.hex():
-        raise Settled("DigestDiffers", f"the judge's digest is {said['digest']}, and the one made here {case.digest.hex()}")
+        raise Settled(
+            "DigestDiffers", f"the judge's digest is {said['digest']}, and the one made here {case.digest.hex()}"
+        )
     if "refused" in said:
         return {"answer": "stops", "reason": said["refused"], "says": said["says"]}
     spend = consensus.Spend(transaction, case.index, case.digest, curve)
     end = consensus.end_of(spend, case.script, case.items)
     if not agree(said, end):
         raise conflict(case, said, transaction)
-    found, relay = {"signatures": told_signatures(case), "digest": said["digest"]}, sorted(end.relay | broken_relay_rules(case))
+    found, relay = {"signatures": told_signatures(case), "digest": said["digest"]}, sorted(
+        end.relay | broken_relay_rules(case)
+    )
     if "path" in said:
         clean = {"answer": "clean", "path": said["path"], "counted": said["counted"], "height": said["height"]}
         return {**clean, **found, "age": locks.age_of(transaction, case.index), "relay": relay}
     stack = stack_of_stop(case, said, spend, transaction)
-    stop = {"reason": said["stopped"], "opcode": said["opcode"], "op": said["op"], "byte": said["byte"], "says": says_of(said, case, stack, transaction)}
+    stop = {
+        "reason": said["stopped"],
+        "opcode": said["opcode"],
+        "op": said["op"],
+        "byte": said["byte"],
+        "says": says_of(said, case, stack, transaction),
+    }
     stop = {"answer": "stricter here" if end.valid else "stops", **stop, "stack": stack, **found}
     return {**stop, "age": locks.age_of(transaction, case.index), "relay": relay} if end.valid else stop
 
@@ -353,10 +427,17 @@ def false_end_of(case):
     """What to look at first where a run with signatures ends with a false entry."""
     keys = [it.key for it in case.signed]
     if None in keys:
-        return f"item {case.signed[keys.index(None)].item} is valid for no key that stands here: compare the value of the spent output first"
+        return (
+            f"item {case.signed[keys.index(None)].item} is valid for no key that stands here: compare the value of the"
+            " spent output first"
+        )
     if len(set(keys)) < len(keys):
         return f"but two signatures are of one key, {next(it for it in keys if keys.count(it) > 1).hex()}"
-    return "but each signature is valid for a key that stands here: are they in the order of the keys?" if len(keys) > 1 else None
+    return (
+        "but each signature is valid for a key that stands here: are they in the order of the keys?"
+        if len(keys) > 1
+        else None
+    )
 
 
 def input_answer(case, said, transaction, curve):
@@ -375,5 +456,10 @@ def judge(transaction, spent, curve, trace, reasons=None):
     cases = prepare(transaction, spent, curve, trace, reasons or {})
     said = [None] * len(cases)
     if any(it.settled is None for it in cases):
-        said = trace.witness(with_tokens(transaction, cases), [it.spent if it.settled is None else NOT_SPENT for it in cases])
-    return [{"input": it.index, "outpoint": it.given.shown_outpoint(), **input_answer(it, line, transaction, curve)} for it, line in zip(cases, said)]
+        said = trace.witness(
+            with_tokens(transaction, cases), [it.spent if it.settled is None else NOT_SPENT for it in cases]
+        )
+    return [
+        {"input": it.index, "outpoint": it.given.shown_outpoint(), **input_answer(it, line, transaction, curve)}
+        for it, line in zip(cases, said)
+    ]

@@ -1,4 +1,6 @@
-"""Why a check of a lock fails, with both numbers; and how long a transaction has to wait (BIPs 65, 68 and 112). Tested, not proved."""
+"""Why a check of a lock fails, with both numbers; and how long a transaction has to wait (BIPs 65, 68 and 112).
+Tested, not proved.
+"""
 from real.lib.consensus import DISABLE, FINAL, LOCKTIME_THRESHOLD, MASK, TYPE
 
 UNIT_SECONDS = 512
@@ -19,7 +21,11 @@ def lock_words(lock):
 def age_words(sequence):
     """A relative lock, with its kind."""
     age = sequence & MASK
-    return f"{age} unit{'s' * (age != 1)} of {UNIT_SECONDS} seconds" if sequence & TYPE else f"{age} block{'s' * (age != 1)}"
+    return (
+        f"{age} unit{'s' * (age != 1)} of {UNIT_SECONDS} seconds"
+        if sequence & TYPE
+        else f"{age} block{'s' * (age != 1)}"
+    )
 
 
 def lock_cause(wanted, transaction, sequence):
@@ -28,10 +34,16 @@ def lock_cause(wanted, transaction, sequence):
     if wanted < 0:
         return f"the script asks for the lock {wanted}, which is negative"
     if (wanted < LOCKTIME_THRESHOLD) != (reached < LOCKTIME_THRESHOLD):
-        return f"the script asks for the lock {lock_words(wanted)}, and the transaction's lock time is {lock_words(reached)}"
+        return (
+            f"the script asks for the lock {lock_words(wanted)}, and the transaction's lock time is"
+            f" {lock_words(reached)}"
+        )
     if wanted > reached:
         return f"the script asks for the lock {wanted}, and the transaction's lock time is {reached}"
-    return f"the script asks for the lock {wanted}, and the input's sequence is ffffffff, which switches the transaction's lock time {reached} off"
+    return (
+        f"the script asks for the lock {wanted}, and the input's sequence is ffffffff, which switches the"
+        f" transaction's lock time {reached} off"
+    )
 
 
 def age_cause(wanted, transaction, sequence):
@@ -39,9 +51,15 @@ def age_cause(wanted, transaction, sequence):
     if wanted < 0:
         return f"the script asks for the age {wanted}, which is negative"
     if transaction.version < 2:
-        return f"the script asks for an age of {age_words(wanted)}, and the transaction's version is {transaction.version}: from 2 on sequences are ages"
+        return (
+            f"the script asks for an age of {age_words(wanted)}, and the transaction's version is"
+            f" {transaction.version}: from 2 on sequences are ages"
+        )
     if sequence & DISABLE:
-        return f"the script asks for an age of {age_words(wanted)}, and the input's sequence {sequence:08x} is none: its highest bit is set"
+        return (
+            f"the script asks for an age of {age_words(wanted)}, and the input's sequence {sequence:08x} is none: its"
+            " highest bit is set"
+        )
     return f"the script asks for an age of {age_words(wanted)}, and the input's sequence has {age_words(sequence)}"
 
 
@@ -55,7 +73,9 @@ def cause_of(stopped, top, transaction, sequence):
 
 
 def lock_of(transaction):
-    """The height or the time that a block has to be above before it can have the transaction; None where its lock time asks for nothing."""
+    """The height or the time that a block has to be above before it can have the transaction; None where its lock time
+    asks for nothing.
+    """
     lock = transaction.lock_time
     if not lock or all(it.sequence == FINAL for it in transaction.inputs):
         return None
@@ -63,7 +83,9 @@ def lock_of(transaction):
 
 
 def age_of(transaction, index):
-    """How much older than the spent output the transaction has to be; None where its sequence asks for nothing (BIP 68)."""
+    """How much older than the spent output the transaction has to be; None where its sequence asks for nothing (BIP
+    68).
+    """
     sequence = transaction.inputs[index].sequence
     if transaction.version < 2 or sequence & DISABLE or not sequence & MASK:
         return None

@@ -1,4 +1,6 @@
-"""Penalties on a revoked commitment's outputs: built, signed, and judged before they are told (BOLT 5, "Revoked Transaction Close Handling"). Tested, not proved."""
+"""Penalties on a revoked commitment's outputs: built, signed, and judged before they are told (BOLT 5, "Revoked
+Transaction Close Handling"). Tested, not proved.
+"""
 from dataclasses import dataclass
 from typing import Dict, List, Optional
 
@@ -11,13 +13,24 @@ VERSION, SEQUENCE = 2, 0
 # the longest signature that is made: DER with a low s, and the hash type
 SIGNATURE_SIZE = 72
 BASE_SIZE, MARKER_SIZE, INPUT_SIZE = 8, 2, 41
-# Bitcoin Core's default feerate for dust, and the sizes that it takes for the input that spends an output (GetDustThreshold)
+# Bitcoin Core's default feerate for dust, and the sizes that it takes for the input that spends an output
+# (GetDustThreshold)
 DUST_FEERATE_PER_KVB, PLAIN_INPUT_SIZE, WITNESS_INPUT_SIZE = 3_000, 148, 67
 MAX_FEERATE, MAX_HEIGHT, MAX_DELAY = 10_000_000, commitment.LOCKTIME_THRESHOLD - 1, 65_535
 # the greatest feerate that is taken where a state has no other limit: 1,000 satoshis for a virtual byte
 MOST_FEERATE = 250_000
 MEMBERS = (
-    *("channel_type", "transaction", "secret", "delay_blocks", "htlcs", "bases", "funding_keys", "spent", "destination"),
+    *(
+        "channel_type",
+        "transaction",
+        "secret",
+        "delay_blocks",
+        "htlcs",
+        "bases",
+        "funding_keys",
+        "spent",
+        "destination",
+    ),
     *("feerate_per_kw", "most_feerate_per_kw", "height", "confirmed_height"),
 )
 BASES = ("revocation", "payment", "htlc", "owner_delayed", "owner_htlc")
@@ -97,7 +110,9 @@ def read_spent(shape, transaction):
 
 
 def read_destination(shape):
-    """A program that wallets have an address for. One of four bytes is none: a transaction of one input that pays to it is shorter than nodes pass on."""
+    """A program that wallets have an address for. One of four bytes is none: a transaction of one input that pays to
+    it is shorter than nodes pass on.
+    """
     try:
         found = shape.bytes("destination")
     except Refused as why:
@@ -109,17 +124,30 @@ def read_destination(shape):
 
 def read_feerate(shape):
     """The feerate, within the limit that the state has for it."""
-    found, most = shape.number("feerate_per_kw", MAX_FEERATE), shape.number("most_feerate_per_kw", MAX_FEERATE, optional=True)
+    found, most = shape.number("feerate_per_kw", MAX_FEERATE), shape.number(
+        "most_feerate_per_kw", MAX_FEERATE, optional=True
+    )
     most = MOST_FEERATE if most is None else most
     if found > most:
-        raise Refused(f"TooHighFeerate {most}", f"{found} satoshis for 1,000 units of weight are {found // 250} for a virtual byte; most_feerate_per_kw raises the limit")
+        raise Refused(
+            f"TooHighFeerate {most}",
+            (
+                f"{found} satoshis for 1,000 units of weight are {found // 250} for a virtual byte;"
+                " most_feerate_per_kw raises the limit"
+            ),
+        )
     return found
 
 
 def read_confirmed_height(shape, height):
-    """The height of the block that has the transaction, or null where none has it. It is always asked for: without it a deadline would be too late."""
+    """The height of the block that has the transaction, or null where none has it. It is always asked for: without it
+    a deadline would be too late.
+    """
     if "confirmed_height" not in shape.value:
-        raise Refused(str(shape.refusal("confirmed_height")), "the height of the block that has the transaction is missing; null says that no block has it yet")
+        raise Refused(
+            str(shape.refusal("confirmed_height")),
+            "the height of the block that has the transaction is missing; null says that no block has it yet",
+        )
     found = shape.number("confirmed_height", MAX_HEIGHT, optional=True)
     if found is not None and found > height:
         raise shape.refusal("confirmed_height")
@@ -152,8 +180,10 @@ def read_state(given):
 
 
 def deadline_of(known, state):
-    """The number of next blocks in which nobody else can take an output; None where nobody else ever can. The owner takes to_local in the block that is the delay above the transaction's (BIP 68);
-    HTLC-timeout is in a block above the expiry (BIP 65); HTLC-success may be in any. With anchors either is in a block above the transaction's."""
+    """The number of next blocks in which nobody else can take an output; None where nobody else ever can. The owner
+    takes to_local in the block that is the delay above the transaction's (BIP 68); HTLC-timeout is in a block above
+    the expiry (BIP 65); HTLC-success may be in any. With anchors either is in a block above the transaction's.
+    """
     if known.kind == "to_remote":
         return None
     confirmed_height = state.height + 1 if state.confirmed_height is None else state.confirmed_height
@@ -184,16 +214,22 @@ def split_outputs(state, table):
 
 
 def is_htlc_transaction(state, table):
-    """Whether the transaction is one that spends HTLCs of the commitment: it has an output with the script of to_local, and not the form of a commitment."""
+    """Whether the transaction is one that spends HTLCs of the commitment: it has an output with the script of
+    to_local, and not the form of a commitment.
+    """
     is_delayed = any(table.get(it.program, NOTHING).kind == "to_local" for it in state.transaction.outputs)
     return is_delayed and not commitment_number.has_form(state.transaction)
 
 
 def names_of(state, keys, table, others):
-    """What other outputs of a channel with anchors are, which are not taken here: to_remote and the anchors, and what its owner added to an HTLC transaction, all of whose own outputs have one script."""
+    """What other outputs of a channel with anchors are, which are not taken here: to_remote and the anchors, and what
+    its owner added to an HTLC transaction, all of whose own outputs have one script.
+    """
     if state.channel_type != commitment.ANCHORS:
         return {}
-    found, named = {}, {program: (kind, value) for program, kind, value in commitment.named_outputs(keys, state.funding_keys)}
+    found, named = {}, {
+        program: (kind, value) for program, kind, value in commitment.named_outputs(keys, state.funding_keys)
+    }
     added = ("added", None) if is_htlc_transaction(state, table) else (None, None)
     for index in others:
         output = state.transaction.outputs[index]
@@ -238,13 +274,17 @@ def unsigned_transaction(state, takes):
 
 
 def is_joined(it, state, signing):
-    """Whether an output goes into the transaction of several: its key is there, nobody else can take it yet, and it has no less than what its input costs."""
+    """Whether an output goes into the transaction of several: its key is there, nobody else can take it yet, and it
+    has no less than what its input costs.
+    """
     is_safe = it.known.key in signing and deadline_of(it.known, state) != 0
     return is_safe and input_weight(it.known) * state.feerate_per_kw <= 1000 * it.output.value
 
 
 def batches(takes, state, signing, is_one):
-    """One transaction for each output. Or one for all that can be joined, unless they have too little together, and one for each other output. The dearest stands first."""
+    """One transaction for each output. Or one for all that can be joined, unless they have too little together, and
+    one for each other output. The dearest stands first.
+    """
     joined = [it for it in takes if is_one and is_joined(it, state, signing)]
     if unsigned_transaction(state, joined)[0] is None:
         joined = []
@@ -277,17 +317,34 @@ def judge_transaction(transaction, takes, curve, trace):
 
 
 def answer_of(takes, state, signing, curve, trace):
-    """What is said of outputs: the transaction that takes them, after the judge found each of its inputs clean; or why there is none."""
+    """What is said of outputs: the transaction that takes them, after the judge found each of its inputs clean; or why
+    there is none.
+    """
     transaction, fee = unsigned_transaction(state, takes)
-    value, deadline = sum(it.output.value for it in takes), least_deadline(deadline_of(it.known, state) for it in takes)
-    answer = {"outputs": [it.index for it in takes], "kinds": [it.known.kind for it in takes], "value": value, "fee": fee}
-    missing = ["payment" if it.known.kind == "to_remote" else "revocation" for it in takes if it.known.key not in signing]
+    value, deadline = sum(it.output.value for it in takes), least_deadline(
+        deadline_of(it.known, state) for it in takes
+    )
+    answer = {
+        "outputs": [it.index for it in takes],
+        "kinds": [it.known.kind for it in takes],
+        "value": value,
+        "fee": fee,
+    }
+    missing = [
+        "payment" if it.known.kind == "to_remote" else "revocation" for it in takes if it.known.key not in signing
+    ]
     if missing:
         return {**answer, "answer": NO_KEY, "deadline_blocks": deadline, "key": missing[0]}
     if transaction is None:
         return {**answer, "answer": TOO_LITTLE}
     judge_transaction(signed_transaction(transaction, takes, signing, curve), takes, curve, trace)
-    return {**answer, "answer": TAKEN, "deadline_blocks": deadline, "txid": transaction.txid(), "transaction": transaction.bytes().hex()}
+    return {
+        **answer,
+        "answer": TAKEN,
+        "deadline_blocks": deadline,
+        "txid": transaction.txid(),
+        "transaction": transaction.bytes().hex(),
+    }
 
 
 def penalties(state, privates, curve, trace, is_one=False, is_legacy=False):
@@ -315,12 +372,21 @@ def penalties(state, privates, curve, trace, is_one=False, is_legacy=False):
         found[answer["answer"]] += answer["outputs"]
         yield answer
     taken, too_little, no_key = map(sorted, found.values())
-    last = {"transaction": state.transaction.txid(), "taken": taken, "too_little": too_little, "no_key": no_key, "others": others, **names_of(state, keys, table, others)}
+    last = {
+        "transaction": state.transaction.txid(),
+        "taken": taken,
+        "too_little": too_little,
+        "no_key": no_key,
+        "others": others,
+        **names_of(state, keys, table, others),
+    }
     optional = {"spent": state.spent, "unused_keys": unused}
     yield {**last, **{name: it for name, it in optional.items() if it}}
 
 
 def is_left(last):
-    """Whether the last line says that something is left: an output that matches nothing and is not named, one whose key is missing, or a key that is that of neither base point."""
+    """Whether the last line says that something is left: an output that matches nothing and is not named, one whose
+    key is missing, or a key that is that of neither base point.
+    """
     named = [at for it in last.get("named", {}).values() for at in it]
     return bool(set(last["others"]) - set(named) or last["no_key"] or last.get("unused_keys"))

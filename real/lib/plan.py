@@ -1,4 +1,6 @@
-"""Plans of unsigned spends, each one JSON object: the transaction, and of each input what it spends, its witness and the signatures that are wanted. Tested, not proved."""
+"""Plans of unsigned spends, each one JSON object: the transaction, and of each input what it spends, its witness and
+the signatures that are wanted. Tested, not proved.
+"""
 import json
 import math
 import re
@@ -104,7 +106,10 @@ class Shape:
         return Shape({name: found.rstrip("\r\n")}, self.place).bytes(name)
 
     def objects(self, name, optional=False):
-        return [Shape(it, f"{self.place}.{name}[{at}]".replace("plan.", "")) for at, it in enumerate(self.member(name, list, optional) or [])]
+        return [
+            Shape(it, f"{self.place}.{name}[{at}]".replace("plan.", ""))
+            for at, it in enumerate(self.member(name, list, optional) or [])
+        ]
 
 
 def read_witness(shape):
@@ -144,18 +149,30 @@ def read_wanted(shape, items):
 
 
 def read_input(shape):
-    shape.check_names("explorer", "value", "program", "script", "path", "witness", "signatures", "previous", "derivations")
+    shape.check_names(
+        "explorer", "value", "program", "script", "path", "witness", "signatures", "previous", "derivations"
+    )
     # who makes a plan may say which path its witness takes; nothing follows from it here
     shape.number("path", MAX_PATH, optional=True)
     output = Output(shape.number("value", MAX_MONEY), shape.bytes("program"))
     witness = read_witness(shape)
     wanted = [read_wanted(it, len(witness)) for it in shape.objects("signatures")]
     shown = shape.member("explorer", str, optional=True)
-    return Spent(output, shape.bytes("script"), witness, wanted, shown, shape.bytes("previous", optional=True), read_derivations(shape))
+    return Spent(
+        output,
+        shape.bytes("script"),
+        witness,
+        wanted,
+        shown,
+        shape.bytes("previous", optional=True),
+        read_derivations(shape),
+    )
 
 
 def check_input(plan, index, digests):
-    """Whether an input's parts fit each other: its outpoint, its script, its witness, the items that wait, the keys, and the digests."""
+    """Whether an input's parts fit each other: its outpoint, its script, its witness, the items that wait, the keys,
+    and the digests.
+    """
     it = plan.inputs[index]
     if it.explorer not in (None, plan.transaction.inputs[index].shown_outpoint()):
         raise Refused(f"OtherOutpoint {index}")
@@ -196,7 +213,9 @@ def read_object(given, place):
 
 
 def split_object(text):
-    """The JSON object that a text begins with, on one line or on several, and what stands after it. Of what is no JSON the first line stands for the object."""
+    """The JSON object that a text begins with, on one line or on several, and what stands after it. Of what is no JSON
+    the first line stands for the object.
+    """
     text = text.lstrip(BLANKS)
     try:
         _, end = json.JSONDecoder(object_pairs_hook=members, parse_int=whole_number).raw_decode(text)
@@ -211,7 +230,9 @@ def read_plan(given):
     # who makes a plan may say by which weight its fee is; nothing follows from it here
     shape.number("weight", MAX_WEIGHT, optional=True)
     transaction = read_transaction(shape.line("transaction"), marked=False)
-    plan = Plan(transaction, shape.number("fee", MAX_MONEY, optional=True), [read_input(it) for it in shape.objects("inputs")])
+    plan = Plan(
+        transaction, shape.number("fee", MAX_MONEY, optional=True), [read_input(it) for it in shape.objects("inputs")]
+    )
     if len(plan.inputs) != len(transaction.inputs) or any(it.script for it in transaction.inputs):
         raise Refused("OtherInputs")
     if shape.member("explorer", str, optional=True) not in (None, transaction.txid()):

@@ -9,17 +9,44 @@ from real.lib.transaction import Output, Reader, Transaction, compact_size, read
 
 MAGIC = b"psbt\xff"
 UNSIGNED_TX, VERSION = 0x00, 0xFB
-NON_WITNESS_UTXO, WITNESS_UTXO, PARTIAL_SIG, SIGHASH_TYPE, REDEEM_SCRIPT, WITNESS_SCRIPT, BIP32_DERIVATION, FINAL_SCRIPTSIG, FINAL_SCRIPTWITNESS = range(9)
+(
+    NON_WITNESS_UTXO,
+    WITNESS_UTXO,
+    PARTIAL_SIG,
+    SIGHASH_TYPE,
+    REDEEM_SCRIPT,
+    WITNESS_SCRIPT,
+    BIP32_DERIVATION,
+    FINAL_SCRIPTSIG,
+    FINAL_SCRIPTWITNESS,
+) = range(9)
 HASH160 = 0x0C
 # fields of an input that BIP 371 has
-TAPROOT = {0x13: "TAP_KEY_SIG", 0x14: "TAP_SCRIPT_SIG", 0x15: "TAP_LEAF_SCRIPT", 0x16: "TAP_BIP32_DERIVATION", 0x17: "TAP_INTERNAL_KEY", 0x18: "TAP_MERKLE_ROOT"}
+TAPROOT = {
+    0x13: "TAP_KEY_SIG",
+    0x14: "TAP_SCRIPT_SIG",
+    0x15: "TAP_LEAF_SCRIPT",
+    0x16: "TAP_BIP32_DERIVATION",
+    0x17: "TAP_INTERNAL_KEY",
+    0x18: "TAP_MERKLE_ROOT",
+}
 # fields whose key is their type alone
-ALONE = {NON_WITNESS_UTXO, WITNESS_UTXO, SIGHASH_TYPE, REDEEM_SCRIPT, WITNESS_SCRIPT, FINAL_SCRIPTSIG, FINAL_SCRIPTWITNESS}
+ALONE = {
+    NON_WITNESS_UTXO,
+    WITNESS_UTXO,
+    SIGHASH_TYPE,
+    REDEEM_SCRIPT,
+    WITNESS_SCRIPT,
+    FINAL_SCRIPTSIG,
+    FINAL_SCRIPTWITNESS,
+}
 
 
 @dataclass
 class Partial:
-    """A partially signed transaction: its unsigned transaction, and the fields of the whole, of each input and of each output, by their whole keys."""
+    """A partially signed transaction: its unsigned transaction, and the fields of the whole, of each input and of each
+    output, by their whole keys.
+    """
 
     transaction: Transaction
     fields: Dict[bytes, bytes]

@@ -48,5 +48,7 @@ def ripemd160(data):
     for at in range(0, len(padded), 64):
         words = struct.unpack("<16L", padded[at : at + 64])
         left, right = line(state, words, False), line(state, words, True)
-        state = tuple(state[(place + 1) % 5] + left[(place + 2) % 5] + right[(place + 3) % 5] & MASK for place in range(5))
+        state = tuple(
+            state[(place + 1) % 5] + left[(place + 2) % 5] + right[(place + 3) % 5] & MASK for place in range(5)
+        )
     return struct.pack("<5L", *state)

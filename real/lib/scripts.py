@@ -6,17 +6,38 @@ from real.lib.transaction import sha256
 IF, NOTIF, ELSE, ENDIF = 0x63, 0x64, 0x67, 0x68
 DROP, DUP, SWAP, SIZE, EQUAL, EQUALVERIFY, HASH160 = 0x75, 0x76, 0x7C, 0x82, 0x87, 0x88, 0xA9
 CHECKSIG, CHECKMULTISIG, CHECKLOCKTIMEVERIFY, CHECKSEQUENCEVERIFY = 0xAC, 0xAE, 0xB1, 0xB2
-KNOWN = {IF, NOTIF, ELSE, ENDIF, DROP, DUP, SWAP, SIZE, EQUAL, EQUALVERIFY, HASH160, CHECKSIG, CHECKMULTISIG, CHECKLOCKTIMEVERIFY, CHECKSEQUENCEVERIFY}
+KNOWN = {
+    IF,
+    NOTIF,
+    ELSE,
+    ENDIF,
+    DROP,
+    DUP,
+    SWAP,
+    SIZE,
+    EQUAL,
+    EQUALVERIFY,
+    HASH160,
+    CHECKSIG,
+    CHECKMULTISIG,
+    CHECKLOCKTIMEVERIFY,
+    CHECKSEQUENCEVERIFY,
+}
 LONGEST_PUSH, FIRST_NUMBER, LAST_NUMBER = 0x4B, 0x51, 0x60
 
 # Bitcoin's names from 4c on
-NAMES = dict(enumerate(
-    "PUSHDATA1 PUSHDATA2 PUSHDATA4 1NEGATE RESERVED 1 2 3 4 5 6 7 8 9 10 11 12 13 14 15 16 NOP VER IF NOTIF VERIF VERNOTIF ELSE ENDIF VERIFY RETURN TOALTSTACK FROMALTSTACK 2DROP 2DUP 3DUP 2OVER 2ROT 2SWAP "
-    "IFDUP DEPTH DROP DUP NIP OVER PICK ROLL ROT SWAP TUCK CAT SUBSTR LEFT RIGHT SIZE INVERT AND OR XOR EQUAL EQUALVERIFY RESERVED1 RESERVED2 1ADD 1SUB 2MUL 2DIV NEGATE ABS NOT 0NOTEQUAL ADD SUB MUL DIV "
-    "MOD LSHIFT RSHIFT BOOLAND BOOLOR NUMEQUAL NUMEQUALVERIFY NUMNOTEQUAL LESSTHAN GREATERTHAN LESSTHANOREQUAL GREATERTHANOREQUAL MIN MAX WITHIN RIPEMD160 SHA1 SHA256 HASH160 HASH256 CODESEPARATOR CHECKSIG "
-    "CHECKSIGVERIFY CHECKMULTISIG CHECKMULTISIGVERIFY NOP1 CHECKLOCKTIMEVERIFY CHECKSEQUENCEVERIFY NOP4 NOP5 NOP6 NOP7 NOP8 NOP9 NOP10".split(),
-    0x4C,
-))
+NAMES = dict(
+    enumerate(
+        "PUSHDATA1 PUSHDATA2 PUSHDATA4 1NEGATE RESERVED 1 2 3 4 5 6 7 8 9 10 11 12 13 14 15 16 NOP VER IF NOTIF VERIF"
+        " VERNOTIF ELSE ENDIF VERIFY RETURN TOALTSTACK FROMALTSTACK 2DROP 2DUP 3DUP 2OVER 2ROT 2SWAP IFDUP DEPTH DROP"
+        " DUP NIP OVER PICK ROLL ROT SWAP TUCK CAT SUBSTR LEFT RIGHT SIZE INVERT AND OR XOR EQUAL EQUALVERIFY"
+        " RESERVED1 RESERVED2 1ADD 1SUB 2MUL 2DIV NEGATE ABS NOT 0NOTEQUAL ADD SUB MUL DIV MOD LSHIFT RSHIFT BOOLAND"
+        " BOOLOR NUMEQUAL NUMEQUALVERIFY NUMNOTEQUAL LESSTHAN GREATERTHAN LESSTHANOREQUAL GREATERTHANOREQUAL MIN MAX"
+        " WITHIN RIPEMD160 SHA1 SHA256 HASH160 HASH256 CODESEPARATOR CHECKSIG CHECKSIGVERIFY CHECKMULTISIG"
+        " CHECKMULTISIGVERIFY NOP1 CHECKLOCKTIMEVERIFY CHECKSEQUENCEVERIFY NOP4 NOP5 NOP6 NOP7 NOP8 NOP9 NOP10".split(),
+        0x4C,
+    )
+)
 
 
 def name_of(opcode):
@@ -25,7 +46,9 @@ def name_of(opcode):
 
 
 def operations(script):
-    """The opcodes of a script: the place of each, its byte, and what it pushes or None. BadOpcode and Truncated name the first bad byte."""
+    """The opcodes of a script: the place of each, its byte, and what it pushes or None. BadOpcode and Truncated name
+    the first bad byte.
+    """
     found, at = [], 0
     while at < len(script):
         opcode = script[at]
@@ -45,7 +68,9 @@ def operations(script):
 
 
 def pushes(script):
-    """What a script pushes, each once; None where it has an opcode that the machine does not know, or a push that is cut."""
+    """What a script pushes, each once; None where it has an opcode that the machine does not know, or a push that is
+    cut.
+    """
     try:
         return {pushed for _, _, pushed in operations(script) if pushed is not None}
     except Refused:
@@ -79,7 +104,9 @@ def is_public_key_hash(program):
 
 
 def is_address(program):
-    """Whether wallets have an address for a program: the hash of a key or of a script, or a witness program whose length its version allows (BIP 141)."""
+    """Whether wallets have an address for a program: the hash of a key or of a script, or a witness program whose
+    length its version allows (BIP 141).
+    """
     if program[:1] == b"\x00":
         return is_key_hash(program) or is_script_hash(program)
     return is_public_key_hash(program) or is_nesting(program) or is_witness_program(program)

@@ -2,7 +2,14 @@
 from real.lib.scripts import operations
 from real.lib.transaction import sha256
 
-HASH_TYPES = {1: "ALL", 2: "NONE", 3: "SINGLE", 0x81: "ALL|ANYONECANPAY", 0x82: "NONE|ANYONECANPAY", 0x83: "SINGLE|ANYONECANPAY"}
+HASH_TYPES = {
+    1: "ALL",
+    2: "NONE",
+    3: "SINGLE",
+    0x81: "ALL|ANYONECANPAY",
+    0x82: "NONE|ANYONECANPAY",
+    0x83: "SINGLE|ANYONECANPAY",
+}
 ALL = 1
 KEY_SIZE, TOKEN_SIZE = 33, 66
 SHORTEST, LONGEST = 9, 73
@@ -50,6 +57,8 @@ def is_token(item):
 
 
 def candidate_keys(script, items):
-    """The keys for which a signature may be valid: all 33-byte pushes of the script, and all 33-byte items of the witness, each once."""
+    """The keys for which a signature may be valid: all 33-byte pushes of the script, and all 33-byte items of the
+    witness, each once.
+    """
     pushes = [pushed for _, _, pushed in operations(script) if pushed is not None]
     return list(dict.fromkeys(it for it in [*pushes, *items] if len(it) == KEY_SIZE and it[0] in (2, 3)))

@@ -47,7 +47,9 @@ def sign_input(found, index, keys, digests, curve):
 
 
 def sign(found, privates, curve):
-    """Signs each input for each private key whose public key its script names. A key that no script names is refused by its place."""
+    """Signs each input for each private key whose public key its script names. A key that no script names is refused
+    by its place.
+    """
     for number, private in enumerate(privates):
         if not curve.is_private(private):
             raise Refused(f"BadKey {number}")

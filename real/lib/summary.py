@@ -20,7 +20,9 @@ def after_push(script, opcode, at):
 
 
 def sigops(script, is_witness):
-    """How many signature checks a script counts for, as far as it can be read. Keys of a check of many are counted by the number before it in a witness script alone."""
+    """How many signature checks a script counts for, as far as it can be read. Keys of a check of many are counted by
+    the number before it in a witness script alone.
+    """
     found, at, last = 0, 0, 0
     while at < len(script):
         opcode = script[at]
@@ -37,7 +39,9 @@ def sigops(script, is_witness):
 
 
 def cost(transaction, spent):
-    """What the signature checks of a transaction cost, without those that an input nests (BIP 16), which is not judged."""
+    """What the signature checks of a transaction cost, without those that an input nests (BIP 16), which is not
+    judged.
+    """
     plain = [it.script for it in transaction.inputs] + [it.program for it in transaction.outputs]
     found = SCALE * sum(sigops(it, False) for it in plain)
     for it, output in zip(transaction.inputs, spent):
@@ -49,7 +53,9 @@ def cost(transaction, spent):
 
 
 def summary_of(transaction, spent):
-    """The ids of a transaction, its fee where all spent outputs are known, and what consensus refuses of it. A spent output that is not known is None."""
+    """The ids of a transaction, its fee where all spent outputs are known, and what consensus refuses of it. A spent
+    output that is not known is None.
+    """
     paid, known = sum(it.value for it in transaction.outputs), None not in spent
     fee = sum(it.value for it in spent) - paid if known else None
     outpoints = {it.outpoint for it in transaction.inputs}
@@ -62,5 +68,11 @@ def summary_of(transaction, spent):
         "TooHeavy": (SCALE - 1) * len(transaction.stripped_bytes()) + len(transaction.bytes()) > MAX_WEIGHT,
         "TooManySigops": cost(transaction, spent) > MAX_SIGOPS,
     }
-    found = {"txid": transaction.txid(), "wtxid": transaction.wtxid(), "inputs": len(transaction.inputs), "outputs": len(transaction.outputs), "fee": fee}
+    found = {
+        "txid": transaction.txid(),
+        "wtxid": transaction.wtxid(),
+        "inputs": len(transaction.inputs),
+        "outputs": len(transaction.outputs),
+        "fee": fee,
+    }
     return {**found, "lock": locks.lock_of(transaction), "faults": [name for name, holds in faults.items() if holds]}

@@ -1,4 +1,6 @@
-"""Asks the proved judge about scripts and transactions: the program `trace`, and of the paths of scripts the library for C, where it is built. How they are asked is tested, not proved."""
+"""Asks the proved judge about scripts and transactions: the program `trace`, and of the paths of scripts the library
+for C, where it is built. How they are asked is tested, not proved.
+"""
 import json
 import os
 import subprocess
@@ -13,7 +15,9 @@ NOTHING_TO_RUN = 3
 
 
 class Trace:
-    """The program `trace`, and the library for C, if there is one. What the program says on standard error, as that it is not proved, is passed on once."""
+    """The program `trace`, and the library for C, if there is one. What the program says on standard error, as that it
+    is not proved, is passed on once.
+    """
 
     def __init__(self, program=os.path.join(TOP, "trace"), notes=sys.stderr, library=None):
         self.program, self.notes, self.noted, self.listed = program, notes, set(), {}
@@ -29,7 +33,9 @@ class Trace:
         if ran.returncode not in (0, 1):
             raise NotRun(f"{self.program} answers with status {ran.returncode}")
         if not ran.stdout and text:
-            raise NotRun(f"{self.program} answers nothing, with status {ran.returncode}; standard error has what it says")
+            raise NotRun(
+                f"{self.program} answers nothing, with status {ran.returncode}; standard error has what it says"
+            )
         try:
             return [json.loads(it) for it in ran.stdout.decode().splitlines()]
         except ValueError:
@@ -44,7 +50,9 @@ class Trace:
     def paths(self, scripts):
         """What is listed of each script. A script is asked about once."""
         new = [it for it in dict.fromkeys(scripts) if it not in self.listed]
-        self.listed.update(zip(new, [c_library.listing_of(self.library, it) for it in new] if self.library else self.by_program(new)))
+        self.listed.update(
+            zip(new, [c_library.listing_of(self.library, it) for it in new] if self.library else self.by_program(new))
+        )
         return [self.listed[it] for it in scripts]
 
     def by_program(self, scripts):
@@ -66,7 +74,9 @@ class Trace:
 
 
 def built_program():
-    """The program that ./trace runs now, without its look at the sources before each call. For tests, which call it often."""
+    """The program that ./trace runs now, without its look at the sources before each call. For tests, which call it
+    often.
+    """
     wrapper = os.path.join(TOP, "trace")
     try:
         subprocess.run([wrapper, "script", "51"], capture_output=True, timeout=SECONDS)

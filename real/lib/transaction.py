@@ -81,7 +81,9 @@ class Reader:
 
 @dataclass
 class Input:
-    """An input: the outpoint that it spends (id in the hash's own byte order, and index), its script, sequence and witness."""
+    """An input: the outpoint that it spends (id in the hash's own byte order, and index), its script, sequence and
+    witness.
+    """
 
     outpoint: bytes
     script: bytes
@@ -153,7 +155,14 @@ class Digests:
         it = self.transaction.inputs[index]
         own = it.outpoint + text(code) + value.to_bytes(8, "little") + it.sequence.to_bytes(4, "little")
         ends = self.transaction.lock_time.to_bytes(4, "little") + HASH_TYPE_ALL.to_bytes(4, "little")
-        return sha256d(self.transaction.version.to_bytes(4, "little") + self.outpoints + self.sequences + own + self.outputs + ends)
+        return sha256d(
+            self.transaction.version.to_bytes(4, "little")
+            + self.outpoints
+            + self.sequences
+            + own
+            + self.outputs
+            + ends
+        )
 
 
 def read_output(reader):
@@ -164,7 +173,9 @@ def read_output(reader):
 
 
 def read_transaction(data, marked=True):
-    """The transaction of these bytes, which may have no witness; `marked` says whether the marker of BIP 144 may stand there."""
+    """The transaction of these bytes, which may have no witness; `marked` says whether the marker of BIP 144 may stand
+    there.
+    """
     reader = Reader(data)
     version = reader.number(4)
     has_witnesses = marked and data[4:5] == b"\x00"

@@ -1,4 +1,5 @@
-"""The signed transactions of five cases of BOLT 3's Appendix C (static_remotekey, no anchors), and changed ones with the answer that is wanted. Tested, not proved.
+"""The signed transactions of five cases of BOLT 3's Appendix C (static_remotekey, no anchors), and changed ones with
+the answer that is wanted. Tested, not proved.
 
 bolt3.json has the cases; its members say where they come from.
 """
@@ -34,9 +35,15 @@ def commitments(told):
     """Each case's commitment, with the place at which a run of its script ends and its path."""
     for case in told["cases"]:
         ours, theirs = signatures_of(case, "local_signature_der", "remote_signature_der")
-        items = [b"", ours, theirs] if told["terms"]["keys"]["local_funding_pubkey"] < told["terms"]["keys"]["remote_funding_pubkey"] else [b"", theirs, ours]
+        items = (
+            [b"", ours, theirs]
+            if told["terms"]["keys"]["local_funding_pubkey"] < told["terms"]["keys"]["remote_funding_pubkey"]
+            else [b"", theirs, ours]
+        )
         script = bytes.fromhex(case["funding_witness_script"])
-        yield case["name"], *signed_transaction(case["unsigned_tx_no_witness"], items, script, told["terms"]["funding_amount_sat"]), FUNDING_SCRIPT_END, 0
+        yield case["name"], *signed_transaction(
+            case["unsigned_tx_no_witness"], items, script, told["terms"]["funding_amount_sat"]
+        ), FUNDING_SCRIPT_END, 0
 
 
 def htlc_transactions(told):
@@ -46,8 +53,14 @@ def htlc_transactions(told):
         for it in case["htlc_transactions"]:
             output = case["outputs"][it["commitment_output_index"]]
             success = it["kind"] == "success"
-            items = [b"", *signatures_of(it, "remote_htlc_signature_der", "local_htlc_signature_der"), preimages[it["htlc"]] if success else b""]
-            found = signed_transaction(it["unsigned_tx_no_witness"], items, bytes.fromhex(output["witness_script"]), output["value_sat"])
+            items = [
+                b"",
+                *signatures_of(it, "remote_htlc_signature_der", "local_htlc_signature_der"),
+                preimages[it["htlc"]] if success else b"",
+            ]
+            found = signed_transaction(
+                it["unsigned_tx_no_witness"], items, bytes.fromhex(output["witness_script"]), output["value_sat"]
+            )
             yield f"{case['name']}: HTLC {it['htlc']}", *found, RECEIVED_END if success else OFFERED_END, 1
 
 
@@ -65,7 +78,12 @@ def changed_rows(name, transaction, spent, end):
 
 def row(name, transaction, items, spent, answers):
     transaction.inputs[0].witness = items
-    return {"name": name, "transaction": transaction.bytes().hex(), "spent": [[spent.value, spent.program.hex()]], "answers": answers}
+    return {
+        "name": name,
+        "transaction": transaction.bytes().hex(),
+        "spent": [[spent.value, spent.program.hex()]],
+        "answers": answers,
+    }
 
 
 def rows():
@@ -94,5 +112,16 @@ def plan(told, case_name, htlc):
     keys = [told["terms"]["keys"][each] for each in ("remote_htlcpubkey", "local_htlcpubkey")]
     wanted = [{"item": place, "key": key, "digest": it["bip143_digest"]} for place, key in enumerate(keys, 1)]
     witness = ["", None, None, preimage, output["witness_script"]]
-    spent = {"value": output["value_sat"], "program": output["script_pubkey"], "script": output["witness_script"], "path": 1, "witness": witness, "signatures": wanted}
-    return {"transaction": it["unsigned_tx_no_witness"], "fee": output["value_sat"] - it["output_value_sat"], "inputs": [spent]}
+    spent = {
+        "value": output["value_sat"],
+        "program": output["script_pubkey"],
+        "script": output["witness_script"],
+        "path": 1,
+        "witness": witness,
+        "signatures": wanted,
+    }
+    return {
+        "transaction": it["unsigned_tx_no_witness"],
+        "fee": output["value_sat"] - it["output_value_sat"],
+        "inputs": [spent],
+    }

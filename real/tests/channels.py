@@ -1,7 +1,9 @@
-"""Channels with a revoked commitment each, built and signed by Electrum's lnutil. Tested, not proved. Wants Debian's python3-electrum.
+"""Channels with a revoked commitment each, built and signed by Electrum's lnutil. Tested, not proved. Wants Debian's
+python3-electrum.
 
-The owner is who published the commitment; the peer is whose tower takes its outputs. All numbers are drawn from SHA-256 of the channel's number, so they are the same
-everywhere. Nothing here was made from the answers of a program of this repository.
+The owner is who published the commitment; the peer is whose tower takes its outputs. All numbers are drawn from
+SHA-256 of the channel's number, so they are the same everywhere. Nothing here was made from the answers of a program
+of this repository.
 """
 import functools
 import hashlib
@@ -18,7 +20,8 @@ DELAYS = (0, 1, 6, 16, 17, 127, 128, 144, 255, 256, 720, 1_008, 2_016, 32_767, 3
 EXPIRIES = (1, 16, 17, 127, 128, 32_767, 32_768, 8_388_607, 8_388_608, 499_999_999)
 FEERATES_PER_KW, DUST_LIMITS_SAT = (253, 500, 1_000, 2_500, 7_500, 15_000), (354, 546, 573, 1_000)
 MOST_HTLCS, COMMITMENTS = 20, 2**48
-# the height of the chain, and that of the block which has what a tower sees: in turn none has it yet, the newest has it, and older ones
+# the height of the chain, and that of the block which has what a tower sees: in turn none has it yet, the newest has
+# it, and older ones
 HEIGHT = 700_000
 CONFIRMED_HEIGHTS = (None, HEIGHT, HEIGHT - 1, HEIGHT - 143, HEIGHT - 1_008)
 
@@ -53,7 +56,9 @@ class Htlc:
     expiry_height: int
 
     def of_electrum(self):
-        return lnutil.UpdateAddHtlc(amount_msat=self.amount_msat, payment_hash=self.payment_hash, cltv_expiry=self.expiry_height, timestamp=0)
+        return lnutil.UpdateAddHtlc(
+            amount_msat=self.amount_msat, payment_hash=self.payment_hash, cltv_expiry=self.expiry_height, timestamp=0
+        )
 
 
 @dataclass
@@ -102,8 +107,9 @@ class Keys:
 
 @dataclass
 class Known:
-    """What Electrum makes of an output: its kind, its program, the script or key that its witness ends with, and the key that takes it. With it the first block in which somebody else's transaction
-    can take it, None where none can."""
+    """What Electrum makes of an output: its kind, its program, the script or key that its witness ends with, and the
+    key that takes it. With it the first block in which somebody else's transaction can take it, None where none can.
+    """
 
     kind: str
     program: bytes
@@ -113,19 +119,25 @@ class Known:
 
 
 def drawn_htlc(draws, channel):
-    """An HTLC. One in eight has the hash of an earlier one, as the parts of a payment have; half stand near the bound below which an HTLC is trimmed."""
+    """An HTLC. One in eight has the hash of an earlier one, as the parts of a payment have; half stand near the bound
+    below which an HTLC is trimmed.
+    """
     earlier = draws.choice(channel.htlcs) if channel.htlcs and draws.number_below(8) == 0 else None
     is_received = earlier.is_received if earlier else draws.number_below(2) == 0
     payment_hash = earlier.payment_hash if earlier else hashlib.sha256(draws.bytes()).digest()
     expiry_height = draws.choice(EXPIRIES) if draws.number_below(5) == 0 else draws.number_between(500_000, 900_000)
     least = channel.least_sat(is_received)
-    near = draws.choice((draws.number_between(1, least - 1), least - 1, least, least + 1, least + draws.number_below(5_000)))
+    near = draws.choice(
+        (draws.number_between(1, least - 1), least - 1, least, least + 1, least + draws.number_below(5_000))
+    )
     amount_sat = near if draws.number_below(2) else least + draws.number_below(200_000)
     return Htlc(is_received, 1000 * amount_sat + draws.number_below(1000), payment_hash, expiry_height)
 
 
 def drawn_channel(number):
-    """The channel of a number: of two one is older than static_remotekey, of two more one was opened by the owner, and there are 0 to 20 HTLCs in turn."""
+    """The channel of a number: of two one is older than static_remotekey, of two more one was opened by the owner, and
+    there are 0 to 20 HTLCs in turn.
+    """
     draws = Draws(f"a channel that everybody knows: {number}")
     # of two in three one side has so little that its output is trimmed, or that it does not pay the fee
     balances_msat = [draws.number_between(100_000_000, 2_000_000_000) for _ in range(2)]
@@ -176,7 +188,9 @@ def script_program(script):
 
 def htlc_script(keys, htlc):
     """The witness script of an HTLC's output."""
-    return lnutil.make_htlc_output_witness_script(htlc.is_received, keys.revocation, keys.peer_htlc, keys.owner_htlc, htlc.payment_hash, htlc.expiry_height)
+    return lnutil.make_htlc_output_witness_script(
+        htlc.is_received, keys.revocation, keys.peer_htlc, keys.owner_htlc, htlc.payment_hash, htlc.expiry_height
+    )
 
 
 def known_outputs(channel):
@@ -186,12 +200,20 @@ def known_outputs(channel):
     # a sequence of n blocks is met n blocks above the output's (BIP 68)
     in_block = HEIGHT + 1 if channel.confirmed_height() is None else channel.confirmed_height()
     yield Known("to_local", script_program(script), script, keys.revocation, in_block + channel.delay_blocks)
-    yield Known("to_remote", program_at(lnutil.make_commitment_output_to_remote_address(keys.payment)), keys.payment, keys.payment, None)
+    yield Known(
+        "to_remote",
+        program_at(lnutil.make_commitment_output_to_remote_address(keys.payment)),
+        keys.payment,
+        keys.payment,
+        None,
+    )
     for it in channel.htlcs:
         script = htlc_script(keys, it)
         # whoever knows the preimage may come in the next block; a lock time is below the height of its block (BIP 65)
         first_height = HEIGHT + 1 if it.is_received else it.expiry_height + 1
-        yield Known("received" if it.is_received else "offered", script_program(script), script, keys.revocation, first_height)
+        yield Known(
+            "received" if it.is_received else "offered", script_program(script), script, keys.revocation, first_height
+        )
 
 
 def outputs_by_program(channel):
@@ -206,7 +228,10 @@ def outputs_by_program(channel):
 
 def payment_bases(channel):
     """The payment base points, first that of the side that opened the channel."""
-    found = [Key(f"payment base of the owner of channel {channel.number}").public, public_key(channel.privates["payment"])]
+    found = [
+        Key(f"payment base of the owner of channel {channel.number}").public,
+        public_key(channel.privates["payment"]),
+    ]
     return found if channel.is_owner_opener else found[::-1]
 
 
@@ -231,7 +256,9 @@ def commitment_of(channel):
         local_amount=channel.owner_msat,
         remote_amount=channel.peer_msat,
         dust_limit_sat=channel.dust_limit_sat,
-        fees_per_participant=lnutil.calc_fees_for_commitment_tx(num_htlcs=len(htlcs), feerate=channel.feerate_per_kw, is_local_initiator=channel.is_owner_opener),
+        fees_per_participant=lnutil.calc_fees_for_commitment_tx(
+            num_htlcs=len(htlcs), feerate=channel.feerate_per_kw, is_local_initiator=channel.is_owner_opener
+        ),
         htlcs=[lnutil.ScriptHtlc(htlc_script(keys, it), it.of_electrum()) for it in htlcs],
     )
     found.sign({it.public.hex(): (it.secret, True) for it in funding})
@@ -240,17 +267,29 @@ def commitment_of(channel):
 
 def htlc_private_key(channel, name):
     """The private HTLC key of a side at this commitment."""
-    return lnutil.derive_privkey(int.from_bytes(channel.privates[name], "big"), public_key(channel.secret)).to_bytes(32, "big")
+    return lnutil.derive_privkey(int.from_bytes(channel.privates[name], "big"), public_key(channel.secret)).to_bytes(
+        32, "big"
+    )
 
 
 def second_stage_of(channel, commitment, htlc):
-    """The HTLC transaction of an HTLC, by lnutil, signed by both sides. The preimage of a received one is any, since nobody runs that script here."""
+    """The HTLC transaction of an HTLC, by lnutil, signed by both sides. The preimage of a received one is any, since
+    nobody runs that script here.
+    """
     keys = keys_of(channel)
     script, value = htlc_script(keys, htlc), htlc.amount_msat // 1000
-    at = next(at for at, it in enumerate(commitment.outputs()) if (it.scriptpubkey, it.value) == (script_program(script), value))
-    _, output = lnutil.make_htlc_tx_output(htlc.amount_msat, channel.feerate_per_kw, keys.revocation, keys.delayed, htlc.is_received, channel.delay_blocks)
+    at = next(
+        at
+        for at, it in enumerate(commitment.outputs())
+        if (it.scriptpubkey, it.value) == (script_program(script), value)
+    )
+    _, output = lnutil.make_htlc_tx_output(
+        htlc.amount_msat, channel.feerate_per_kw, keys.revocation, keys.delayed, htlc.is_received, channel.delay_blocks
+    )
     inputs = lnutil.make_htlc_tx_inputs(commitment.txid(), at, htlc.amount_msat, script.hex())
-    found = lnutil.make_htlc_tx(cltv_expiry=0 if htlc.is_received else htlc.expiry_height, inputs=inputs, output=output)
+    found = lnutil.make_htlc_tx(
+        cltv_expiry=0 if htlc.is_received else htlc.expiry_height, inputs=inputs, output=output
+    )
     peers, owners = (bytes.fromhex(found.sign_txin(0, htlc_private_key(channel, it))) for it in ("htlc", "owner_htlc"))
     transaction_hex(found, [[b"", peers, owners, bytes(32) if htlc.is_received else b"", script]])
     return found

@@ -1,14 +1,22 @@
 """Claims on outputs of channels, built and signed by Electrum. Tested, not proved.
 
-What BOLT 3 and BIPs 65, 112, 141 and 147 say of each stands beside it: the path that its witness takes, in the order of the script's branches, and how many opcodes its
-script has. Nothing here was made from the answers of a program of this repository.
+What BOLT 3 and BIPs 65, 112, 141 and 147 say of each stands beside it: the path that its witness takes, in the order
+of the script's branches, and how many opcodes its script has. Nothing here was made from the answers of a program of
+this repository.
 """
 import hashlib
 from dataclasses import dataclass, field
 from typing import Callable, List, Optional
 
 from electrum import bitcoin, ecc, lnutil
-from electrum.transaction import PartialTransaction, PartialTxInput, PartialTxOutput, TxOutpoint, TxOutput, multisig_script
+from electrum.transaction import (
+    PartialTransaction,
+    PartialTxInput,
+    PartialTxOutput,
+    TxOutpoint,
+    TxOutput,
+    multisig_script,
+)
 
 # opcodes of a script, and so the place at which a run ends
 TO_LOCAL, OFFERED, RECEIVED, KEY_HASH, TWO_OF_THREE = 9, 26, 29, 5, 6
@@ -61,7 +69,12 @@ def htlc(number, received):
     keys = Key(f"revocation {number}"), Key(f"remote {number}"), Key(f"local {number}")
     preimage, expiry = hashlib.sha256(f"preimage {number}".encode()).digest(), 500 + 7 * number
     given = [it.public for it in keys] + [hashlib.sha256(preimage).digest()]
-    return keys, preimage, expiry, lnutil.make_received_htlc(*given, expiry) if received else lnutil.make_offered_htlc(*given)
+    return (
+        keys,
+        preimage,
+        expiry,
+        lnutil.make_received_htlc(*given, expiry) if received else lnutil.make_offered_htlc(*given),
+    )
 
 
 def penalty(number):
@@ -101,7 +114,9 @@ def direct_preimage(number):
 
 def direct_timeout(number):
     keys, _, expiry, script = htlc(number, True)
-    return Claim("direct_timeout", script, [keys[1]], lambda it: [it[0], b""], 2, RECEIVED, lock_time=expiry, expiry=expiry)
+    return Claim(
+        "direct_timeout", script, [keys[1]], lambda it: [it[0], b""], 2, RECEIVED, lock_time=expiry, expiry=expiry
+    )
 
 
 def key_hash(number):
@@ -117,7 +132,18 @@ def two_of_three(number):
     return Claim("two_of_three", script, [keys[it] for it in pair], lambda it: [b"", *it], 0, TWO_OF_THREE)
 
 
-KINDS = (penalty, delayed_claim, offered_penalty, received_penalty, timeout, success, direct_preimage, direct_timeout, key_hash, two_of_three)
+KINDS = (
+    penalty,
+    delayed_claim,
+    offered_penalty,
+    received_penalty,
+    timeout,
+    success,
+    direct_preimage,
+    direct_timeout,
+    key_hash,
+    two_of_three,
+)
 # their transaction has one input and one output (BOLT 3)
 ALONE = (timeout, success)
 
@@ -125,8 +151,15 @@ ALONE = (timeout, success)
 def outputs_of(number, total):
     """One to three outputs of other kinds, which leave a fee."""
     count = 1 + number % 3
-    programs = [key_hash(1000 + number).program(), to_local_program(number), bytes.fromhex("76a914") + hashlib.sha256(b"%d" % number).digest()[:20] + bytes.fromhex("88ac")]
-    return [PartialTxOutput(scriptpubkey=it, value=total // (count + 1) + 3 * place) for place, it in enumerate(programs[:count])]
+    programs = [
+        key_hash(1000 + number).program(),
+        to_local_program(number),
+        bytes.fromhex("76a914") + hashlib.sha256(b"%d" % number).digest()[:20] + bytes.fromhex("88ac"),
+    ]
+    return [
+        PartialTxOutput(scriptpubkey=it, value=total // (count + 1) + 3 * place)
+        for place, it in enumerate(programs[:count])
+    ]
 
 
 def to_local_program(number):
@@ -160,7 +193,10 @@ def claims_of(number):
     if first not in ALONE:
         together = [it for it in KINDS if it not in ALONE]
         more = (number // len(KINDS)) % 3
-        found += [together[(number * 5 + 3 * place + number // 7) % len(together)](300 + 10 * number + place) for place in range(more)]
+        found += [
+            together[(number * 5 + 3 * place + number // 7) % len(together)](300 + 10 * number + place)
+            for place in range(more)
+        ]
     return place_claims(found, number)
 
 
@@ -168,7 +204,9 @@ def htlc_transaction(claim, number):
     """An HTLC transaction, by Electrum's own builder (BOLT 3)."""
     is_success = claim.kind == "success"
     keys, delay, _ = to_local(3000 + number)
-    _, output = lnutil.make_htlc_tx_output(claim.value * 1000, 253 + 10 * number, keys[0].public, keys[1].public, is_success, delay)
+    _, output = lnutil.make_htlc_tx_output(
+        claim.value * 1000, 253 + 10 * number, keys[0].public, keys[1].public, is_success, delay
+    )
     inputs = lnutil.make_htlc_tx_inputs(claim.txid.hex(), claim.value % 3, claim.value * 1000, claim.script.hex())
     return lnutil.make_htlc_tx(cltv_expiry=claim.lock_time, inputs=inputs, output=output)
 
@@ -179,7 +217,9 @@ def transaction_of(claims, number):
         return htlc_transaction(claims[0], number)
     outputs = outputs_of(number, sum(it.value for it in claims))
     lock_time = max(it.lock_time for it in claims)
-    return PartialTransaction.from_io([input_of(it) for it in claims], outputs, locktime=lock_time, version=2, BIP69_sort=False)
+    return PartialTransaction.from_io(
+        [input_of(it) for it in claims], outputs, locktime=lock_time, version=2, BIP69_sort=False
+    )
 
 
 def sign(transaction, claims):

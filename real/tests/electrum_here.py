@@ -10,7 +10,9 @@ SYSTEM = "/usr/bin/python3"
 
 
 def need_electrum():
-    """Runs this program again under the system's Python where the package is not this one's. Electrum wants the library too."""
+    """Runs this program again under the system's Python where the package is not this one's. Electrum wants the
+    library too.
+    """
     library()
     if importlib.util.find_spec("electrum"):
         return

@@ -1,4 +1,6 @@
-"""Partially signed transactions between Electrum and this folder, both ways. Tested, not proved. Wants Debian's python3-electrum."""
+"""Partially signed transactions between Electrum and this folder, both ways. Tested, not proved. Wants Debian's
+python3-electrum.
+"""
 from electrum.crypto import sha256d
 from electrum.transaction import PartialTransaction
 
@@ -14,10 +16,22 @@ def plan_of(transaction, claims):
         marks = [b"wanted %d" % it for it in range(len(claim.signers))]
         items = claim.items(marks) + ([] if claim.is_key_hash else [claim.script])
         digest = sha256d(bytes.fromhex(transaction.serialize_preimage(place))).hex()
-        wanted = [{"item": items.index(mark), "key": key.public.hex(), "digest": digest} for mark, key in zip(marks, claim.signers)]
+        wanted = [
+            {"item": items.index(mark), "key": key.public.hex(), "digest": digest}
+            for mark, key in zip(marks, claim.signers)
+        ]
         derivations = [{"key": key.public.hex(), "fingerprint": FINGERPRINT, "path": PATH} for key in claim.signers]
         witness = [None if it in marks else it.hex() for it in items]
-        inputs.append({"value": claim.value, "program": claim.program().hex(), "script": claim.script.hex(), "witness": witness, "signatures": wanted, "derivations": derivations})
+        inputs.append(
+            {
+                "value": claim.value,
+                "program": claim.program().hex(),
+                "script": claim.script.hex(),
+                "witness": witness,
+                "signatures": wanted,
+                "derivations": derivations,
+            }
+        )
     fee = sum(it.value for it in claims) - sum(it.value for it in transaction.outputs())
     return {"transaction": transaction.serialize_to_network(include_sigs=False), "fee": fee, "inputs": inputs}
 

@@ -1,7 +1,8 @@
-"""Faults that are planted in signed transactions, one at a time, each with the answer for every input. Tested, not proved.
+"""Faults that are planted in signed transactions, one at a time, each with the answer for every input. Tested, not
+proved.
 
-The answers are worked by hand from BOLT 3's scripts and BIPs 65, 66, 112, 141, 143 and 147, and from the words that docs/REAL.md and docs/TRACE.md have for a stop. No
-program of this repository was asked.
+The answers are worked by hand from BOLT 3's scripts and BIPs 65, 66, 112, 141, 143 and 147, and from the words that
+docs/REAL.md and docs/TRACE.md have for a stop. No program of this repository was asked.
 """
 import hashlib
 
@@ -87,19 +88,24 @@ def order(case):
     items[0], items[1] = items[1], items[0]
     if claim.kind == "received_penalty":
         return case.with_answer(swapped_received_penalty(case, claim))
-    # the item above is what the script takes for a signature; an HTLC's first check fails, as it should hash to the revocation key
-    return case.with_answer({
-        "penalty": stops("FailedCheck TokenForm", CHECKSIG_OF_TO_LOCAL),
-        "delayed": false_end(claim),
-        "offered_penalty": stops("MissingOperand", CHECKMULTISIG_OF_OFFERED),
-        "direct_preimage": stops("MissingOperand", CHECKMULTISIG_OF_OFFERED),
-        "direct_timeout": false_end(claim),
-        "key_hash": stops("FailedCheck Verify", EQUALVERIFY_OF_KEY_HASH),
-    }[claim.kind])
+    # the item above is what the script takes for a signature; an HTLC's first check fails, as it should hash to the
+    # revocation key
+    return case.with_answer(
+        {
+            "penalty": stops("FailedCheck TokenForm", CHECKSIG_OF_TO_LOCAL),
+            "delayed": false_end(claim),
+            "offered_penalty": stops("MissingOperand", CHECKMULTISIG_OF_OFFERED),
+            "direct_preimage": stops("MissingOperand", CHECKMULTISIG_OF_OFFERED),
+            "direct_timeout": false_end(claim),
+            "key_hash": stops("FailedCheck Verify", EQUALVERIFY_OF_KEY_HASH),
+        }[claim.kind]
+    )
 
 
 def swapped_received_penalty(case, claim):
-    """The timeout's branch runs: its lock may be reached by another input's, and then a key stands where a signature is taken."""
+    """The timeout's branch runs: its lock may be reached by another input's, and then a key stands where a signature
+    is taken.
+    """
     if case.transaction.locktime >= claim.expiry:
         return stops("FailedCheck TokenForm", LAST_CHECKSIG_OF_RECEIVED)
     return stops("FailedCheck LockTime", LOCK_OF_RECEIVED)
@@ -109,7 +115,9 @@ def extra_item(case):
     """One more item, below all others."""
     claim = case.claim()
     case.witnesses[case.place].insert(0, (b"", b"\x01", b"\x00" * 5)[case.number % 3])
-    return case.with_answer({"answer": "stops", "reason": "NotTwoItems"} if claim.is_key_hash else stops("NotOneValue", claim.opcodes))
+    return case.with_answer(
+        {"answer": "stops", "reason": "NotTwoItems"} if claim.is_key_hash else stops("NotOneValue", claim.opcodes)
+    )
 
 
 def amount(case):
@@ -138,7 +146,10 @@ def lock_time(case):
     changed = case.transaction.locktime - 1 if case.transaction.locktime else 1
     case.transaction.locktime = changed
     late = [it.kind == "direct_timeout" and it.expiry > changed for it in case.claims]
-    return [stops("FailedCheck LockTime", LOCK_OF_RECEIVED) if it else false_end(claim) for it, claim in zip(late, case.claims)]
+    return [
+        stops("FailedCheck LockTime", LOCK_OF_RECEIVED) if it else false_end(claim)
+        for it, claim in zip(late, case.claims)
+    ]
 
 
 def forged_token(case):
@@ -157,7 +168,9 @@ def measured_signature(case):
     claim.script, claim.is_key_hash = MEASURE + claim.script, False
     inputs = [built.input_of(it) for it in case.claims]
     before = case.transaction
-    case.transaction = type(before).from_io(inputs, list(before.outputs()), locktime=before.locktime, version=2, BIP69_sort=False)
+    case.transaction = type(before).from_io(
+        inputs, list(before.outputs()), locktime=before.locktime, version=2, BIP69_sort=False
+    )
     built.sign(case.transaction, case.claims)
     case.witnesses, case.spent = [it.witness() for it in case.claims], built.spent_outputs(case.claims)
     assert case.spent[case.place][1] == "0020" + hashlib.sha256(claim.script).hexdigest()

@@ -1,4 +1,6 @@
-"""Requests for the program `spend`, and the plans that it has to print, worked out anew from BIPs 68, 141 and 143. Tested, not proved."""
+"""Requests for the program `spend`, and the plans that it has to print, worked out anew from BIPs 68, 141 and 143.
+Tested, not proved.
+"""
 import json
 import os
 import subprocess
@@ -11,9 +13,20 @@ TOP = os.path.dirname(os.path.dirname(os.path.dirname(os.path.abspath(__file__))
 SECONDS, SIGNATURE = 900, bytes(73)
 CASE = "commitment tx with seven outputs"
 MAX_MONEY = 2_100_000_000_000_000
-PAID = "destination: a program that is paid is P2PKH, P2SH, or a witness program of version 0 with 20 or 32 bytes, or of versions 1 to 16 with 3 to 40"
-# BOLT 3, "Dust Limits": the hash of a key and of a script, before version 0 and in it, and the longest program of a later version. Taproot's is as long as the hash of a script
-DUST = (("76a914" + "11" * 20 + "88ac", 546), ("a914" + "11" * 20 + "87", 540), ("0014" + "11" * 20, 294), ("0020" + "11" * 32, 330), ("5120" + "11" * 32, 330), ("6028" + "11" * 40, 354))
+PAID = (
+    "destination: a program that is paid is P2PKH, P2SH, or a witness program of version 0 with 20 or 32 bytes, or of"
+    " versions 1 to 16 with 3 to 40"
+)
+# BOLT 3, "Dust Limits": the hash of a key and of a script, before version 0 and in it, and the longest program of a
+# later version. Taproot's is as long as the hash of a script
+DUST = (
+    ("76a914" + "11" * 20 + "88ac", 546),
+    ("a914" + "11" * 20 + "87", 540),
+    ("0014" + "11" * 20, 294),
+    ("0020" + "11" * 32, 330),
+    ("5120" + "11" * 32, 330),
+    ("6028" + "11" * 40, 354),
+)
 
 
 def line(value):
@@ -25,7 +38,12 @@ def claim(told, index, path, slots):
     case = next(it for it in told["cases"] if it["name"].startswith(CASE))
     output = case["outputs"][index]
     script = output.get("witness_script") or f"76a914{output['script_pubkey'][4:]}88ac"
-    place = {"outpoint": f"{case['txid_hash_order']}:{index}", "path": path, "program": output["script_pubkey"], "script": script}
+    place = {
+        "outpoint": f"{case['txid_hash_order']}:{index}",
+        "path": path,
+        "program": output["script_pubkey"],
+        "script": script,
+    }
     return {**place, "shell": None, "slots": slots, "value": output["value_sat"]}
 
 
@@ -41,8 +59,10 @@ def request(told, outputs, htlcs, feerate_per_kw):
 
 
 def requests(told):
-    """Of each request the sequence of each input and the lock time that BOLT 3 has for it: what the peer takes of a commitment, by a preimage and after a timeout; an output to
-    the hash of a key; one after its delay; and what both keys sign."""
+    """Of each request the sequence of each input and the lock time that BOLT 3 has for it: what the peer takes of a
+    commitment, by a preimage and after a timeout; an output to the hash of a key; one after its delay; and what both
+    keys sign.
+    """
     keys = told["terms"]["keys"]
     peer, own, empty = ["sig", keys["remote_htlcpubkey"]], ["sig", keys["local_htlcpubkey"]], ["exact", ""]
     by_preimage, after_timeout = claim(told, 1, 2, [preimage_slot(told, 2), peer]), claim(told, 2, 2, [empty, peer])
@@ -66,7 +86,12 @@ def witness_of(it, preimages):
 
 def weight_of(transaction, witnesses):
     """The weight with signatures of 73 bytes."""
-    signed = Transaction(transaction.version, [Input(it.outpoint, b"", it.sequence) for it in transaction.inputs], transaction.outputs, transaction.lock_time)
+    signed = Transaction(
+        transaction.version,
+        [Input(it.outpoint, b"", it.sequence) for it in transaction.inputs],
+        transaction.outputs,
+        transaction.lock_time,
+    )
     for it, witness in zip(signed.inputs, witnesses):
         it.witness = [SIGNATURE if item is None else bytes.fromhex(item) for item in witness]
     return 3 * len(signed.stripped_bytes()) + len(signed.bytes())
@@ -91,8 +116,21 @@ def wanted_plan(told, asked, sequences, lock_time):
         places = [place for place, item in enumerate(witness) if item is None]
         wanted = [{"item": place, "key": key, "digest": digest} for place, key in zip(reversed(places), keys)]
         shown = {"explorer": transaction.inputs[number].shown_outpoint()}
-        told_inputs.append({**shown, **{name: it[name] for name in ("value", "program", "script", "path")}, "witness": witness, "signatures": wanted})
-    return {"transaction": transaction.stripped_bytes().hex(), "explorer": transaction.txid(), "fee": fee, "weight": weight, "inputs": told_inputs}
+        told_inputs.append(
+            {
+                **shown,
+                **{name: it[name] for name in ("value", "program", "script", "path")},
+                "witness": witness,
+                "signatures": wanted,
+            }
+        )
+    return {
+        "transaction": transaction.stripped_bytes().hex(),
+        "explorer": transaction.txid(),
+        "fee": fee,
+        "weight": weight,
+        "inputs": told_inputs,
+    }
 
 
 def shown_request(asked):
@@ -100,7 +138,12 @@ def shown_request(asked):
     outputs = []
     for it in asked["outputs"]:
         txid, index = it["outpoint"].split(":")
-        outputs.append({"explorer": f"{shown_id(bytes.fromhex(txid))}:{index}", **{name: value for name, value in it.items() if name != "outpoint"}})
+        outputs.append(
+            {
+                "explorer": f"{shown_id(bytes.fromhex(txid))}:{index}",
+                **{name: value for name, value in it.items() if name != "outpoint"},
+            }
+        )
     return {**asked, "outputs": outputs}
 
 
@@ -117,7 +160,11 @@ def spend_answers(text):
         raise NotRun("spend does not run here") from None
     if ran.returncode not in (0, 1):
         raise NotRun(f"spend answers with status {ran.returncode}")
-    return ran.stdout.decode(), ran.returncode, [it[len("note: ") :] for it in ran.stderr.decode().splitlines() if it.startswith("note: ")]
+    return (
+        ran.stdout.decode(),
+        ran.returncode,
+        [it[len("note: ") :] for it in ran.stderr.decode().splitlines() if it.startswith("note: ")],
+    )
 
 
 def changed_request(asked, **members):
@@ -128,12 +175,19 @@ def keyed_claim(told, prefix, value):
     """A claim on an output whose script has this before a key's check."""
     key = told["terms"]["keys"]["remote_htlcpubkey"]
     script = f"{prefix}21{key}ac"
-    output = {"outpoint": "07" * 32 + ":0", "path": 0, "program": "0020" + sha256(bytes.fromhex(script)).hex(), "script": script}
+    output = {
+        "outpoint": "07" * 32 + ":0",
+        "path": 0,
+        "program": "0020" + sha256(bytes.fromhex(script)).hex(),
+        "script": script,
+    }
     return {**output, "shell": None, "slots": [["sig", key]], "value": value}
 
 
 def bounds(told):
-    """Requests at a bound, each with the refusal of the one beyond it: all the bitcoins there are, and for each kind of destination the least that is no dust."""
+    """Requests at a bound, each with the refusal of the one beyond it: all the bitcoins there are, and for each kind
+    of destination the least that is no dust.
+    """
     asked, _, _ = next(requests(told))
     late = asked["outputs"][1]
     whole = {**asked, "outputs": [{**late, "value": MAX_MONEY - 1}, keyed_claim(told, "", 1)], "feerate_per_kw": 0}
@@ -141,28 +195,60 @@ def bounds(told):
     for destination, dust in DUST:
         paying = {**asked, "outputs": [late], "preimages": [], "destination": destination, "feerate_per_kw": 1000}
         fee = wanted_plan(told, paying, [0], 501)["fee"]
-        yield {**paying, "outputs": [{**late, "value": fee + dust}]}, [0], 501, [{**late, "value": fee + dust - 1}], "Dust", 10
+        yield {**paying, "outputs": [{**late, "value": fee + dust}]}, [0], 501, [
+            {**late, "value": fee + dust - 1}
+        ], "Dust", 10
 
 
 def givens(told):
-    """Destinations and feerates that are taken, and those that are refused, each with its notes: both sides of each bound."""
+    """Destinations and feerates that are taken, and those that are refused, each with its notes: both sides of each
+    bound.
+    """
     asked, _, _ = next(requests(told))
     late = {**asked["outputs"][1], "value": 1_000_000_000}
     paying = {**asked, "outputs": [late], "preimages": []}
-    for most, limit in (({}, 250_000), ({"most_feerate_per_kw": 300}, 300), ({"most_feerate_per_kw": 1_000_000}, 1_000_000)):
+    for most, limit in (
+        ({}, 250_000),
+        ({"most_feerate_per_kw": 300}, 300),
+        ({"most_feerate_per_kw": 1_000_000}, 1_000_000),
+    ):
         yield {**paying, **most, "feerate_per_kw": limit}, None, []
-        over = f"{limit + 1} satoshis for 1,000 units of weight are {(limit + 1) // 250} for a virtual byte; most_feerate_per_kw raises the limit of {limit}"
+        over = (
+            f"{limit + 1} satoshis for 1,000 units of weight are {(limit + 1) // 250} for a virtual byte;"
+            f" most_feerate_per_kw raises the limit of {limit}"
+        )
         yield {**paying, **most, "feerate_per_kw": limit + 1}, ("TooHighFeerate", 14), [over]
-    for feerate, notes in ((253, []), (252, ["nodes pass on no transaction below a feerate_per_kw of 253 by default"])):
+    for feerate, notes in (
+        (253, []),
+        (252, ["nodes pass on no transaction below a feerate_per_kw of 253 by default"]),
+    ):
         yield {**paying, "feerate_per_kw": feerate}, None, notes
     fee = wanted_plan(told, {**paying, "feerate_per_kw": 1000}, [0], 501)["fee"]
-    for value, notes in ((10 * fee, []), (10 * fee - 1, [f"the fee is above a tenth of the value: {fee} of {10 * fee - 1} satoshis"])):
+    for value, notes in (
+        (10 * fee, []),
+        (10 * fee - 1, [f"the fee is above a tenth of the value: {fee} of {10 * fee - 1} satoshis"]),
+    ):
         yield {**paying, "outputs": [{**late, "value": value}], "feerate_per_kw": 1000}, None, notes
     key = told["terms"]["keys"]["remote_htlcpubkey"]
     for destination in ("5103" + "11" * 3, "6003" + "11" * 3, *(it for it, _ in DUST)):
         yield {**paying, "destination": destination}, None, []
-    cut = [it[:-2] for it, _ in DUST] + ["0014" + "11" * 19, "0015" + "11" * 21, "001f" + "11" * 31, "0021" + "11" * 33]
-    other = ["5102" + "11" * 2, "6029" + "11" * 41, "5020" + "11" * 32, "6120" + "11" * 32, "", "6a0400010203", key, f"21{key}ac", late["script"]]
+    cut = [it[:-2] for it, _ in DUST] + [
+        "0014" + "11" * 19,
+        "0015" + "11" * 21,
+        "001f" + "11" * 31,
+        "0021" + "11" * 33,
+    ]
+    other = [
+        "5102" + "11" * 2,
+        "6029" + "11" * 41,
+        "5020" + "11" * 32,
+        "6120" + "11" * 32,
+        "",
+        "6a0400010203",
+        key,
+        f"21{key}ac",
+        late["script"],
+    ]
     for destination in (*cut, *other):
         yield {**paying, "destination": destination}, ("BadDestination", 13), [PAID]
     yield {**paying, "destination": "", "feerate_per_kw": 250_001}, ("BadDestination", 13), [PAID]
@@ -177,13 +263,25 @@ def bad_shapes(told):
     """What has another shape, and the note that names it: each member of a request and of an output."""
     asked, _, _ = next(requests(told))
     both = asked["outputs"]
-    address, feerate = "bc1qw508d6qejxtdg4y5r3zarvary0c5xw7kv8f3t4", "satoshis for 1,000 units of weight, as an integer of at most 32 bits without quotes"
-    slot = '["sig",KEY], ["preimage",SHA256] or ["exact",BYTES], with a compressed key, a hash of 32 bytes or at most 520 bytes in hexadecimal'
+    address, feerate = (
+        "bc1qw508d6qejxtdg4y5r3zarvary0c5xw7kv8f3t4",
+        "satoshis for 1,000 units of weight, as an integer of at most 32 bits without quotes",
+    )
+    slot = (
+        '["sig",KEY], ["preimage",SHA256] or ["exact",BYTES], with a compressed key, a hash of 32 bytes or at most 520'
+        " bytes in hexadecimal"
+    )
     yield "[]", "the request: wanted: an object"
     for members, note in (
         ({"fee": 1}, "fee: no member of this name belongs here"),
         ({"a\nb": 1}, "?: no member of this name belongs here"),
-        ({"destination": address}, "destination: wanted: bytes in hexadecimal, in quotes; of an address, those that bitcoin-cli validateaddress ADDRESS has as scriptPubKey"),
+        (
+            {"destination": address},
+            (
+                "destination: wanted: bytes in hexadecimal, in quotes; of an address, those that bitcoin-cli"
+                " validateaddress ADDRESS has as scriptPubKey"
+            ),
+        ),
         ({"destination": "0x0014"}, "destination: wanted: bytes in hexadecimal, in quotes; without 0x"),
         ({"destination": "001"}, "destination: wanted: bytes in hexadecimal, in quotes; two digits for each byte"),
         ({"destination": 5}, "destination: wanted: bytes in hexadecimal, in quotes"),
@@ -198,42 +296,68 @@ def bad_shapes(told):
     ):
         yield changed_request(asked, **members), note
     yield line(without(asked, "feerate_per_kw")), "feerate_per_kw: it is missing"
-    yield line(asked).replace('"feerate_per_kw":253', '"feerate_per_kw":500,"feerate_per_kw":253'), "feerate_per_kw: a member of this name stands twice in one object"
-    yield line(asked).replace('"path":2', '"path":1,"path":2', 1), "path: a member of this name stands twice in one object"
+    yield line(asked).replace(
+        '"feerate_per_kw":253', '"feerate_per_kw":500,"feerate_per_kw":253'
+    ), "feerate_per_kw: a member of this name stands twice in one object"
+    yield line(asked).replace(
+        '"path":2', '"path":1,"path":2', 1
+    ), "path: a member of this name stands twice in one object"
     for members, note in (
         ({"value": 0.001}, "value: wanted: satoshis, as an integer without point, sign and quotes"),
         ({"value": "100000"}, "value: wanted: satoshis, as an integer without point, sign and quotes"),
         ({"value": -100_000}, "value: wanted: satoshis, as an integer without point, sign and quotes"),
         ({"path": "1"}, "path: wanted: the number of a path from 0, without quotes"),
-        ({"program": address}, "program: wanted: bytes in hexadecimal, in quotes; of an address, those that bitcoin-cli validateaddress ADDRESS has as scriptPubKey"),
+        (
+            {"program": address},
+            (
+                "program: wanted: bytes in hexadecimal, in quotes; of an address, those that bitcoin-cli"
+                " validateaddress ADDRESS has as scriptPubKey"
+            ),
+        ),
         ({"script": "0g"}, "script: wanted: bytes in hexadecimal, in quotes"),
         ({"shell": ""}, "shell: wanted: null"),
-        ({"outpoint": "07" * 32}, 'outpoint: wanted: "TXID:INDEX", with 64 hexadecimal digits and an index below 2^32'),
+        (
+            {"outpoint": "07" * 32},
+            'outpoint: wanted: "TXID:INDEX", with 64 hexadecimal digits and an index below 2^32',
+        ),
         ({"slots": [both[1]["slots"][0], ["sig", "04" + "11" * 64]]}, f"slots[1]: wanted: {slot}"),
         ({"slots": [["preimage", "11" * 20]]}, f"slots[0]: wanted: {slot}"),
         ({"txid": "07" * 32}, "txid: no member of this name belongs here"),
     ):
         yield changed_request(asked, outputs=[both[0], {**both[1], **members}]), f"outputs[1].{note}"
-    either = "outputs[1]: wanted: either outpoint, with the id in the hash's own byte order, or explorer, with the id as explorers show it"
+    either = (
+        "outputs[1]: wanted: either outpoint, with the id in the hash's own byte order, or explorer, with the id as"
+        " explorers show it"
+    )
     for it in (without(both[1], "outpoint"), {**both[1], "explorer": both[1]["outpoint"]}):
         yield changed_request(asked, outputs=[both[0], it]), either
 
 
 def bad_claims(told):
-    """Claims that are not accepted, each in the second output, and the note that says why: the fact is the first that `enforce paths` lists of the path and that the slots do not show."""
+    """Claims that are not accepted, each in the second output, and the note that says why: the fact is the first that
+    `enforce paths` lists of the path and that the slots do not show.
+    """
     asked, _, _ = next(requests(told))
     first, good = asked["outputs"]
     keys = told["terms"]["keys"]
     empty, peer = good["slots"]
-    shows = "they do not show this fact; slot 0 is the top of the stack, so the last item of the witness before the script"
+    shows = (
+        "they do not show this fact; slot 0 is the top of the stack, so the last item of the witness before the script"
+    )
     for members, note in (
         ({"script": "50"}, "script: BadOpcode 0"),
         ({"script": "5102aa"}, "script: Truncated 1"),
         ({"script": "63"}, "script: OpenBranch"),
         ({"path": 3}, "path: NoSuchPath: the number of the script's paths is 3, numbered from 0"),
         ({"slots": [peer]}, "slots: WrongArity: the number of the path's slots is 2, and 1 stand here"),
-        ({"slots": [empty, ["sig", keys["local_htlcpubkey"]]]}, f"slots: Unmet token 1 {keys['remote_htlcpubkey']} yes: {shows}"),
-        ({"program": first["program"]}, "program: WrongProgram: it is not P2WSH of the script, nor P2WPKH with the script of BIP 143"),
+        (
+            {"slots": [empty, ["sig", keys["local_htlcpubkey"]]]},
+            f"slots: Unmet token 1 {keys['remote_htlcpubkey']} yes: {shows}",
+        ),
+        (
+            {"program": first["program"]},
+            "program: WrongProgram: it is not P2WSH of the script, nor P2WPKH with the script of BIP 143",
+        ),
     ):
         yield changed_request(asked, outputs=[first, {**good, **members}]), f"outputs[1].{note}"
 
@@ -251,14 +375,28 @@ def refusals(told):
     asked, _, _ = next(requests(told))
     both = asked["outputs"]
     fee = wanted_plan(told, {**asked, "outputs": both[1:], "preimages": [], "feerate_per_kw": 1000}, [0], 501)["fee"]
-    fixed = {**both[0], "shell": "02000000" + "01" + both[0]["outpoint"][:64] + "01000000" + "00" + "00000000" + "00" + "00000000"}
+    fixed = {
+        **both[0],
+        "shell": "02000000" + "01" + both[0]["outpoint"][:64] + "01000000" + "00" + "00000000" + "00" + "00000000",
+    }
     # SIZE, 66, EQUALVERIFY: a token has 66 bytes, and no signature in DER has to
     measured = keyed_claim(told, "82014288", 2000)
-    # CHECKLOCKTIMEVERIFY for height 1, and for the first second of 1985-11-05, which is 500,000,000; CHECKSEQUENCEVERIFY for 512 seconds
-    at_height, at_second, after_seconds = (keyed_claim(told, prefix, 2000) for prefix in ("51b175", "040065cd1db175", "03010040b275"))
+    # CHECKLOCKTIMEVERIFY for height 1, and for the first second of 1985-11-05, which is 500,000,000;
+    # CHECKSEQUENCEVERIFY for 512 seconds
+    at_height, at_second, after_seconds = (
+        keyed_claim(told, prefix, 2000) for prefix in ("51b175", "040065cd1db175", "03010040b275")
+    )
     bad = {**both[0], "path": 3}
     # it has the shape of a claim, and no path has the number 1
-    least = {"outpoint": "07" * 32 + ":0", "path": 1, "program": "", "script": "51", "shell": None, "slots": [], "value": 0}
+    least = {
+        "outpoint": "07" * 32 + ":0",
+        "path": 1,
+        "program": "",
+        "script": "51",
+        "shell": None,
+        "slots": [],
+        "value": 0,
+    }
     yield "", "NotJson", 1
     yield "{", "NotJson", 1
     yield "[]", "BadShape", 2
@@ -292,14 +430,24 @@ def ask(count):
         found = spend_answer(line(asked))
         count.check(found == (line(wanted_plan(told, asked, sequences, lock_time)), 0), f"a plan: {found}")
         found = spend_answer(line(shown_request(asked)))
-        count.check(found == (line(wanted_plan(told, asked, sequences, lock_time)), 0), f"a plan by the ids that explorers show: {found}")
+        count.check(
+            found == (line(wanted_plan(told, asked, sequences, lock_time)), 0),
+            f"a plan by the ids that explorers show: {found}",
+        )
     for asked, refusal, notes in givens(told):
         found = spend_answers(line(asked))
-        wanted = (line(wanted_plan(told, asked, [0], 501)), 0) if refusal is None else (line({"refused": refusal[0], "number": refusal[1]}), 1)
+        wanted = (
+            (line(wanted_plan(told, asked, [0], 501)), 0)
+            if refusal is None
+            else (line({"refused": refusal[0], "number": refusal[1]}), 1)
+        )
         count.check(found == (*wanted, notes), f"a destination and a feerate: {found}")
     for text, name, number, notes in faults(told):
         found = spend_answers(text)
-        count.check(found == (line({"refused": name, "number": number}), 1, notes), f"a fault that is to be named by {notes}: {found}")
+        count.check(
+            found == (line({"refused": name, "number": number}), 1, notes),
+            f"a fault that is to be named by {notes}: {found}",
+        )
     beyond = []
     for asked, sequences, lock_time, outputs, name, number in bounds(told):
         found = spend_answer(line(asked))
@@ -307,7 +455,9 @@ def ask(count):
         beyond.append((changed_request(asked, outputs=outputs), name, number))
     for text, name, number in (*refusals(told), *beyond):
         found = spend_answer(text)
-        count.check(found == (line({"refused": name, "number": number}), 1), f"a refusal that is to be {name}: {found}")
+        count.check(
+            found == (line({"refused": name, "number": number}), 1), f"a refusal that is to be {name}: {found}"
+        )
 
 
 if __name__ == "__main__":

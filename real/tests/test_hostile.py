@@ -1,4 +1,6 @@
-"""Tests of what is read: changed bytes are refused by name, strict DER is what an encoder writes, and scripts at random are judged as consensus has them. Tested, not proved."""
+"""Tests of what is read: changed bytes are refused by name, strict DER is what an encoder writes, and scripts at
+random are judged as consensus has them. Tested, not proved.
+"""
 import json
 import random
 
@@ -51,7 +53,12 @@ def read_hostile_bytes(count):
     survives(count, "changed transactions", read_transaction, transaction.bytes())
     survives(count, "changed plans", lambda it: assembly.make(read_plan(it)), plan)
     survives(count, "changed partially signed transactions", read_all_fields, assembly.make(read_plan(plan)).bytes())
-    survives(count, "changed base64", lambda it: read_all_fields(psbt.decoded_bytes(it)), assembly.make(read_plan(plan)).base64().encode())
+    survives(
+        count,
+        "changed base64",
+        lambda it: read_all_fields(psbt.decoded_bytes(it)),
+        assembly.make(read_plan(plan)).base64().encode(),
+    )
     survives(count, "changed revoked states", penalties.read_state, calls.state_lines(calls.SEEN).encode())
     survives(
         count,
@@ -69,7 +76,9 @@ def encoded_numbers(r, s):
 
 
 def item_numbers(item):
-    """The two numbers that stand where a signature in DER has them, whatever else stands there; None where they are cut."""
+    """The two numbers that stand where a signature in DER has them, whatever else stands there; None where they are
+    cut.
+    """
     try:
         first = item[4 : 4 + item[3]]
         second = item[6 + item[3] : 6 + item[3] + item[5 + item[3]]]
@@ -82,9 +91,15 @@ def strict_encodings(count):
     """An item is in strict DER exactly where an encoder writes it of the numbers that it has."""
     chance, strict = random.Random("strict"), 0
     for _ in range(MUTATIONS):
-        item = bytearray(encoded_numbers(chance.getrandbits(chance.choice((1, 8, 250, 256))), chance.getrandbits(chance.choice((7, 128, 255)))))
+        item = bytearray(
+            encoded_numbers(
+                chance.getrandbits(chance.choice((1, 8, 250, 256))), chance.getrandbits(chance.choice((7, 128, 255)))
+            )
+        )
         for _ in range(chance.randrange(3)):
-            item[chance.randrange(len(item) - 1)] = chance.choice((0, 1, 2, 0x30, 0x7F, 0x80, len(item) - 3, chance.randrange(256)))
+            item[chance.randrange(len(item) - 1)] = chance.choice(
+                (0, 1, 2, 0x30, 0x7F, 0x80, len(item) - 3, chance.randrange(256))
+            )
         numbers = item_numbers(item)
         holds = numbers is not None and encoded_numbers(*numbers) == item and len(item) <= signatures.LONGEST
         if signatures.is_strict_der(bytes(item)) != holds:
@@ -113,21 +128,23 @@ def drawn_part(chance, depth):
     if depth and chance.random() < 0.35:
         inner = [drawn_script(chance, depth - 1) for _ in range(2)]
         return chance.choice((b"\x63", b"\x64")) + inner[0] + b"\x67" + inner[1] + b"\x68"
-    return chance.choice((
-        key + b"\xac",
-        key + b"\xac",
-        key + b"\x7c\xac",
-        b"\xa9" + push(hash160(PREIMAGE)) + b"\x88",
-        b"\x82\x01\x20\x88",
-        b"\x82\x01\x27\x88",
-        b"\x01\x05\xac" + NEGATED,
-        b"\x52" + push(KEYS[2]) + push(KEYS[3]) + b"\x52\xae" + NEGATED,
-        bytes([0x50 + chance.randrange(1, 3)]) + push(KEYS[0]) + push(KEYS[1]) + b"\x52\xae",
-        b"\x57\xb2\x75",
-        b"\x02\x58\x02\xb1\x75",
-        b"\x02\x07\x00\xb2\x75",
-        bytes([chance.choice((0x00, 0x51, 0x75, 0x76, 0x7C, 0x82, 0x87, 0x88, 0xAC, 0xAE, 0x67))]),
-    ))
+    return chance.choice(
+        (
+            key + b"\xac",
+            key + b"\xac",
+            key + b"\x7c\xac",
+            b"\xa9" + push(hash160(PREIMAGE)) + b"\x88",
+            b"\x82\x01\x20\x88",
+            b"\x82\x01\x27\x88",
+            b"\x01\x05\xac" + NEGATED,
+            b"\x52" + push(KEYS[2]) + push(KEYS[3]) + b"\x52\xae" + NEGATED,
+            bytes([0x50 + chance.randrange(1, 3)]) + push(KEYS[0]) + push(KEYS[1]) + b"\x52\xae",
+            b"\x57\xb2\x75",
+            b"\x02\x58\x02\xb1\x75",
+            b"\x02\x07\x00\xb2\x75",
+            bytes([chance.choice((0x00, 0x51, 0x75, 0x76, 0x7C, 0x82, 0x87, 0x88, 0xAC, 0xAE, 0x67))]),
+        )
+    )
 
 
 def drawn_script(chance, depth):
@@ -136,7 +153,9 @@ def drawn_script(chance, depth):
 
 def drawn_item(chance):
     signature = encoded_numbers(chance.choice(KEYS)[1] << 240 | chance.getrandbits(200), 1 + chance.getrandbits(3))
-    return chance.choice((b"", b"", b"\x01", signature, signature, signature, PREIMAGE, chance.choice(KEYS), b"\x00", b"\x30\x06"))
+    return chance.choice(
+        (b"", b"", b"\x01", signature, signature, signature, PREIMAGE, chance.choice(KEYS), b"\x00", b"\x30\x06")
+    )
 
 
 def drawn_witness(chance, script):
@@ -152,12 +171,19 @@ def drawn_witness(chance, script):
 def drawn_case(chance):
     """A transaction with scripts and witnesses at random, and what it spends."""
     scripts = [drawn_script(chance, 2) for _ in range(INPUTS)]
-    inputs = [Input(bytes(32) + place.to_bytes(4, "little"), b"", DELAY, drawn_witness(chance, it)) for place, it in enumerate(scripts)]
-    return Transaction(2, inputs, [Output(1, b"\x51")], LOCK_TIME), [Output(5, b"\x00\x20" + sha256(it)) for it in scripts]
+    inputs = [
+        Input(bytes(32) + place.to_bytes(4, "little"), b"", DELAY, drawn_witness(chance, it))
+        for place, it in enumerate(scripts)
+    ]
+    return Transaction(2, inputs, [Output(1, b"\x51")], LOCK_TIME), [
+        Output(5, b"\x00\x20" + sha256(it)) for it in scripts
+    ]
 
 
 def judge_drawn_cases(count, trace):
-    """The judge with tokens and a run by the rules of consensus with signatures agree, but for the rules that are stricter. Each kind of answer comes."""
+    """The judge with tokens and a run by the rules of consensus with signatures agree, but for the rules that are
+    stricter. Each kind of answer comes.
+    """
     chance, seen = random.Random("drawn"), {}
     for _ in range(TRANSACTIONS):
         for it in judgement.judge(*drawn_case(chance), Drawn(), trace):
@@ -167,7 +193,10 @@ def judge_drawn_cases(count, trace):
                 count.check(False, f"a script at random: {it}")
     wanted = [("clean", None), ("stops", None)]
     wanted += [("not judged", it) for it in ("MeasuredSignature", "AmbiguousItem", "NotListed")]
-    wanted += [("stricter here", it) for it in ("FailedCheck Number", "FailedCheck KeyForm", "FailedCheck TokenForm", "OpenBranch")]
+    wanted += [
+        ("stricter here", it)
+        for it in ("FailedCheck Number", "FailedCheck KeyForm", "FailedCheck TokenForm", "OpenBranch")
+    ]
     count.check(all(seen.get(it, 0) for it in wanted), f"answers of scripts at random: {seen}")
 
 
@@ -177,20 +206,32 @@ def judge_bounds(count, trace):
     checked = [[signature] * 300 + keys + [b"\x51" + b"\x75" * place + b"\x51"] for place in (1, 2)]
     # seven branches have too many paths to be listed
     branched = [[(b"\x63" * 7 + b"\x68" * 7 + b"\x51" * place)] for place in (9_200, 9_201)]
-    for witnesses, reasons in ((checked, ["NotOneValue", "TooManyChecks"]), (branched, ["MissingOperand", "TooManySteps"])):
+    for witnesses, reasons in (
+        (checked, ["NotOneValue", "TooManyChecks"]),
+        (branched, ["MissingOperand", "TooManySteps"]),
+    ):
         inputs = [Input(bytes(32) + place.to_bytes(4, "little"), b"", 0, it) for place, it in enumerate(witnesses)]
         spent = [Output(5, b"\x00\x20" + sha256(it[-1])) for it in witnesses]
         found = judgement.judge(Transaction(2, inputs, [Output(1, b"\x51")], 0), spent, Drawn(), trace)
         count.check([it["reason"] for it in found] == reasons, f"{reasons}, and not {[it['reason'] for it in found]}")
     # 20 items, each of 520 bytes, and 201 copies of one: 36 times 114,920 bytes are within the bound
-    copied = [judgement.Case(place, Input(bytes(36), b"", 0), None, b"\x76" * 201, [bytes(520)] * 20) for place in range(37)]
+    copied = [
+        judgement.Case(place, Input(bytes(36), b"", 0), None, b"\x76" * 201, [bytes(520)] * 20) for place in range(37)
+    ]
     judgement.attempt(copied, judgement.within_budget, judgement.Budget())
-    count.check([it.settled and it.settled.reason for it in copied] == [None] * 36 + ["TooMuchStack"], "stacks with copies")
+    count.check(
+        [it.settled and it.settled.reason for it in copied] == [None] * 36 + ["TooMuchStack"], "stacks with copies"
+    )
 
 
 def hashes(count):
-    """RIPEMD-160 of two texts, as its authors print them, and HASH160 of each length by both hashers, where this Python has one."""
-    for given, wanted in ((b"", "9c1185a5c5e9fc54612808977ee8f548b2258d31"), (b"abc", "8eb208f7e05d987a9b044a8e98c6b087f15a0bfc")):
+    """RIPEMD-160 of two texts, as its authors print them, and HASH160 of each length by both hashers, where this
+    Python has one.
+    """
+    for given, wanted in (
+        (b"", "9c1185a5c5e9fc54612808977ee8f548b2258d31"),
+        (b"abc", "8eb208f7e05d987a9b044a8e98c6b087f15a0bfc"),
+    ):
         count.check(ripemd160(given).hex() == wanted, f"RIPEMD-160 of {given}")
     count.check(all(hash160(bytes(it)) == ripemd160(sha256(bytes(it))) for it in range(200)), "HASH160")
 

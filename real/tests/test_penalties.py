@@ -1,4 +1,6 @@
-"""Tests of penalties with real keys: BOLT 3's Appendix E, and the commitments and HTLC transactions of Appendix C as revoked ones. Tested, not proved."""
+"""Tests of penalties with real keys: BOLT 3's Appendix E, and the commitments and HTLC transactions of Appendix C as
+revoked ones. Tested, not proved.
+"""
 import json
 
 from real.lib import commitment, commitment_number, derivation, penalties, penalty_notes
@@ -9,14 +11,24 @@ from real.tests import bolt3
 # BOLT 3, Appendix E
 BASE_SECRET = bytes(range(32))
 SECRET = bytes(reversed(range(32)))
-BASE, POINT = "036d6caac248af96f6afa7f904f550253a0f3ef3f5aa2fe6838a95b216691468e2", "025f7117a78150fe2ef97db7cfc83bd57b2e2c0d0dd25eaf467a4a1c2a45ce1486"
-DERIVED, DERIVED_PRIVATE = "0235f2dbfaa89b57ec7b055afe29849ef7ddfeb1cefdb9ebdc43f5494984db29e5", "cbced912d3b21bf196a766651e436aff192362621ce317704ea2f75d87e7be0f"
-REVOCATION, REVOCATION_PRIVATE = "02916e326636d19c33f13e8c0c3a03dd157f332f3e99c317c141dd865eb01f8ff0", "d09ffff62ddb2297ab000cc85bcb4283fdeb6aa052affbc9dddcf33b61078110"
+BASE, POINT = (
+    "036d6caac248af96f6afa7f904f550253a0f3ef3f5aa2fe6838a95b216691468e2",
+    "025f7117a78150fe2ef97db7cfc83bd57b2e2c0d0dd25eaf467a4a1c2a45ce1486",
+)
+DERIVED, DERIVED_PRIVATE = (
+    "0235f2dbfaa89b57ec7b055afe29849ef7ddfeb1cefdb9ebdc43f5494984db29e5",
+    "cbced912d3b21bf196a766651e436aff192362621ce317704ea2f75d87e7be0f",
+)
+REVOCATION, REVOCATION_PRIVATE = (
+    "02916e326636d19c33f13e8c0c3a03dd157f332f3e99c317c141dd865eb01f8ff0",
+    "d09ffff62ddb2297ab000cc85bcb4283fdeb6aa052affbc9dddcf33b61078110",
+)
 # the secrets of Appendix C's base points, each a byte that is repeated
 PRIVATES = {"revocation": 0x22, "payment": 0x44, "htlc": 0x44, "owner_delayed": 0x33, "owner_htlc": 0x11}
 DESTINATION = "0014" + "c7" * 20
 HEIGHT = 501
-# BOLT 3, "Dust Limits": the least value of an output by its kind; and what Bitcoin Core's policy has of taproot and of the shortest witness program
+# BOLT 3, "Dust Limits": the least value of an output by its kind; and what Bitcoin Core's policy has of taproot and of
+# the shortest witness program
 DUST_SAT = {
     DESTINATION: 294,
     "76a914" + "c7" * 20 + "88ac": 546,
@@ -28,9 +40,34 @@ DUST_SAT = {
 }
 # no hash of a key or a script, no witness program of BIP 141
 NO_ADDRESSES = (
-    *("", "6a", "51", "00", "4f02c7c7", "6102c7c7", "5101c7", "5103c7c7", "5102c7c7c7", "51024e73", "6002c7c7", "21" + "c7" * 33 + "ac"),
-    *("0014" + "c7" * 19, "0014" + "c7" * 21, "0013" + "c7" * 19, "0020" + "c7" * 31, "0021" + "c7" * 33, "6029" + "c7" * 41),
-    *("76a914" + "c7" * 19 + "88ac", "76a914" + "c7" * 20 + "88ad", "a914" + "c7" * 20 + "88", "a914" + "c7" * 21 + "87"),
+    *(
+        "",
+        "6a",
+        "51",
+        "00",
+        "4f02c7c7",
+        "6102c7c7",
+        "5101c7",
+        "5103c7c7",
+        "5102c7c7c7",
+        "51024e73",
+        "6002c7c7",
+        "21" + "c7" * 33 + "ac",
+    ),
+    *(
+        "0014" + "c7" * 19,
+        "0014" + "c7" * 21,
+        "0013" + "c7" * 19,
+        "0020" + "c7" * 31,
+        "0021" + "c7" * 33,
+        "6029" + "c7" * 41,
+    ),
+    *(
+        "76a914" + "c7" * 19 + "88ac",
+        "76a914" + "c7" * 20 + "88ad",
+        "a914" + "c7" * 20 + "88",
+        "a914" + "c7" * 21 + "87",
+    ),
 )
 # Appendix C's commitment with two offered HTLCs of one preimage: its outputs
 SHARED_HTLCS, SHARED_PROGRAM = (5, 6), "0020305c12e1a0bc21e283c131cea1c66d68857d28b7b2fce0a6fbc40c164852121b"
@@ -41,7 +78,8 @@ SHARED = (
     (3_000_000, "0014cc1b07838e387deacd0e5232e1e8b49f4c29e484"),
     (6_987_686, "00204adb4e2f00643db396dd120d4e7dc17625f5f2c11a40d857accc862d6b7dd80e"),
 )
-# what inputs weigh that take an offered HTLC and to_local, with signatures of 72 bytes: 41 bytes of four units, and a witness (scripts of 133 and 77 bytes)
+# what inputs weigh that take an offered HTLC and to_local, with signatures of 72 bytes: 41 bytes of four units, and a
+# witness (scripts of 133 and 77 bytes)
 OFFERED_WEIGHT, TO_LOCAL_WEIGHT = 4 * 41 + 1 + 73 + 34 + 134, 4 * 41 + 1 + 73 + 2 + 78
 # the names that the appendix gives the keys of the anchors
 FUNDING_KEYS = ("local_funding_pubkey", "remote_funding_pubkey")
@@ -69,7 +107,11 @@ def check_derivation(count, curve):
 
 def htlc(told, number):
     found = next(it for it in told["htlcs"] if it["id"] == number)
-    return {"direction": "offered" if found["offered_by_local"] else "received", "hash": found["payment_hash"], "expiry_height": found["cltv_expiry"]}
+    return {
+        "direction": "offered" if found["offered_by_local"] else "received",
+        "hash": found["payment_hash"],
+        "expiry_height": found["cltv_expiry"],
+    }
 
 
 def state(told, case, curve, **changes):
@@ -104,7 +146,9 @@ def penalties_of(given, curve, trace, privates=None, **options):
 
 
 def check_case(count, told, case, curve, trace):
-    """Each output of a case is taken on its own, the dearest first, with the value and the script of the appendix, its fee and its deadline."""
+    """Each output of a case is taken on its own, the dearest first, with the value and the script of the appendix, its
+    fee and its deadline.
+    """
     found, order = penalties_of(state(told, case, curve), curve, trace), dearest(values_of(case))
     kinds, wanted = [it["kinds"] for it in found[:-1]], [[case["outputs"][it]["kind"]] for it in order]
     count.check(kinds == wanted, f"{case['name']}: {kinds}")
@@ -116,8 +160,14 @@ def check_case(count, told, case, curve, trace):
         made = read_transaction(bytes.fromhex(it["transaction"]))
         weight = 3 * len(made.stripped_bytes()) + len(made.bytes())
         count.check(253 * weight <= 1000 * it["fee"] < 253 * (weight + 3) + 1000, f"{where}: its fee")
-        count.check(made.inputs[0].shown_outpoint() == f"{bytes.fromhex(case['txid_hash_order'])[::-1].hex()}:{index}", f"{where}: its outpoint")
-        count.check(made.outputs[0].value == output["value_sat"] - it["fee"] and made.outputs[0].program.hex() == DESTINATION, f"{where}: what is paid")
+        count.check(
+            made.inputs[0].shown_outpoint() == f"{bytes.fromhex(case['txid_hash_order'])[::-1].hex()}:{index}",
+            f"{where}: its outpoint",
+        )
+        count.check(
+            made.outputs[0].value == output["value_sat"] - it["fee"] and made.outputs[0].program.hex() == DESTINATION,
+            f"{where}: what is paid",
+        )
         script = output.get("witness_script") or told["terms"]["keys"]["remote_payment_basepoint"]
         count.check(made.inputs[0].witness[-1].hex() == script, f"{where}: its script")
         count.check(it["deadline_blocks"] == deadline_of(output), f"{where}: its deadline")
@@ -125,16 +175,30 @@ def check_case(count, told, case, curve, trace):
 
 def deadline_of(output):
     """The blocks after HEIGHT in which nobody else can take an output of a case that the next block has."""
-    return {"to_local": 144, "to_remote": None, "received": 0, "offered": max(0, output.get("cltv_expiry", 0) - HEIGHT)}[output["kind"]]
+    return {
+        "to_local": 144,
+        "to_remote": None,
+        "received": 0,
+        "offered": max(0, output.get("cltv_expiry", 0) - HEIGHT),
+    }[output["kind"]]
 
 
 def check_last_line(count, name, found, taken=(), too_little=(), no_key=(), others=(), named=None):
     """What the last line says of all outputs, and that each of the lines before it has an answer that fits."""
-    wanted = {"taken": [*taken], "too_little": [*too_little], "no_key": [*no_key], "others": [*others], **({} if named is None else {"named": named})}
+    wanted = {
+        "taken": [*taken],
+        "too_little": [*too_little],
+        "no_key": [*no_key],
+        "others": [*others],
+        **({} if named is None else {"named": named}),
+    }
     told = {it: value for it, value in found[-1].items() if it != "transaction"}
     count.check(told == wanted, f"{name}: {told}, and not {wanted}")
     answers = {"taken": "taken", "too_little": "too little to be passed on", "no_key": "no key"}
-    by_line = {it: sorted(at for line in found[:-1] if line["answer"] == answer for at in line["outputs"]) for it, answer in answers.items()}
+    by_line = {
+        it: sorted(at for line in found[:-1] if line["answer"] == answer for at in line["outputs"])
+        for it, answer in answers.items()
+    }
     count.check(by_line == {it: wanted[it] for it in answers}, f"{name}: {by_line}, and not {wanted}")
     sent = {it["answer"] for it in found[:-1] if "transaction" in it}
     count.check(sent <= {"taken"}, f"{name}: transactions of {sent}")
@@ -143,10 +207,16 @@ def check_last_line(count, name, found, taken=(), too_little=(), no_key=(), othe
 def check_one(count, told, case, curve, trace):
     """What nobody else can take yet is taken together."""
     found = penalties_of(state(told, case, curve), curve, trace, is_one=True)
-    free = [at for at, it in enumerate(case["outputs"]) if it["kind"] in ("to_local", "to_remote") or (it["kind"] == "offered" and it["cltv_expiry"] > HEIGHT)]
+    free = [
+        at
+        for at, it in enumerate(case["outputs"])
+        if it["kind"] in ("to_local", "to_remote") or (it["kind"] == "offered" and it["cltv_expiry"] > HEIGHT)
+    ]
     count.check(found[0]["outputs"] == free, f"{case['name']}: together {found[0]['outputs']}")
     rest = [it["outputs"] for it in found[1:-1]]
-    count.check(rest == [[at] for at in dearest(values_of(case)) if at not in free], f"{case['name']}: one by one {rest}")
+    count.check(
+        rest == [[at] for at in dearest(values_of(case)) if at not in free], f"{case['name']}: one by one {rest}"
+    )
 
 
 def with_outputs(case, outputs):
@@ -157,34 +227,64 @@ def with_outputs(case, outputs):
 
 
 def check_shared_program(count, told, case, curve, trace):
-    """Two offered HTLCs of one hash have one program: the deadline of both outputs is by the least expiry, in whatever order they are told."""
+    """Two offered HTLCs of one hash have one program: the deadline of both outputs is by the least expiry, in whatever
+    order they are told.
+    """
     transaction = with_outputs(case, SHARED)
     for numbers in (SHARED_HTLCS, SHARED_HTLCS[::-1]):
         for height, left in ((503, 2), (504, 1), (505, 0), (506, 0)):
             where = f"HTLCs {numbers} at {height}"
-            given = state(told, case, curve, transaction=transaction, htlcs=[htlc(told, it) for it in (1, *numbers)], height=height, confirmed_height=503)
+            given = state(
+                told,
+                case,
+                curve,
+                transaction=transaction,
+                htlcs=[htlc(told, it) for it in (1, *numbers)],
+                height=height,
+                confirmed_height=503,
+            )
             found = penalties_of(given, curve, trace, is_one=True)
             joined = [1, 2, 3, 4] if left else [3, 4]
             check_last_line(count, where, found, range(5))
-            count.check([it["outputs"] for it in found[:-1]] == [joined, *([at] for at in (1, 2, 0) if at not in joined)], f"{where}: together {found[0]['outputs']}")
+            count.check(
+                [it["outputs"] for it in found[:-1]] == [joined, *([at] for at in (1, 2, 0) if at not in joined)],
+                f"{where}: together {found[0]['outputs']}",
+            )
             alone = {it["outputs"][0]: it["deadline_blocks"] for it in penalties_of(given, curve, trace)[:-1]}
-            count.check(alone == {0: 0, 1: left, 2: left, 3: None, 4: 503 + 143 - height}, f"{where}: deadlines {alone}")
+            count.check(
+                alone == {0: 0, 1: left, 2: left, 3: None, 4: 503 + 143 - height}, f"{where}: deadlines {alone}"
+            )
 
 
 def check_expiries(count, told, case, curve, trace):
-    """An output whose HTLC has expired is in no transaction of several, where another HTLC of its hash expires much later."""
+    """An output whose HTLC has expired is in no transaction of several, where another HTLC of its hash expires much
+    later.
+    """
     at = next(at for at, it in enumerate(case["outputs"]) if it.get("htlc") == 2)
     for expiries in ((2000, 502), (502, 2000)):
         htlcs = [{**htlc(told, 2), "expiry_height": it} for it in expiries]
-        found = penalties_of(state(told, case, curve, htlcs=htlcs, height=505, confirmed_height=504), curve, trace, is_one=True)
-        count.check(at not in found[0]["outputs"], f"an HTLC of 502 and 2000, as {expiries}: together {found[0]['outputs']}")
-        count.check([it["deadline_blocks"] for it in found[1:-1]] == [0] and found[1]["outputs"] == [at], f"an HTLC of 502 and 2000, as {expiries}: {found[1:]}")
+        found = penalties_of(
+            state(told, case, curve, htlcs=htlcs, height=505, confirmed_height=504), curve, trace, is_one=True
+        )
+        count.check(
+            at not in found[0]["outputs"], f"an HTLC of 502 and 2000, as {expiries}: together {found[0]['outputs']}"
+        )
+        count.check(
+            [it["deadline_blocks"] for it in found[1:-1]] == [0] and found[1]["outputs"] == [at],
+            f"an HTLC of 502 and 2000, as {expiries}: {found[1:]}",
+        )
 
 
 def check_joined_outputs(count, told, case, curve, trace):
-    """A transaction of several leaves out an output that has less than what its input costs there, on both sides of that."""
+    """A transaction of several leaves out an output that has less than what its input costs there, on both sides of
+    that.
+    """
     feerate = 5_000
-    programs = {it["htlc"] if it["kind"] == "offered" else it["kind"]: it["script_pubkey"] for it in case["outputs"] if it["kind"] != "received"}
+    programs = {
+        it["htlc"] if it["kind"] == "offered" else it["kind"]: it["script_pubkey"]
+        for it in case["outputs"]
+        if it["kind"] != "received"
+    }
     least = OFFERED_WEIGHT * feerate // 1000
     both = (REST_WEIGHT + OFFERED_WEIGHT + TO_LOCAL_WEIGHT) * feerate // 1000 + DUST_SAT[DESTINATION]
     alone = (REST_WEIGHT + TO_LOCAL_WEIGHT) * feerate // 1000 + DUST_SAT[DESTINATION]
@@ -199,25 +299,41 @@ def check_joined_outputs(count, told, case, curve, trace):
     ]
     for values, kinds, together, little in rows:
         transaction = with_outputs(case, [(value, programs[it]) for value, it in zip(values, kinds)])
-        found = penalties_of(state(told, case, curve, transaction=transaction, feerate_per_kw=feerate), curve, trace, is_one=True)
+        found = penalties_of(
+            state(told, case, curve, transaction=transaction, feerate_per_kw=feerate), curve, trace, is_one=True
+        )
         check_last_line(count, f"outputs of {values}", found, together or [], little)
         wanted = [*([together] if together else []), *([at] for at in dearest(values, little))]
-        count.check([it["outputs"] for it in found[:-1]] == wanted, f"outputs of {values}: together {[it['outputs'] for it in found[:-1]]}")
+        count.check(
+            [it["outputs"] for it in found[:-1]] == wanted,
+            f"outputs of {values}: together {[it['outputs'] for it in found[:-1]]}",
+        )
 
 
 def check_missing_key(count, told, case, curve, trace):
-    """With one private key what it takes is taken, and each other output is told with the name of the key that is missing."""
+    """With one private key what it takes is taken, and each other output is told with the name of the key that is
+    missing.
+    """
     outputs = case["outputs"]
     remote = [at for at, it in enumerate(outputs) if it["kind"] == "to_remote"]
     rest = [at for at in range(len(outputs)) if at not in remote]
-    for name, missing, mine, lost in (("revocation", "payment", rest, remote), ("payment", "revocation", remote, rest)):
+    for name, missing, mine, lost in (
+        ("revocation", "payment", rest, remote),
+        ("payment", "revocation", remote, rest),
+    ):
         for is_one in (False, True):
             found = penalties_of(state(told, case, curve), curve, trace, [private_key(name)], is_one=is_one)
             check_last_line(count, f"the key of {name} alone", found, mine, no_key=lost)
             lines = [it for it in found[:-1] if it["answer"] == "no key"]
             order = dearest(values_of(case), lost)
-            count.check([it["outputs"] for it in lines] == [[at] for at in order] and {it["key"] for it in lines} == {missing}, f"the key of {name} alone: {lines}")
-            count.check([it["deadline_blocks"] for it in lines] == [deadline_of(outputs[at]) for at in order], f"the key of {name} alone: deadlines {lines}")
+            count.check(
+                [it["outputs"] for it in lines] == [[at] for at in order] and {it["key"] for it in lines} == {missing},
+                f"the key of {name} alone: {lines}",
+            )
+            count.check(
+                [it["deadline_blocks"] for it in lines] == [deadline_of(outputs[at]) for at in order],
+                f"the key of {name} alone: deadlines {lines}",
+            )
             count.check(penalties.is_left(found[-1]), f"the key of {name} alone: nothing is left")
 
 
@@ -227,7 +343,9 @@ def check_dust(count, told, case, curve):
     takes, _ = penalties.split_outputs(found, table)
     found.feerate_per_kw = 0
     for destination, least in DUST_SAT.items():
-        found.destination = penalties.read_state(json.dumps(state(told, case, curve, destination=destination))).destination
+        found.destination = penalties.read_state(
+            json.dumps(state(told, case, curve, destination=destination))
+        ).destination
         paid = []
         for value in (least - 1, least):
             takes[0].output.value = value
@@ -235,38 +353,66 @@ def check_dust(count, told, case, curve):
             paid.append(made is not None and made.outputs[0].value == value)
         count.check(paid == [False, True], f"the least value of {destination}: {paid}")
     for destination in NO_ADDRESSES:
-        refuses(count, "BadShape state.destination", lambda it=destination: penalties.read_state(json.dumps(state(told, case, curve, destination=it))))
+        refuses(
+            count,
+            "BadShape state.destination",
+            lambda it=destination: penalties.read_state(json.dumps(state(told, case, curve, destination=it))),
+        )
 
 
 def check_numbers(count, told, curve):
     """The number of each case's commitment; and what is none."""
     terms = told["terms"]
-    bases = {f"{side}_payment": terms["keys"][f"{name}_payment_basepoint"] for side, name in (("opener", "local"), ("other", "remote"))}
+    bases = {
+        f"{side}_payment": terms["keys"][f"{name}_payment_basepoint"]
+        for side, name in (("opener", "local"), ("other", "remote"))
+    }
     mask = commitment_number.mask_of(*map(bytes.fromhex, bases.values()))
     count.check(mask == int(terms["mask"], 16), f"what a commitment number is masked with: {mask:x}")
     for case in told["cases"]:
         raw = case["unsigned_tx_no_witness"]
         found = commitment_number.commitment_numbers(json.dumps({"transaction": raw, **bases}))
-        wanted = {"transaction": bytes.fromhex(case["txid_hash_order"])[::-1].hex(), "commitment_number": terms["commitment_number"], "secret_index": 2**48 - 1 - 42}
+        wanted = {
+            "transaction": bytes.fromhex(case["txid_hash_order"])[::-1].hex(),
+            "commitment_number": terms["commitment_number"],
+            "secret_index": 2**48 - 1 - 42,
+        }
         count.check(found == wanted, f"{case['name']}: {found}")
         # an HTLC transaction, another first byte of the lock time and of the sequence, and two inputs
-        others = [*(it["unsigned_tx_no_witness"] for it in case["htlc_transactions"]), raw[:-2] + "21", raw.replace("38b02b80", "38b02b81", 1), raw[:8] + "02" + raw[10:92] * 2 + raw[92:]]
+        others = [
+            *(it["unsigned_tx_no_witness"] for it in case["htlc_transactions"]),
+            raw[:-2] + "21",
+            raw.replace("38b02b80", "38b02b81", 1),
+            raw[:8] + "02" + raw[10:92] * 2 + raw[92:],
+        ]
         for it in others:
-            refuses(count, "NotCommitment", lambda it=it: commitment_number.commitment_numbers(json.dumps({"transaction": it, **bases})))
+            refuses(
+                count,
+                "NotCommitment",
+                lambda it=it: commitment_number.commitment_numbers(json.dumps({"transaction": it, **bases})),
+            )
     good = {"transaction": told["cases"][0]["unsigned_tx_no_witness"], **bases}
-    for name, given in (("seen.other_payment", {**good, "other_payment": "04" * 33}), ("seen.opener", {**good, "opener": "02" * 33}), ("seen.transaction", bases)):
+    for name, given in (
+        ("seen.other_payment", {**good, "other_payment": "04" * 33}),
+        ("seen.opener", {**good, "opener": "02" * 33}),
+        ("seen.transaction", bases),
+    ):
         refuses(count, f"BadShape {name}", lambda it=given: commitment_number.commitment_numbers(json.dumps(it)))
 
 
 def check_second_stages(count, told, case, curve, trace):
-    """The output of each HTLC transaction is taken by the same call; of its HTLCs, delay and base points it wants the delay and two base points."""
+    """The output of each HTLC transaction is taken by the same call; of its HTLCs, delay and base points it wants the
+    delay and two base points.
+    """
     for it in case["htlc_transactions"]:
         given = state(told, case, curve, transaction=it["unsigned_tx_no_witness"], htlcs=[])
         found = penalties_of(given, curve, trace)
         where = f"{case['name']}: second stage of {it['htlc']}"
         count.check(found[0]["kinds"] == ["to_local"] and found[0]["value"] == it["output_value_sat"], where)
         check_last_line(count, where, found, [0])
-        check_last_line(count, f"{where}, another delay", penalties_of({**given, "delay_blocks": 143}, curve, trace), others=[0])
+        check_last_line(
+            count, f"{where}, another delay", penalties_of({**given, "delay_blocks": 143}, curve, trace), others=[0]
+        )
 
 
 def check_changes(count, told, case, curve):
@@ -291,7 +437,10 @@ def check_changes(count, told, case, curve):
             rows.append(({"htlcs": left}, lambda it, number=number: it.get("htlc") == number))
     for changes, is_lost in rows:
         found = penalties.split_outputs(*state_and_table(state(told, case, curve, **changes), curve))
-        count.check(found[1] == [at for at, it in enumerate(outputs) if is_lost(it)], f"{case['name']}: {list(changes)}, {found[1]}")
+        count.check(
+            found[1] == [at for at, it in enumerate(outputs) if is_lost(it)],
+            f"{case['name']}: {list(changes)}, {found[1]}",
+        )
 
 
 def state_and_table(given, curve):
@@ -313,31 +462,51 @@ def check_deadlines(count, told, case, curve):
         ("to_local", {"height": 600, "confirmed_height": 600, "delay_blocks": 0}, 0),
     ]
     expiry = case["outputs"][at["offered"]]["cltv_expiry"]
-    rows += [("offered", {"height": expiry - 1}, 1), ("offered", {"height": expiry}, 0), ("offered", {"height": expiry + 9}, 0), ("received", {"height": 0}, 0), ("to_remote", {"height": 0}, None)]
+    rows += [
+        ("offered", {"height": expiry - 1}, 1),
+        ("offered", {"height": expiry}, 0),
+        ("offered", {"height": expiry + 9}, 0),
+        ("received", {"height": 0}, 0),
+        ("to_remote", {"height": 0}, None),
+    ]
     for kind, changes, wanted in rows:
         found, table = state_and_table(state(told, case, curve), curve)
         for name, value in changes.items():
             setattr(found, name, value)
         takes, _ = penalties.split_outputs(found, table)
-        count.check(penalties.deadline_of(takes[at[kind]].known, found) == wanted, f"{case['name']}: the deadline of {kind} with {changes}")
+        count.check(
+            penalties.deadline_of(takes[at[kind]].known, found) == wanted,
+            f"{case['name']}: the deadline of {kind} with {changes}",
+        )
 
 
 def check_legacy_key(count, told, case, curve, trace):
-    """Before static_remotekey the remote key is derived: the output to the derived key is taken, and the one to the base point is named."""
+    """Before static_remotekey the remote key is derived: the output to the derived key is taken, and the one to the
+    base point is named.
+    """
     base = curve.public_key(private_key("payment"))
     key = derivation.derived_key(curve, base, curve.public_key(bytes.fromhex(told["terms"]["per_commitment_secret"])))
     at = next(at for at, it in enumerate(case["outputs"]) if it["kind"] == "to_remote")
     before, after = ((b"\x00\x14" + hash160(it)).hex() for it in (base, key))
     given = state(told, case, curve)
     given["transaction"] = given["transaction"].replace(before, after)
-    count.check(penalties_of(given, curve, trace)[-1]["others"] == [at], f"{case['name']}: a derived remote key is not the base point")
+    count.check(
+        penalties_of(given, curve, trace)[-1]["others"] == [at],
+        f"{case['name']}: a derived remote key is not the base point",
+    )
     found = penalties_of(given, curve, trace, is_legacy=True)
-    count.check(found[-1]["others"] == [] and [it["kinds"] for it in found[:-1] if it["outputs"] == [at]] == [["to_remote"]], f"{case['name']}: a derived remote key")
+    count.check(
+        found[-1]["others"] == [] and [it["kinds"] for it in found[:-1] if it["outputs"] == [at]] == [["to_remote"]],
+        f"{case['name']}: a derived remote key",
+    )
 
 
 def with_anchors(told, case):
-    """The outputs of a case's commitment as BOLT 3 has them with `option_anchors`, by the appendix's own scripts: `1 CHECKSEQUENCEVERIFY DROP` stands before the last ENDIF of an HTLC's, and to_remote
-    is `KEY CHECKSIGVERIFY 1 CHECKSEQUENCEVERIFY`. The two anchors come first: `KEY CHECKSIG IFDUP NOTIF 16 CHECKSEQUENCEVERIFY ENDIF`, each with 330 satoshis."""
+    """The outputs of a case's commitment as BOLT 3 has them with `option_anchors`, by the appendix's own scripts: `1
+    CHECKSEQUENCEVERIFY DROP` stands before the last ENDIF of an HTLC's, and to_remote is `KEY CHECKSIGVERIFY 1
+    CHECKSEQUENCEVERIFY`. The two anchors come first: `KEY CHECKSIG IFDUP NOTIF 16 CHECKSEQUENCEVERIFY ENDIF`, each
+    with 330 satoshis.
+    """
     keys = told["terms"]["keys"]
     found = [("anchor", 330, f"21{keys[it]}ac736460b268", None) for it in FUNDING_KEYS]
     for it in case["outputs"]:
@@ -352,9 +521,16 @@ def with_anchors(told, case):
 
 def anchored_state(told, case, curve, outputs, **changes):
     """The state of a case's commitment with these outputs, in a channel with anchors."""
-    transaction = with_outputs(case, [(value, "0020" + sha256(bytes.fromhex(script)).hex()) for _, value, script, _ in outputs])
+    transaction = with_outputs(
+        case, [(value, "0020" + sha256(bytes.fromhex(script)).hex()) for _, value, script, _ in outputs]
+    )
     funding_keys = [told["terms"]["keys"][it] for it in FUNDING_KEYS]
-    return state(told, case, curve, **{"transaction": transaction, "channel_type": "anchors", "funding_keys": funding_keys, **changes})
+    return state(
+        told,
+        case,
+        curve,
+        **{"transaction": transaction, "channel_type": "anchors", "funding_keys": funding_keys, **changes},
+    )
 
 
 def places_of(outputs, *kinds):
@@ -362,7 +538,9 @@ def places_of(outputs, *kinds):
 
 
 def check_anchors(count, told, case, curve, trace):
-    """With anchors each HTLC and to_local is taken by the scripts of such a channel; to_remote and the anchors are named by what they are."""
+    """With anchors each HTLC and to_local is taken by the scripts of such a channel; to_remote and the anchors are
+    named by what they are.
+    """
     outputs = with_anchors(told, case)
     mine, rest = places_of(outputs, "to_local", "offered", "received"), places_of(outputs, "to_remote", "anchor")
     named = {"to_remote": places_of(outputs, "to_remote"), "anchor": [0, 1]}
@@ -374,8 +552,13 @@ def check_anchors(count, told, case, curve, trace):
         kind, value, script, _ = outputs[at]
         made = read_transaction(bytes.fromhex(it["transaction"]))
         between = "01" if kind == "to_local" else told["terms"]["keys"]["local_revocation_pubkey"]
-        count.check(it["outputs"] == [at] and it["kinds"] == [kind] and it["value"] == value, f"anchors: output {at}: {it}")
-        count.check([each.hex() for each in made.inputs[0].witness[1:]] == [between, script], f"anchors: output {at}: its witness")
+        count.check(
+            it["outputs"] == [at] and it["kinds"] == [kind] and it["value"] == value, f"anchors: output {at}: {it}"
+        )
+        count.check(
+            [each.hex() for each in made.inputs[0].witness[1:]] == [between, script],
+            f"anchors: output {at}: its witness",
+        )
         count.check((made.inputs[0].sequence, made.lock_time) == (0, 0), f"anchors: output {at}: its locks")
     together = penalties_of(given, curve, trace, is_one=True)
     count.check([it["outputs"] for it in together[:-1]] == [mine], f"anchors: together {together[:-1]}")
@@ -386,24 +569,55 @@ def check_anchors(count, told, case, curve, trace):
 def check_waits(count, told, case, curve, trace, outputs):
     """The owner's HTLC transactions wait for a block: both sides of that, before the expiry and after it."""
     mine = places_of(outputs, "to_local", "offered", "received")
-    for height, confirmed_height, least in ((501, None, 1), (501, 501, 0), (502, None, 1), (502, 502, 0), (503, 500, 0), (499, None, 1)):
+    for height, confirmed_height, least in (
+        (501, None, 1),
+        (501, 501, 0),
+        (502, None, 1),
+        (502, 502, 0),
+        (503, 500, 0),
+        (499, None, 1),
+    ):
         changes = {"height": height, **({} if confirmed_height is None else {"confirmed_height": confirmed_height})}
         found = penalties_of(anchored_state(told, case, curve, outputs, **changes), curve, trace)
         since = height + 1 if confirmed_height is None else confirmed_height
         wanted = []
         for at in dearest([it[1] for it in outputs], mine):
             kind, _, _, expiry = outputs[at]
-            wanted.append({"to_local": since + 143 - height, "received": least, "offered": max(least, (expiry or 0) - height)}[kind])
-        count.check([it["deadline_blocks"] for it in found[:-1]] == wanted, f"anchors at {height}, in {confirmed_height}: {[it['deadline_blocks'] for it in found[:-1]]}, and not {wanted}")
+            wanted.append(
+                {"to_local": since + 143 - height, "received": least, "offered": max(least, (expiry or 0) - height)}[
+                    kind
+                ]
+            )
+        count.check(
+            [it["deadline_blocks"] for it in found[:-1]] == wanted,
+            (
+                f"anchors at {height}, in {confirmed_height}: {[it['deadline_blocks'] for it in found[:-1]]}, and not"
+                f" {wanted}"
+            ),
+        )
 
 
 def check_other_type(count, told, case, curve, trace, outputs):
-    """A commitment that is told as of the other type: its HTLCs match nothing, and are named. So are anchors with another value, and without their keys."""
-    local, htlcs, rest = places_of(outputs, "to_local"), places_of(outputs, "offered", "received"), places_of(outputs, "to_remote", "anchor")
+    """A commitment that is told as of the other type: its HTLCs match nothing, and are named. So are anchors with
+    another value, and without their keys.
+    """
+    local, htlcs, rest = (
+        places_of(outputs, "to_local"),
+        places_of(outputs, "offered", "received"),
+        places_of(outputs, "to_remote", "anchor"),
+    )
     given = anchored_state(told, case, curve, outputs)
     plain = {name: it for name, it in given.items() if name not in ("channel_type", "funding_keys")}
-    check_last_line(count, "anchors, told as none", penalties_of(plain, curve, trace), local, others=sorted([*htlcs, *rest]))
-    check_last_line(count, "anchors, told as static_remotekey", penalties_of({**plain, "channel_type": "static_remotekey"}, curve, trace), local, others=sorted([*htlcs, *rest]))
+    check_last_line(
+        count, "anchors, told as none", penalties_of(plain, curve, trace), local, others=sorted([*htlcs, *rest])
+    )
+    check_last_line(
+        count,
+        "anchors, told as static_remotekey",
+        penalties_of({**plain, "channel_type": "static_remotekey"}, curve, trace),
+        local,
+        others=sorted([*htlcs, *rest]),
+    )
     own = state(told, case, curve, channel_type="anchors")
     kinds = [it["kind"] for it in case["outputs"]]
     check_last_line(
@@ -416,13 +630,29 @@ def check_other_type(count, told, case, curve, trace, outputs):
     )
     without = {name: it for name, it in given.items() if name != "funding_keys"}
     mine = sorted([*local, *htlcs])
-    check_last_line(count, "anchors without their keys", penalties_of(without, curve, trace), mine, others=rest, named={"to_remote": places_of(outputs, "to_remote")})
+    check_last_line(
+        count,
+        "anchors without their keys",
+        penalties_of(without, curve, trace),
+        mine,
+        others=rest,
+        named={"to_remote": places_of(outputs, "to_remote")},
+    )
     richer = [("anchor", 331, *outputs[0][2:]), *outputs[1:]]
     found = penalties.split_outputs(*anchored_state_and_table(anchored_state(told, case, curve, richer), curve))
     names = output_names(anchored_state(told, case, curve, richer), curve, found[1])
-    count.check(names == {"named": {"anchor": [1], "to_remote": places_of(outputs, "to_remote")}}, f"an anchor of 331 satoshis: {names}")
+    count.check(
+        names == {"named": {"anchor": [1], "to_remote": places_of(outputs, "to_remote")}},
+        f"an anchor of 331 satoshis: {names}",
+    )
     second = case["htlc_transactions"][0]
-    check_last_line(count, "anchors: a second stage", penalties_of({**given, "transaction": second["unsigned_tx_no_witness"]}, curve, trace), [0], named={})
+    check_last_line(
+        count,
+        "anchors: a second stage",
+        penalties_of({**given, "transaction": second["unsigned_tx_no_witness"]}, curve, trace),
+        [0],
+        named={},
+    )
 
 
 def keys_at(found, curve):
@@ -440,7 +670,9 @@ def output_names(given, curve, others):
 
 
 def check_added(count, told, case, curve, trace):
-    """What the owner of a channel with anchors adds to an HTLC transaction is named, and nothing is left; and not where its own output matches nothing."""
+    """What the owner of a channel with anchors adds to an HTLC transaction is named, and nothing is left; and not
+    where its own output matches nothing.
+    """
     outputs = with_anchors(told, case)
     second = read_transaction(bytes.fromhex(case["htlc_transactions"][0]["unsigned_tx_no_witness"]), marked=False)
     second.inputs.append(Input(bytes(31) + b"\x07" + bytes(4), b"", 0))
@@ -452,7 +684,10 @@ def check_added(count, told, case, curve, trace):
     for changes in ({"delay_blocks": 143}, {"channel_type": "static_remotekey"}):
         others = [1] if "channel_type" in changes else [0, 1]
         found = penalties_of({**given, **changes}, curve, trace)
-        count.check((found[-1]["others"], found[-1].get("named", {})) == (others, {}) and penalties.is_left(found[-1]), f"anchors: an HTLC transaction with {changes}: {found[-1]}")
+        count.check(
+            (found[-1]["others"], found[-1].get("named", {})) == (others, {}) and penalties.is_left(found[-1]),
+            f"anchors: an HTLC transaction with {changes}: {found[-1]}",
+        )
 
 
 def check_spent(count, told, case, curve, trace):
@@ -465,17 +700,31 @@ def check_spent(count, told, case, curve, trace):
             wanted = {"taken": left, "too_little": [], "no_key": [], "others": [], "spent": sorted(gone)}
             last = {name: it for name, it in found[-1].items() if name != "transaction"}
             count.check(last == wanted and not penalties.is_left(last), f"spent {gone}: {last}")
-            count.check(sorted(at for it in found[:-1] for at in it["outputs"]) == left, f"spent {gone}: {[it['outputs'] for it in found[:-1]]}")
+            count.check(
+                sorted(at for it in found[:-1] for at in it["outputs"]) == left,
+                f"spent {gone}: {[it['outputs'] for it in found[:-1]]}",
+            )
     for bad, place in (([len(every)], 0), ([-1], 0), ([0, 0], 1), ([True], 0), (["0"], 0), ([0.0], 0)):
-        refuses(count, f"BadShape state.spent[{place}]", lambda it=bad: penalties.read_state(json.dumps({**given, "spent": it})))
+        refuses(
+            count,
+            f"BadShape state.spent[{place}]",
+            lambda it=bad: penalties.read_state(json.dumps({**given, "spent": it})),
+        )
 
 
 def check_keys(count, told, case, curve, trace):
-    """A key of neither base point is told, and what the others take is taken all the same; where none is of one, the first is refused."""
+    """A key of neither base point is told, and what the others take is taken all the same; where none is of one, the
+    first is refused.
+    """
     given, keys = state(told, case, curve), [private_key("revocation"), b"\x07" * 32, private_key("payment")]
     found = penalties_of(given, curve, trace, keys)
     last = found.pop()
-    count.check(last.pop("unused_keys", None) == [1] and penalties.is_left({**last, "unused_keys": [1]}) and not penalties.is_left(last), f"a key that is not used: {last}")
+    count.check(
+        last.pop("unused_keys", None) == [1]
+        and penalties.is_left({**last, "unused_keys": [1]})
+        and not penalties.is_left(last),
+        f"a key that is not used: {last}",
+    )
     check_last_line(count, "a key that is not used", [*found, last], range(len(case["outputs"])))
     refuses(count, "UnusedKey 0", lambda: penalties_of(given, curve, trace, keys[1:2]))
 
@@ -483,12 +732,29 @@ def check_keys(count, told, case, curve, trace):
 def check_feerates(count, told, case, curve):
     """The limit of a feerate, and one that the state sets, each on both sides."""
     given = state(told, case, curve)
-    for changes, most in (({}, 250_000), ({"most_feerate_per_kw": 300}, 300), ({"most_feerate_per_kw": 10_000_000}, 10_000_000)):
-        count.check(penalties.read_state(json.dumps({**given, **changes, "feerate_per_kw": most})).feerate_per_kw == most, f"a feerate of {most}")
+    for changes, most in (
+        ({}, 250_000),
+        ({"most_feerate_per_kw": 300}, 300),
+        ({"most_feerate_per_kw": 10_000_000}, 10_000_000),
+    ):
+        count.check(
+            penalties.read_state(json.dumps({**given, **changes, "feerate_per_kw": most})).feerate_per_kw == most,
+            f"a feerate of {most}",
+        )
         if most < 10_000_000:
-            refuses(count, f"TooHighFeerate {most}", lambda it=changes, most=most: penalties.read_state(json.dumps({**given, **it, "feerate_per_kw": most + 1})))
+            refuses(
+                count,
+                f"TooHighFeerate {most}",
+                lambda it=changes, most=most: penalties.read_state(
+                    json.dumps({**given, **it, "feerate_per_kw": most + 1})
+                ),
+            )
     for name in ("feerate_per_kw", "most_feerate_per_kw"):
-        refuses(count, f"BadShape state.{name}", lambda it=name: penalties.read_state(json.dumps({**given, it: 10_000_001})))
+        refuses(
+            count,
+            f"BadShape state.{name}",
+            lambda it=name: penalties.read_state(json.dumps({**given, it: 10_000_001})),
+        )
 
 
 def notes_of(given, curve, trace):
@@ -519,7 +785,11 @@ def check_notes(count, told, case, curve, trace):
         ("nodes pass on no transaction below", {**good, "feerate_per_kw": 252}, True),
         ("the fee is above a tenth of the value: of outputs 0", only_local(10 * fee - 1, feerate_per_kw=1_000), True),
         ("the fee is above a tenth", only_local(10 * fee, feerate_per_kw=1_000), False),
-        ("at this feerate too little is left to be passed on: of outputs 0", only_local(fee + 293, feerate_per_kw=1_000), True),
+        (
+            "at this feerate too little is left to be passed on: of outputs 0",
+            only_local(fee + 293, feerate_per_kw=1_000),
+            True,
+        ),
         ("at this feerate too little", only_local(293), False),
         ("of 25 transactions nodes are sure to take 24", many(25), True),
         ("of 25 transactions nodes are sure to take 24", {**many(25), "confirmed_height": HEIGHT}, False),
@@ -547,7 +817,11 @@ def check_refusals(count, told, case, curve, trace):
         ("BadSecret", {**good, "secret": "00" * 32}, None),
         ("BadShape state.bases.htlc", {**good, "bases": {**good["bases"], "htlc": "05" * 33}}, None),
         ("BadShape state.delay_blocks", {**good, "delay_blocks": 65536}, None),
-        ("BadShape state.htlcs[0].expiry_height", {**good, "htlcs": [{**htlc(told, 0), "expiry_height": 500_000_000}]}, None),
+        (
+            "BadShape state.htlcs[0].expiry_height",
+            {**good, "htlcs": [{**htlc(told, 0), "expiry_height": 500_000_000}]},
+            None,
+        ),
         ("BadShape state.htlcs[0].direction", {**good, "htlcs": [{**htlc(told, 0), "direction": "sent"}]}, None),
         ("BadShape state.htlcs[0].amount", {**good, "htlcs": [{**htlc(told, 0), "amount": 1}]}, None),
         ("BadShape state.bases.owner_payment", {**good, "bases": {**good["bases"], "owner_payment": "02" * 33}}, None),
@@ -555,7 +829,11 @@ def check_refusals(count, told, case, curve, trace):
         ("BadShape state.?", {**good, "height\n": HEIGHT}, None),
         ("BadShape state.?", {**good, "\ud800": HEIGHT}, None),
         ("BadShape state.confirmed_height", {**good, "confirmed_height": HEIGHT + 1}, None),
-        ("BadShape state.confirmed_height", {name: it for name, it in good.items() if name != "confirmed_height"}, None),
+        (
+            "BadShape state.confirmed_height",
+            {name: it for name, it in good.items() if name != "confirmed_height"},
+            None,
+        ),
         ("BadShape state.channel_type", {**good, "channel_type": "anchor"}, None),
         ("BadShape state.channel_type", {**good, "channel_type": 22}, None),
         ("BadShape state.funding_keys", {**good, "funding_keys": ["02" * 33]}, None),
@@ -566,7 +844,11 @@ def check_refusals(count, told, case, curve, trace):
     ]
     for name, given, privates in rows:
         refuses(count, name, lambda given=given, privates=privates: penalties_of(given, curve, trace, privates))
-    refuses(count, "BadShape state.channel_type", lambda: penalties_of({**good, "channel_type": "anchors"}, curve, trace, is_legacy=True))
+    refuses(
+        count,
+        "BadShape state.channel_type",
+        lambda: penalties_of({**good, "channel_type": "anchors"}, curve, trace, is_legacy=True),
+    )
 
 
 def all_of(count, curve, trace):

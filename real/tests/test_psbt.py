@@ -1,4 +1,6 @@
-"""Tests of partially signed transactions: each HTLC transaction of BOLT 3's Appendix C is made, signed and finished, and faults are refused. Tested, not proved."""
+"""Tests of partially signed transactions: each HTLC transaction of BOLT 3's Appendix C is made, signed and finished,
+and faults are refused. Tested, not proved.
+"""
 import json
 
 from real.lib import assembly, judgement, psbt, scripts
@@ -14,7 +16,9 @@ ORDER = int("fffffffffffffffffffffffffffffffebaaedce6af48a03bbfd25e8cd0364141", 
 
 
 def spend_again(count, curve, trace):
-    """Each HTLC transaction of the appendix from its plan: made, signed by both keys, finished. The signatures are those of the appendix."""
+    """Each HTLC transaction of the appendix from its plan: made, signed by both keys, finished. The signatures are
+    those of the appendix.
+    """
     told = bolt3.read()
     privates = [bytes.fromhex(told["terms"]["keys"][it]) for it in ("local_htlc_privkey", "remote_htlc_privkey")]
     wanted = {name: (transaction.bytes(), spent) for name, transaction, spent, _, _ in bolt3.htlc_transactions(told)}
@@ -27,40 +31,68 @@ def spend_again(count, curve, trace):
             finished = assembly.finish(read_plan(plan), psbt.read(psbt.decoded_bytes(signed.encode())), curve)
             raw, spent = wanted[f"{case['name']}: HTLC {it['htlc']}"]
             count.check(finished.bytes() == raw, f"{case['name']}: HTLC {it['htlc']}, signed anew")
-            count.check(judgement.judge(finished, [spent], curve, trace)[0]["answer"] == "clean", f"{case['name']}: HTLC {it['htlc']}, judged")
+            count.check(
+                judgement.judge(finished, [spent], curve, trace)[0]["answer"] == "clean",
+                f"{case['name']}: HTLC {it['htlc']}, judged",
+            )
             refuse_faults(count, plan, signed, privates, curve)
             finish_final_witness(count, plan, finished.inputs[0].witness, curve)
             tell_preimage(count, told, it, made)
 
 
 def spend_key_hashes(count, privates, curve, trace):
-    """An output to the hash of a key and one to a script, whose keys are in the witness and in the script, in one transaction."""
+    """An output to the hash of a key and one to a script, whose keys are in the witness and in the script, in one
+    transaction.
+    """
     keys = [curve.public_key(it) for it in privates]
     program, script = b"\x00\x14" + hash160(keys[0]), push_of(keys[1]) + b"\xac"
     spent = [Output(7_000, program), Output(8_000, b"\x00\x20" + sha256(script))]
-    transaction = Transaction(2, [Input(bytes([5 + it]) * 36, b"", 7) for it in range(2)], [Output(14_000, program)], 0)
+    transaction = Transaction(
+        2, [Input(bytes([5 + it]) * 36, b"", 7) for it in range(2)], [Output(14_000, program)], 0
+    )
     inputs = []
-    for index, (output, code, items) in enumerate(zip(spent, (scripts.key_script(program), script), ([None, keys[0].hex()], [None, script.hex()]))):
+    for index, (output, code, items) in enumerate(
+        zip(spent, (scripts.key_script(program), script), ([None, keys[0].hex()], [None, script.hex()]))
+    ):
         wanted = {"item": 0, "key": keys[index].hex(), "digest": transaction.digest(index, code, output.value).hex()}
-        inputs.append({"value": output.value, "program": output.program.hex(), "script": code.hex(), "witness": items, "signatures": [wanted]})
+        inputs.append(
+            {
+                "value": output.value,
+                "program": output.program.hex(),
+                "script": code.hex(),
+                "witness": items,
+                "signatures": [wanted],
+            }
+        )
     plan = json.dumps({"transaction": transaction.stripped_bytes().hex(), "inputs": inputs})
     made = assembly.make(read_plan(plan))
-    count.check([psbt.key_of(psbt.WITNESS_SCRIPT) in it for it in made.inputs] == [False, True], "a witness script where there is one")
+    count.check(
+        [psbt.key_of(psbt.WITNESS_SCRIPT) in it for it in made.inputs] == [False, True],
+        "a witness script where there is one",
+    )
     signed = sign(made, privates, curve)
-    count.check([len(psbt.with_kind(it, psbt.PARTIAL_SIG)) for it in signed.inputs] == [1, 1], "a signature for each input's own key")
+    count.check(
+        [len(psbt.with_kind(it, psbt.PARTIAL_SIG)) for it in signed.inputs] == [1, 1],
+        "a signature for each input's own key",
+    )
     found = judgement.judge(assembly.finish(read_plan(plan), signed, curve), spent, curve, trace)
     count.check([it["answer"] for it in found] == ["clean", "clean"], f"the hash of a key, and a script: {found}")
 
 
 def spend_request(count, curve, trace):
-    """What the program `spend` makes is signed by the peer's key, finished and judged: an HTLC by its preimage, and one after its timeout."""
+    """What the program `spend` makes is signed by the peer's key, finished and judged: an HTLC by its preimage, and
+    one after its timeout.
+    """
     told = bolt3.read()
     plan, _ = spend_requests.spend_answer(spend_requests.line(next(spend_requests.requests(told))[0]))
     signed = sign(assembly.make(read_plan(plan)), [bytes.fromhex(told["terms"]["keys"]["remote_htlc_privkey"])], curve)
     finished = assembly.finish(read_plan(plan), signed, curve)
     spent = [it.output for it in read_plan(plan).inputs]
     found = judgement.judge(finished, spent, curve, trace)
-    count.check([(it["answer"], it.get("path")) for it in found] == [("clean", 2), ("clean", 2)], f"a spend of {len(spent)} outputs: {found}")
+    count.check(
+        [(it["answer"], it.get("path")) for it in found] == [("clean", 2), ("clean", 2)],
+        f"a spend of {len(spent)} outputs: {found}",
+    )
     weight = 3 * len(finished.stripped_bytes()) + len(finished.bytes())
     count.check(weight <= json.loads(plan)["weight"] < weight + 8, f"a weight of {weight}")
 
@@ -75,13 +107,23 @@ def finish_final_witness(count, plan, witness, curve):
         found = assembly.make(read_plan(plan))
         found.inputs[0][psbt.key_of(psbt.FINAL_SCRIPTWITNESS)] = compact_size(len(items)) + b"".join(map(text, items))
         if holds:
-            count.check(assembly.finish(read_plan(plan), found, curve).inputs[0].witness == witness, "a final witness in another order")
+            count.check(
+                assembly.finish(read_plan(plan), found, curve).inputs[0].witness == witness,
+                "a final witness in another order",
+            )
         else:
-            count.check(is_refused_as("MissingSignature 0", lambda found=found: assembly.finish(read_plan(plan), found, curve)), "a final witness without a signature")
+            count.check(
+                is_refused_as(
+                    "MissingSignature 0", lambda found=found: assembly.finish(read_plan(plan), found, curve)
+                ),
+                "a final witness without a signature",
+            )
 
 
 def tell_preimage(count, told, htlc, made):
-    """The preimage of an HTLC-success transaction stands beside the hash that the script has: RIPEMD-160 of the payment hash."""
+    """The preimage of an HTLC-success transaction stands beside the hash that the script has: RIPEMD-160 of the
+    payment hash.
+    """
     found = psbt.with_kind(psbt.read(psbt.decoded_bytes(made.encode())).inputs[0], psbt.HASH160)
     payment = next(it for it in told["htlcs"] if it["id"] == htlc["htlc"])
     pair = {ripemd160(bytes.fromhex(payment["payment_hash"])): bytes.fromhex(payment["preimage"])}
@@ -114,15 +156,28 @@ def with_high_s(signature):
 
 
 def refuse_faults(count, plan, signed, privates, curve):
-    """Signatures that are missing, changed, of another hash type, or for a key that nobody asked for are refused by name."""
+    """Signatures that are missing, changed, of another hash type, or for a key that nobody asked for are refused by
+    name.
+    """
     other = {**json.loads(plan)}
     other["transaction"] = other["transaction"][:-8] + "07000000"
     tried = [
         ("MissingSignature 0", lambda: assembly.finish(read_plan(plan), assembly.make(read_plan(plan)), curve)),
-        ("BadSignature 0", lambda: assembly.finish(read_plan(plan), with_signatures(signed, lambda it: it[:-1]), curve)),
-        ("BadSignature 0", lambda: assembly.finish(read_plan(plan), with_signatures(signed, lambda it: it[:-2] + bytes([it[-2] ^ 1]) + it[-1:]), curve)),
+        (
+            "BadSignature 0",
+            lambda: assembly.finish(read_plan(plan), with_signatures(signed, lambda it: it[:-1]), curve),
+        ),
+        (
+            "BadSignature 0",
+            lambda: assembly.finish(
+                read_plan(plan), with_signatures(signed, lambda it: it[:-2] + bytes([it[-2] ^ 1]) + it[-1:]), curve
+            ),
+        ),
         ("HighS 0", lambda: assembly.finish(read_plan(plan), with_signatures(signed, with_high_s), curve)),
-        ("HashType 0", lambda: assembly.finish(read_plan(plan), with_signatures(signed, lambda it: it[:-1] + b"\x83"), curve)),
+        (
+            "HashType 0",
+            lambda: assembly.finish(read_plan(plan), with_signatures(signed, lambda it: it[:-1] + b"\x83"), curve),
+        ),
         ("OtherDigest 0", lambda: read_plan(json.dumps(other))),
         ("BadKey 0", lambda: sign(assembly.make(read_plan(plan)), [bytes(32), *privates], curve)),
         ("UnusedKey 2", lambda: sign(assembly.make(read_plan(plan)), [*privates, b"\x07" * 32], curve)),

@@ -1,9 +1,12 @@
-"""Tests of what is told of a whole transaction, on both sides of each limit, worked by hand from BIP 141 and from what Bitcoin calls a transaction. Tested, not proved."""
+"""Tests of what is told of a whole transaction, on both sides of each limit, worked by hand from BIP 141 and from what
+Bitcoin calls a transaction. Tested, not proved.
+"""
 from real.lib import judge_text, summary
 from real.lib.transaction import MAX_MONEY, Input, Output, Transaction, hash160, sha256
 
 KEY_HASH = b"\x00\x14" + hash160(b"a key")
-# 10,000 and 1 checks of one signature; a check of many is one of 20 keys in an output, and of as many as the number before it in a witness script
+# 10,000 and 1 checks of one signature; a check of many is one of 20 keys in an output, and of as many as the number
+# before it in a witness script
 CHECKS, CHECK, CHECK_MANY = b"\xac" * 10_000, b"\xac", b"\x52\xae"
 CUT, PUSHED, LONG_PUSHED = b"\x05\xac\xac", b"\x4c\x02\xac\xac", b"\x4d\x02\x00\xac\xac\xae"
 
@@ -25,7 +28,9 @@ def of_weight(weight):
     """A transaction of this weight: its outputs' programs have the bytes that are missing, and its witness the units."""
     plain = transaction([(1, bytes(9_999))] * 99 + [(1, bytes(1_000))])
     missing = weight - 3 * len(plain.stripped_bytes()) - len(plain.bytes())
-    return transaction([(1, bytes(9_999))] * 99 + [(1, bytes(1_000 + missing // 4))], (b"\x51" + b"\x07" * (missing % 4),))
+    return transaction(
+        [(1, bytes(9_999))] * 99 + [(1, bytes(1_000 + missing // 4))], (b"\x51" + b"\x07" * (missing % 4),)
+    )
 
 
 def faults(it, spent):
@@ -59,7 +64,11 @@ def check_sums(count):
 
 
 def check_outpoints(count):
-    for outpoint, wanted in ((bytes(32) + b"\xff" * 4, ["NoOutpoint"]), (bytes(36), []), (b"\x01" + bytes(31) + b"\xff" * 4, [])):
+    for outpoint, wanted in (
+        (bytes(32) + b"\xff" * 4, ["NoOutpoint"]),
+        (bytes(36), []),
+        (b"\x01" + bytes(31) + b"\xff" * 4, []),
+    ):
         it = transaction([(5, b"")])
         it.inputs[0].outpoint = outpoint
         count.check(faults(it, spent_outputs(it)) == wanted, f"faults of the outpoint {outpoint.hex()}")
@@ -83,7 +92,9 @@ def check_locks(count):
         it.lock_time = lock_time
         for each, sequence in zip(it.inputs, sequences):
             each.sequence = sequence
-        count.check(summary.summary_of(it, spent_outputs(it))["lock"] == wanted, f"a lock time of {lock_time} with {sequences}")
+        count.check(
+            summary.summary_of(it, spent_outputs(it))["lock"] == wanted, f"a lock time of {lock_time} with {sequences}"
+        )
     told = judge_text.page({**summary.summary_of(transaction([(5, b"")]), [None]), "lock": {"above_time": 9}})
     count.check(told.endswith("  when    once the median time past is above 9, in seconds since 1970\n"), told)
 
@@ -100,10 +111,16 @@ def check_sigops(count):
         ([], b"", PUSHED + b"\x4e\x01\x00\x00\x00\xac" + CHECK + b"\x4d\x01", 1),
     ):
         it = transaction([(1, each) for each in outputs], (CHECK, witness), script=script)
-        count.check(summary.cost(it, spent_outputs(it)) == wanted, f"the cost of {[it.hex() for it in outputs]}, {script.hex()} and {witness.hex()}")
+        count.check(
+            summary.cost(it, spent_outputs(it)) == wanted,
+            f"the cost of {[it.hex() for it in outputs]}, {script.hex()} and {witness.hex()}",
+        )
     it = transaction([(1, CHECK)], (b"", CHECKS))
     count.check(summary.cost(it, [Output(5, KEY_HASH)]) == 5, "the cost of the hash of a key")
-    count.check([summary.cost(it, [each]) for each in (None, Output(5, b"\x51"))] == [4, 4], "the cost of what is not known, and of another kind")
+    count.check(
+        [summary.cost(it, [each]) for each in (None, Output(5, b"\x51"))] == [4, 4],
+        "the cost of what is not known, and of another kind",
+    )
     for more, wanted in (([], []), ([(1, CHECK)], ["TooManySigops"])):
         it = transaction([(1, CHECKS), (1, CHECKS), *more])
         count.check(faults(it, spent_outputs(it)) == wanted, "faults of signature checks")

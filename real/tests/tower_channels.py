@@ -1,4 +1,6 @@
-"""Compares what real/revoked answers with what Electrum makes of the same outputs. Tested, not proved. Wants Debian's python3-electrum."""
+"""Compares what real/revoked answers with what Electrum makes of the same outputs. Tested, not proved. Wants Debian's
+python3-electrum.
+"""
 import dataclasses
 import hashlib
 import json
@@ -60,8 +62,13 @@ class Tally:
         self.little += sum(it["answer"] == TOO_LITTLE for it in answers)
 
     def report(self):
-        outputs = f"{self.outputs} outputs ({self.second} of HTLC transactions, {self.little} too little to be passed on)"
-        print(f"towers: {self.channels} channels, {outputs}, {self.changes} changes by which {self.named} outputs no longer match, {self.differ} differ")
+        outputs = (
+            f"{self.outputs} outputs ({self.second} of HTLC transactions, {self.little} too little to be passed on)"
+        )
+        print(
+            f"towers: {self.channels} channels, {outputs}, {self.changes} changes by which {self.named} outputs no"
+            f" longer match, {self.differ} differ"
+        )
         return int(self.differ > 0)
 
 
@@ -72,7 +79,14 @@ def state_of(channel, raw):
         "transaction": raw,
         "secret": channel.secret.hex(),
         "delay_blocks": channel.delay_blocks,
-        "htlcs": [{"direction": "received" if it.is_received else "offered", "hash": it.payment_hash.hex(), "expiry_height": it.expiry_height} for it in channel.htlcs],
+        "htlcs": [
+            {
+                "direction": "received" if it.is_received else "offered",
+                "hash": it.payment_hash.hex(),
+                "expiry_height": it.expiry_height,
+            }
+            for it in channel.htlcs
+        ],
         "bases": {name: channels.public_key(it).hex() for name, it in channel.privates.items()},
         "destination": DESTINATION.hex(),
         "feerate_per_kw": FEERATES_PER_KW[channel.number % len(FEERATES_PER_KW)],
@@ -89,7 +103,14 @@ def by_program(channel, raw):
     """What the program answers, with its status."""
     lines = [json.dumps(state_of(channel, raw)), *(it.hex() for it in private_keys_of(channel))]
     words = [REVOKED, *(["--legacy"] if channel.is_legacy else [])]
-    ran = subprocess.run(words, input="".join(f"{it}\n" for it in lines), stdout=subprocess.PIPE, stderr=subprocess.PIPE, text=True, timeout=SECONDS)
+    ran = subprocess.run(
+        words,
+        input="".join(f"{it}\n" for it in lines),
+        stdout=subprocess.PIPE,
+        stderr=subprocess.PIPE,
+        text=True,
+        timeout=SECONDS,
+    )
     if ran.returncode not in (0, LEFT):
         raise NotRun(ran.stderr.strip().removeprefix("real: not run: "))
     return [json.loads(it) for it in ran.stdout.splitlines()], ran.returncode
@@ -112,7 +133,9 @@ def is_signed(made, output, known, signature):
     else:
         spent.script_type, spent.witness_script = "p2wsh", known.last
     digest = sha256d(bytes.fromhex(found.serialize_preimage(0)))
-    return signature[-1:] == b"\x01" and ecc.ECPubkey(known.key).verify_message_hash(ecc.sig_string_from_der_sig(signature[:-1]), digest)
+    return signature[-1:] == b"\x01" and ecc.ECPubkey(known.key).verify_message_hash(
+        ecc.sig_string_from_der_sig(signature[:-1]), digest
+    )
 
 
 def items_of(known):
@@ -129,7 +152,11 @@ def faults_of(answer, transaction, at, known):
     """What an answer has otherwise than Electrum has of the output that stands there."""
     output = transaction.outputs()[at]
     left_sat = output.value - answer["fee"]
-    faults = {"outputs": answer["outputs"] != [at], "kinds": answer["kinds"] != [known.kind], "value": answer["value"] != output.value}
+    faults = {
+        "outputs": answer["outputs"] != [at],
+        "kinds": answer["kinds"] != [known.kind],
+        "value": answer["value"] != output.value,
+    }
     faults["answer"] = answer["answer"] != (TOO_LITTLE if left_sat < DUST_SAT else "taken")
     if answer["answer"] == "taken":
         faults["deadline_blocks"] = answer["deadline_blocks"] != deadline_of(known)
@@ -145,14 +172,22 @@ def faults_of(answer, transaction, at, known):
 
 
 def compare(tally, name, known, transaction, answered):
-    """Each output whose program Electrum knows is taken as Electrum has it, and each other one is named. The answers, and the outputs that are named."""
+    """Each output whose program Electrum knows is taken as Electrum has it, and each other one is named. The answers,
+    and the outputs that are named.
+    """
     (*answers, last), status = answered
     outputs = transaction.outputs()
     own = [at for at, it in enumerate(outputs) if it.scriptpubkey in known]
     others = [at for at, it in enumerate(outputs) if it.scriptpubkey not in known]
     dearest = sorted(own, key=lambda it: -outputs[it].value)
     little = sorted(at for at, it in zip(dearest, answers) if outputs[at].value - it["fee"] < DUST_SAT)
-    wanted = {"transaction": transaction.txid(), "taken": [at for at in own if at not in little], "too_little": little, "no_key": [], "others": others}
+    wanted = {
+        "transaction": transaction.txid(),
+        "taken": [at for at in own if at not in little],
+        "too_little": little,
+        "no_key": [],
+        "others": others,
+    }
     tally.check(last == wanted, f"{name}: {last}, and not {wanted}")
     tally.check(status == (LEFT if others else 0), f"{name}: status {status}")
     tally.check(len(answers) == len(own), f"{name}: {len(answers)} answers")
@@ -188,7 +223,13 @@ def check_itself(tally, answered, transaction, known):
         tally.check(found == [name], f"the comparison itself: {found}, and not {name}")
     wrong = {**last, "taken": last["taken"][1:], "others": last["taken"][:1]}
     little = {**last, "taken": last["taken"][1:], "too_little": [*last["taken"][:1], *last["too_little"]]}
-    rows = (([*answers[1:], last], status), ([*answers, last], LEFT - status), ([*answers, wrong], status), ([*answers, little], status), ([*answers[::-1], last], status))
+    rows = (
+        ([*answers[1:], last], status),
+        ([*answers, last], LEFT - status),
+        ([*answers, wrong], status),
+        ([*answers, little], status),
+        ([*answers[::-1], last], status),
+    )
     for it in rows:
         quiet = Tally(is_quiet=True)
         compare(quiet, "", known, transaction, it)
@@ -200,7 +241,9 @@ def other_bytes(channel, name):
 
 
 def changed_parts(channel):
-    """The channel with one base point, the delay or the secret changed. The private key of a base point is changed with it."""
+    """The channel with one base point, the delay or the secret changed. The private key of a base point is changed
+    with it.
+    """
     for name in channels.BASES:
         yield name, dataclasses.replace(channel, privates={**channel.privates, name: other_bytes(channel, name)})
     yield "delay", dataclasses.replace(channel, delay_blocks=(channel.delay_blocks + 1) % 65_536)
@@ -225,9 +268,17 @@ def changed_htlc(channel):
 
 
 def watch_changes(tally, name, channel, transaction, raw, curve, trace):
-    """With one part changed: what of the transaction still has a program that Electrum makes of the rest is taken, and what has none is named."""
+    """With one part changed: what of the transaction still has a program that Electrum makes of the rest is taken, and
+    what has none is named.
+    """
     for part, changed in (*changed_parts(channel), *changed_htlc(channel)):
-        _, others = compare(tally, f"{name}, another {part}", channels.outputs_by_program(changed), transaction, by_call(changed, raw, curve, trace))
+        _, others = compare(
+            tally,
+            f"{name}, another {part}",
+            channels.outputs_by_program(changed),
+            transaction,
+            by_call(changed, raw, curve, trace),
+        )
         tally.changes, tally.named = tally.changes + 1, tally.named + len(others)
         tally.seen |= {part} if others else set()
 
@@ -240,14 +291,25 @@ def hex_of(transaction, number):
 def check_number(tally, name, channel, raw):
     """The number that the commitment has is the channel's."""
     opener, other = channels.payment_bases(channel)
-    found = commitment_number.commitment_numbers(json.dumps({"transaction": raw, "opener_payment": opener.hex(), "other_payment": other.hex()}))
-    tally.check(found["commitment_number"] == channel.commitment_number, f"{name}: commitment number {found['commitment_number']}")
+    found = commitment_number.commitment_numbers(
+        json.dumps({"transaction": raw, "opener_payment": opener.hex(), "other_payment": other.hex()})
+    )
+    tally.check(
+        found["commitment_number"] == channel.commitment_number,
+        f"{name}: commitment number {found['commitment_number']}",
+    )
 
 
 def watch(tally, number, curve, trace):
-    """All that is asked of one channel: its commitment by the program, and with each part changed; its number; each of its HTLC transactions, and the first with each part changed."""
+    """All that is asked of one channel: its commitment by the program, and with each part changed; its number; each of
+    its HTLC transactions, and the first with each part changed.
+    """
     channel = channels.drawn_channel(number)
-    commitment, known, name = channels.commitment_of(channel), channels.outputs_by_program(channel), f"channel {number}"
+    commitment, known, name = (
+        channels.commitment_of(channel),
+        channels.outputs_by_program(channel),
+        f"channel {number}",
+    )
     raw = hex_of(commitment, number)
     tally.channels += 1
     answered = by_program(channel, raw)
@@ -261,7 +323,9 @@ def watch(tally, number, curve, trace):
     for place, it in enumerate(channel.untrimmed_htlcs()):
         second, where = channels.second_stage_of(channel, commitment, it), f"{name}, HTLC transaction {place}"
         raw = hex_of(second, number)
-        answers, others = compare(tally, where, known, second, by_call(channel, raw, curve, trace) if place else by_program(channel, raw))
+        answers, others = compare(
+            tally, where, known, second, by_call(channel, raw, curve, trace) if place else by_program(channel, raw)
+        )
         tally.check(not others, f"{where}: Electrum does not know its output")
         tally.add(answers, True)
         if place == 0:

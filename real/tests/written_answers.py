@@ -1,7 +1,10 @@
-"""Compares what is said of Electrum's transactions with the answers that were written down beforehand (tests/written.jsonl). Tested, not proved.
+"""Compares what is said of Electrum's transactions with the answers that were written down beforehand
+(tests/written.jsonl). Tested, not proved.
 
-A row has a transaction of its own (`text`, or `psbt` with its form), or it has that of another row (`of`) with an edit. Its answer is a refusal, or the fee, the faults and an
-answer for each input; `null` there is that of the other row. Places in an answer are told in written_ways.py."""
+A row has a transaction of its own (`text`, or `psbt` with its form), or it has that of another row (`of`) with an
+edit. Its answer is a refusal, or the fee, the faults and an answer for each input; `null` there is that of the other
+row. Places in an answer are told in written_ways.py.
+"""
 import base64
 import json
 from unittest import mock
@@ -11,22 +14,47 @@ from real.lib.errors import Refused
 from real.lib.transaction import Output, hash160, read_transaction
 
 STOPPED = {
-    0x63: "IF", 0x64: "NOTIF", 0x67: "ELSE", 0x68: "ENDIF", 0x75: "DROP", 0x76: "DUP", 0x7C: "SWAP", 0x82: "SIZE", 0x87: "EQUAL", 0x88: "EQUALVERIFY",
-    0xA9: "HASH160", 0xAC: "CHECKSIG", 0xAE: "CHECKMULTISIG", 0xB1: "CHECKLOCKTIMEVERIFY", 0xB2: "CHECKSEQUENCEVERIFY",
+    0x63: "IF",
+    0x64: "NOTIF",
+    0x67: "ELSE",
+    0x68: "ENDIF",
+    0x75: "DROP",
+    0x76: "DUP",
+    0x7C: "SWAP",
+    0x82: "SIZE",
+    0x87: "EQUAL",
+    0x88: "EQUALVERIFY",
+    0xA9: "HASH160",
+    0xAC: "CHECKSIG",
+    0xAE: "CHECKMULTISIG",
+    0xB1: "CHECKLOCKTIMEVERIFY",
+    0xB2: "CHECKSEQUENCEVERIFY",
 }
 
 
 # changes of the judge's Python, each with rows for which it must say something else than what is wanted
 PLANTS = (
-    ("no token is refused", (judgement, "refuse_tokens", lambda transaction: None), ("forged token: the right one", "forged token: in another place")),
-    ("any item is in strict DER", (signatures, "is_strict_der", lambda item: len(item) > 9), ("signature: a negative s", "signature: a zero before r")),
+    (
+        "no token is refused",
+        (judgement, "refuse_tokens", lambda transaction: None),
+        ("forged token: the right one", "forged token: in another place"),
+    ),
+    (
+        "any item is in strict DER",
+        (signatures, "is_strict_der", lambda item: len(item) > 9),
+        ("signature: a negative s", "signature: a zero before r"),
+    ),
     ("each s is low", (consensus.Spend, "has_low_s", lambda spend, signature: True), ("signature: a high s",)),
     (
         "no fact measures a signature",
         (judgement, "is_measured", lambda way, slot, signed: False),
         ("measured signature: its hash", "measured signature: its bytes", "measured signature: on another path"),
     ),
-    ("an item of no key is a signature anywhere", (judgement, "all", lambda found: True), ("a preimage in the form of a signature, offered",)),
+    (
+        "an item of no key is a signature anywhere",
+        (judgement, "all", lambda found: True),
+        ("a preimage in the form of a signature, offered",),
+    ),
 )
 
 
@@ -71,7 +99,9 @@ def spend_of(data):
     if not psbt.is_partial(data):
         first, *lines = data.decode().splitlines()
         pairs = [it.split(" ") for it in lines]
-        return read_transaction(bytes.fromhex(first)), [Output(int(value), bytes.fromhex(program)) for value, program in pairs]
+        return read_transaction(bytes.fromhex(first)), [
+            Output(int(value), bytes.fromhex(program)) for value, program in pairs
+        ]
     found = psbt.read(psbt.decoded_bytes(data))
     for it, fields in zip(found.transaction.inputs, found.inputs):
         it.witness = psbt.final_witness(fields) or []
@@ -118,9 +148,21 @@ def answer_of(answer, transaction, index, spent):
     found["digest"] = transaction.digest(index, places.script, spent.value).hex()
     if answer[0] == "clean":
         path, counted, height, keys, relay = answer[1:]
-        return {**found, "path": path, "counted": counted, "height": height, "signatures": places.signatures(keys), "relay": sorted(relay)}
+        return {
+            **found,
+            "path": path,
+            "counted": counted,
+            "height": height,
+            "signatures": places.signatures(keys),
+            "relay": sorted(relay),
+        }
     reason, opcode, stack, keys, *relay = answer[1:]
-    found.update(places.stop(opcode), reason=reason, stack=[places.bytes_at(it).hex() for it in stack], signatures=places.signatures(keys))
+    found.update(
+        places.stop(opcode),
+        reason=reason,
+        stack=[places.bytes_at(it).hex() for it in stack],
+        signatures=places.signatures(keys),
+    )
     return {**found, "relay": sorted(relay[0])} if relay else found
 
 
@@ -129,8 +171,14 @@ def wanted_lines(row, rows, data):
     if "refused" in row["wanted"]:
         return [row["wanted"]]
     transaction, spent = spend_of(data)
-    whole = {"txid": transaction.txid(), "wtxid": transaction.wtxid(), "inputs": len(transaction.inputs), "outputs": len(transaction.outputs),
-             "fee": row["wanted"]["fee"], "faults": row["wanted"]["faults"]}
+    whole = {
+        "txid": transaction.txid(),
+        "wtxid": transaction.wtxid(),
+        "inputs": len(transaction.inputs),
+        "outputs": len(transaction.outputs),
+        "fee": row["wanted"]["fee"],
+        "faults": row["wanted"]["faults"],
+    }
     answers = row["wanted"]["inputs"]
     if None in answers:
         answers = [mine or others for mine, others in zip(answers, rows[row["of"]]["wanted"]["inputs"])]
@@ -139,12 +187,18 @@ def wanted_lines(row, rows, data):
 
 def is_met(lines, found):
     """Whether each line is there with each member that is wanted."""
-    return len(lines) == len(found) and all(name in it and it[name] == value for line, it in zip(lines, found) for name, value in line.items())
+    return len(lines) == len(found) and all(
+        name in it and it[name] == value for line, it in zip(lines, found) for name, value in line.items()
+    )
 
 
 def is_blind(lines, found):
     """Whether a wanted member may be another one, and is met all the same."""
-    changed = ([*lines[:place], {**line, name: "another"}, *lines[place + 1 :]] for place, line in enumerate(lines) for name in line)
+    changed = (
+        [*lines[:place], {**line, name: "another"}, *lines[place + 1 :]]
+        for place, line in enumerate(lines)
+        for name in line
+    )
     return any(is_met(it, found) for it in changed)
 
 
@@ -175,7 +229,11 @@ def list_at_once(rows, trace):
         if "inputs" in row["wanted"]:
             transaction, spent = spend_of(input_of(row, rows))
             own = zip(transaction.inputs, spent)
-            found.update(it.witness[-1] for it, output in own if it.witness and output and scripts.is_script_hash(output.program))
+            found.update(
+                it.witness[-1]
+                for it, output in own
+                if it.witness and output and scripts.is_script_hash(output.program)
+            )
     trace.paths(sorted(found))
 
 
@@ -186,5 +244,13 @@ def plant(rows, curve, trace):
         chosen = [row for title, row in rows.items() if title.endswith(seen_by)]
         with mock.patch.object(place, member, change, create=True):
             inputs = [(row, input_of(row, rows)) for row in chosen]
-            unseen += [name for row, data in inputs if is_met(wanted_lines(row, rows, data), printed_lines(data, curve, trace))] if chosen else [name]
+            unseen += (
+                [
+                    name
+                    for row, data in inputs
+                    if is_met(wanted_lines(row, rows, data), printed_lines(data, curve, trace))
+                ]
+                if chosen
+                else [name]
+            )
     return unseen

@@ -1,4 +1,6 @@
-"""Transactions by Electrum, each signed by keys that follow from a name: what the written answers are about. Needs Debian's python3-electrum. Tested, not proved."""
+"""Transactions by Electrum, each signed by keys that follow from a name: what the written answers are about. Needs
+Debian's python3-electrum. Tested, not proved.
+"""
 
 import base64
 import hashlib
@@ -35,11 +37,19 @@ def key_program(key):
 
 
 class Claim:
-    """An output, and how it is spent: its script, the shape of its witness (None: a signature, by the next of the secrets), its sequence."""
+    """An output, and how it is spent: its script, the shape of its witness (None: a signature, by the next of the
+    secrets), its sequence.
+    """
 
     def __init__(self, way, outpoint, value, script, shape, secrets, sequence, expiry=0, delay=0, previous=None):
         self.way, self.outpoint, self.value, self.script, self.shape = way, outpoint, value, script, shape
-        self.secrets, self.sequence, self.expiry, self.delay, self.previous = secrets, sequence, expiry, delay, previous
+        self.secrets, self.sequence, self.expiry, self.delay, self.previous = (
+            secrets,
+            sequence,
+            expiry,
+            delay,
+            previous,
+        )
         self.keys = [public_key(secret) for secret in secrets]
 
     def is_key_hash(self):
@@ -52,8 +62,18 @@ class Claim:
 
     def changed_copy(self, **members):
         """Another one, with these members."""
-        other = Claim(self.way, self.outpoint, self.value, self.script, list(self.shape), list(self.secrets), self.sequence, self.expiry, self.delay,
-                      self.previous)
+        other = Claim(
+            self.way,
+            self.outpoint,
+            self.value,
+            self.script,
+            list(self.shape),
+            list(self.secrets),
+            self.sequence,
+            self.expiry,
+            self.delay,
+            self.previous,
+        )
         for name, value in members.items():
             setattr(other, name, value)
         other.keys = [public_key(secret) for secret in other.secrets]
@@ -72,7 +92,9 @@ class Spend:
         inputs = []
         for claim in self.claims:
             txid, index = claim.outpoint
-            txin = transaction.PartialTxInput(prevout=transaction.TxOutpoint(txid=bytes.fromhex(txid), out_idx=index), nsequence=claim.sequence)
+            txin = transaction.PartialTxInput(
+                prevout=transaction.TxOutpoint(txid=bytes.fromhex(txid), out_idx=index), nsequence=claim.sequence
+            )
             txin._trusted_value_sats = claim.value
             txin.script_sig = b""
             if claim.is_key_hash():
@@ -81,7 +103,9 @@ class Spend:
                 txin.script_type, txin.witness_script, txin.num_sig = "p2wsh", claim.script, len(claim.secrets)
             inputs.append(txin)
         outputs = [transaction.PartialTxOutput(scriptpubkey=program, value=value) for program, value in self.outputs]
-        return transaction.PartialTransaction.from_io(inputs, outputs, locktime=self.lock_time, version=self.version, BIP69_sort=False)
+        return transaction.PartialTransaction.from_io(
+            inputs, outputs, locktime=self.lock_time, version=self.version, BIP69_sort=False
+        )
 
     def digest(self, number):
         """What a signature of an input is over, as Electrum has it."""
@@ -111,7 +135,9 @@ class Spend:
 
     def text(self):
         """What real/judge reads: the transaction, and of each input the value and program that it spends."""
-        return [self.signed_transaction().serialize_to_network()] + [f"{claim.value} {claim.program().hex()}" for claim in self.claims]
+        return [self.signed_transaction().serialize_to_network()] + [
+            f"{claim.value} {claim.program().hex()}" for claim in self.claims
+        ]
 
     def partial_base64(self):
         """The same as a partially signed transaction in base64."""
@@ -149,7 +175,9 @@ def multisig(count, keys):
 
 
 class Channel:
-    """A channel with one commitment: to_local, to_remote, an offered and a received HTLC. All names are those of the commitment's owner."""
+    """A channel with one commitment: to_local, to_remote, an offered and a received HTLC. All names are those of the
+    commitment's owner.
+    """
 
     def __init__(self, number, delay, expiry):
         self.number, self.delay, self.expiry, self.name = number, delay, expiry, f"channel {number}"
@@ -158,16 +186,23 @@ class Channel:
         revocation, delayed = secret_of(self.name + " revocation"), secret_of(self.name + " delayed")
         self.revocation = lnutil.derive_blinded_privkey(revocation, point_secret)
         self.delayed = lnutil.derive_privkey(int.from_bytes(delayed, "big"), point).to_bytes(32, "big")
-        self.local, self.remote, self.payment = (secret_of(f"{self.name} {of}") for of in ("local", "remote", "payment"))
+        self.local, self.remote, self.payment = (
+            secret_of(f"{self.name} {of}") for of in ("local", "remote", "payment")
+        )
         self.funding = sorted((secret_of(f"{self.name} funding {side}") for side in "ab"), key=public_key)
-        self.funding_txid, self.funding_index = digest_of(self.name + " outpoint").hex(), (0, 1, 7, 255, 65536)[number % 5]
+        self.funding_txid, self.funding_index = (
+            digest_of(self.name + " outpoint").hex(),
+            (0, 1, 7, 255, 65536)[number % 5],
+        )
         self.capacity = 1_000_000 + 7_777 * number
         self.preimages = {side: digest_of(f"{self.name} preimage {side}") for side in ("offered", "received")}
         self._scripts()
 
     def _scripts(self):
         keys = [public_key(secret) for secret in (self.revocation, self.remote, self.local)]
-        self.to_local = lnutil.make_commitment_output_to_local_witness_script(public_key(self.revocation), self.delay, public_key(self.delayed))
+        self.to_local = lnutil.make_commitment_output_to_local_witness_script(
+            public_key(self.revocation), self.delay, public_key(self.delayed)
+        )
         hashes = {side: hashlib.sha256(preimage).digest() for side, preimage in self.preimages.items()}
         self.offered = lnutil.make_offered_htlc(*keys, hashes["offered"])
         self.received = lnutil.make_received_htlc(*keys, hashes["received"], self.expiry)
@@ -176,17 +211,30 @@ class Channel:
         """The commitment's spend of the funding output."""
         one, other = public_key(secret_of(self.name + " base")), public_key(self.payment)
         obscured = lnutil.get_obscured_ctn(40 + self.number, one, other)
-        outputs = [(program_of(self.offered), 11_000 + self.number), (program_of(self.received), 12_500 + self.number),
-                   (key_program(public_key(self.payment)), 300_000 + 3 * self.number)]
+        outputs = [
+            (program_of(self.offered), 11_000 + self.number),
+            (program_of(self.received), 12_500 + self.number),
+            (key_program(public_key(self.payment)), 300_000 + 3 * self.number),
+        ]
         outputs.append((program_of(self.to_local), self.capacity - 1_200 - sum(value for _, value in outputs)))
-        claim = Claim("funding", (self.funding_txid, self.funding_index), self.capacity, multisig(2, [public_key(s) for s in self.funding]),
-                      [b"", None, None], self.funding, (0x80 << 24) + (obscured >> 24))
-        return Spend([claim], outputs, 2, (0x20 << 24) + (obscured & 0xffffff)).sign()
+        claim = Claim(
+            "funding",
+            (self.funding_txid, self.funding_index),
+            self.capacity,
+            multisig(2, [public_key(s) for s in self.funding]),
+            [b"", None, None],
+            self.funding,
+            (0x80 << 24) + (obscured >> 24),
+        )
+        return Spend([claim], outputs, 2, (0x20 << 24) + (obscured & 0xFFFFFF)).sign()
 
     def close(self):
         """A mutual close."""
-        claim = self.commitment().claims[0].changed_copy(way="close", sequence=0xffffffff)
-        outputs = [(key_program(public_key(self.payment)), 400_000), (key_program(public_key(self.delayed)), self.capacity - 400_000 - 333)]
+        claim = self.commitment().claims[0].changed_copy(way="close", sequence=0xFFFFFFFF)
+        outputs = [
+            (key_program(public_key(self.payment)), 400_000),
+            (key_program(public_key(self.delayed)), self.capacity - 400_000 - 333),
+        ]
         return Spend([claim], outputs, 2, 0).sign()
 
     def output(self, index):
@@ -202,7 +250,12 @@ class Channel:
             "offered by preimage": (0, self.offered, [None, self.preimages["offered"]], [self.remote]),
             "offered by timeout": (0, self.offered, [b"", None, None, b""], [self.remote, self.local]),
             "received by revocation": (1, self.received, [None, revocation], [self.revocation]),
-            "received by success": (1, self.received, [b"", None, None, self.preimages["received"]], [self.remote, self.local]),
+            "received by success": (
+                1,
+                self.received,
+                [b"", None, None, self.preimages["received"]],
+                [self.remote, self.local],
+            ),
             "received by timeout": (1, self.received, [None, b""], [self.remote]),
             "to_remote": (2, None, [None, public_key(self.payment)], [self.payment]),
             "to_local by delay": (3, self.to_local, [None, b""], [self.delayed]),
@@ -215,13 +268,21 @@ class Channel:
     def htlc_transaction(self, way):
         """HTLC-timeout or HTLC-success (BOLT 3)."""
         claim = self.claim(way, 0)
-        _, output = lnutil.make_htlc_tx_output(claim.value * 1000, 253 + 40 * self.number, public_key(self.revocation), public_key(self.delayed),
-                                               way.endswith("success"), self.delay)
+        _, output = lnutil.make_htlc_tx_output(
+            claim.value * 1000,
+            253 + 40 * self.number,
+            public_key(self.revocation),
+            public_key(self.delayed),
+            way.endswith("success"),
+            self.delay,
+        )
         lock_time = self.expiry if way.endswith("timeout") else 0
         return Spend([claim], [(output.scriptpubkey, output.value)], 2, lock_time).sign()
 
     def second_stage(self, way, sequence):
         """The claim of an HTLC transaction's output."""
         parent = self.htlc_transaction("offered by timeout" if self.number % 2 else "received by success")
-        first = self.claim("to_local" + way[len("second stage"):], sequence)
-        return first.changed_copy(way=way, outpoint=(parent.signed_transaction().txid(), 0), value=parent.outputs[0][1])
+        first = self.claim("to_local" + way[len("second stage") :], sequence)
+        return first.changed_copy(
+            way=way, outpoint=(parent.signed_transaction().txid(), 0), value=parent.outputs[0][1]
+        )

@@ -41,12 +41,31 @@ def row(name, data, form, wanted):
 def clean_rows():
     """Electrum's own, in each of the three forms."""
     channels = [Channel(n, 144 + n, 500 + n) for n in (1, 2, 3)]
-    made = [(f"{way}, partially signed", channel_spend(channels[k % 3], way)) for k, way in enumerate(
-        ("to_local by delay", "to_local by revocation", "to_remote", "offered by revocation", "offered by preimage", "received by revocation",
-         "received by timeout", "second stage by delay", "second stage by revocation"))]
-    made += [(f"{way}, partially signed", channels[0].htlc_transaction(way)) for way in ("offered by timeout", "received by success")]
+    made = [
+        (f"{way}, partially signed", channel_spend(channels[k % 3], way))
+        for k, way in enumerate(
+            (
+                "to_local by delay",
+                "to_local by revocation",
+                "to_remote",
+                "offered by revocation",
+                "offered by preimage",
+                "received by revocation",
+                "received by timeout",
+                "second stage by delay",
+                "second stage by revocation",
+            )
+        )
+    ]
+    made += [
+        (f"{way}, partially signed", channels[0].htlc_transaction(way))
+        for way in ("offered by timeout", "received by success")
+    ]
     made += [("funding, partially signed", channels[1].commitment()), ("close, partially signed", channels[2].close())]
-    made += [(f"{way}, partially signed", wallet_spend(way, 20 + k)) for k, way in enumerate(("wallet key", "key hash", "second and third of three"))]
+    made += [
+        (f"{way}, partially signed", wallet_spend(way, 20 + k))
+        for k, way in enumerate(("wallet key", "key hash", "second and third of three"))
+    ]
     for k, (name, spend) in enumerate(made):
         wanted = {"fee": spend.fee(), "faults": [], "inputs": [ways.clean_answer(claim.way) for claim in spend.claims]}
         yield row(name, base64.b64decode(spend.partial_base64()), ("base64", "hex", "bytes")[k % 3], wanted)
@@ -74,17 +93,38 @@ def changed_rows():
     yield one([(b"\x00", parent), utxo, witness], full, "with the transaction that is spent")
     yield one([(b"\x00", parent), witness], full, "with it alone")
     yield one([(b"\x00", stranger), utxo, witness], {"refused": "OtherTransaction 0"}, "with another transaction")
-    yield one([(b"\x00", parent), (b"\x01", bytes([utxo[1][0] ^ 1]) + utxo[1][1:]), witness], {"refused": "OtherOutput 0"}, "with another output")
+    yield one(
+        [(b"\x00", parent), (b"\x01", bytes([utxo[1][0] ^ 1]) + utxo[1][1:]), witness],
+        {"refused": "OtherOutput 0"},
+        "with another output",
+    )
     yield one([witness], unjudged_answers("NoOutput", None), "without what is spent")
     yield one([utxo], unjudged_answers("NotFinal", spend.fee()), "without a final witness")
     yield one([utxo, utxo, witness], {"refused": "DuplicateField"}, "a field twice")
-    yield one([utxo, witness, (b"\x17", digest_of("internal"))], unjudged_answers("TaprootFields", spend.fee()), "with an internal key of taproot")
+    yield one(
+        [utxo, witness, (b"\x17", digest_of("internal"))],
+        unjudged_answers("TaprootFields", spend.fee()),
+        "with an internal key of taproot",
+    )
     whole = partial_bytes(unsigned, inputs, outputs)
-    later = whole[:5] + field(b"\x00", unsigned) + field(b"\xfb", b"\x02\x00\x00\x00") + whole[5 + len(field(b"\x00", unsigned)):]
+    later = (
+        whole[:5]
+        + field(b"\x00", unsigned)
+        + field(b"\xfb", b"\x02\x00\x00\x00")
+        + whole[5 + len(field(b"\x00", unsigned)) :]
+    )
     yield one(None, {"refused": "PsbtVersion 2"}, "of version 2", later)
-    yield ways.corrected_row(one(None, {"refused": "BadHex"}, "another magic", b"psbu" + whole[4:]), {"refused": "BadMagic"},
-                             "what does not begin as a partially signed transaction is read as lines")
-    yield one(None, {"refused": "NoTransaction"}, "no transaction", b"psbt\xff\x00" + whole[5 + len(field(b"\x00", unsigned)) + 1:])
+    yield ways.corrected_row(
+        one(None, {"refused": "BadHex"}, "another magic", b"psbu" + whole[4:]),
+        {"refused": "BadMagic"},
+        "what does not begin as a partially signed transaction is read as lines",
+    )
+    yield one(
+        None,
+        {"refused": "NoTransaction"},
+        "no transaction",
+        b"psbt\xff\x00" + whole[5 + len(field(b"\x00", unsigned)) + 1 :],
+    )
     signed = bytes.fromhex(spend.signed_transaction().serialize_to_network())
     yield one(None, {"refused": "SignedTransaction"}, "a signed transaction", partial_bytes(signed, inputs, outputs))
 

@@ -1,6 +1,9 @@
-"""The rows of the answers that were written down beforehand: transactions by Electrum, one fault planted in each, and what is wanted of real/judge.
+"""The rows of the answers that were written down beforehand: transactions by Electrum, one fault planted in each, and
+what is wanted of real/judge.
 
-The answers follow from the sheet of written_ways.py, which is worked by hand from the pages and the standards: nothing here runs a script or asks a judge. Tested, not proved."""
+The answers follow from the sheet of written_ways.py, which is worked by hand from the pages and the standards: nothing
+here runs a script or asks a judge. Tested, not proved.
+"""
 
 from real.tests import written_faults as faults, written_specials, written_spends, written_ways as ways
 from real.tests.written_ways import corrected_row
@@ -37,15 +40,30 @@ def fault_row(name, spend, kind, variant, pick):
     if not isinstance(change, list):
         return row_of(title, change, answers, name)
     if change[0][0] == "output" and change[0][1] < len(spend.outputs) - 1:
-        return corrected_row({"name": title, "of": name, "edit": change, "wanted": {"fee": fee_of(spend, change), "faults": [], "inputs": answers}},
-                             "the last output, which has no satoshis", "an output of less than none can not be made")
+        return corrected_row(
+            {
+                "name": title,
+                "of": name,
+                "edit": change,
+                "wanted": {"fee": fee_of(spend, change), "faults": [], "inputs": answers},
+            },
+            "the last output, which has no satoshis",
+            "an output of less than none can not be made",
+        )
     if isinstance(answers, dict):
         return {"name": title, "of": name, "edit": change, "wanted": answers}
-    return {"name": title, "of": name, "edit": change, "wanted": {"fee": fee_of(spend, change), "faults": [], "inputs": answers}}
+    return {
+        "name": title,
+        "of": name,
+        "edit": change,
+        "wanted": {"fee": fee_of(spend, change), "faults": [], "inputs": answers},
+    }
 
 
 def rows():
-    """All rows: each transaction, three of the eight faults planted in it in turn, five where a script has a lock, and the single ones."""
+    """All rows: each transaction, three of the eight faults planted in it in turn, five where a script has a lock, and
+    the single ones.
+    """
     uses, order = {}, list(dict.fromkeys(ways.FAMILY.values()))
     begun = {}
     for name, spend in written_spends.spends():

@@ -1,12 +1,31 @@
-"""The 208 transactions without a fault: thirteen of each way to spend, over delays, expiries, sequences, lock times and neighbours that differ. Tested, not proved."""
+"""The 208 transactions without a fault: thirteen of each way to spend, over delays, expiries, sequences, lock times
+and neighbours that differ. Tested, not proved.
+"""
 
 from real.tests import written_ways as ways
-from real.tests.written_electrum import Channel, Claim, Spend, assembled_script, crypto, digest_of, multisig, opcodes, public_key, secret_of
+from real.tests.written_electrum import (
+    Channel,
+    Claim,
+    Spend,
+    assembled_script,
+    crypto,
+    digest_of,
+    multisig,
+    opcodes,
+    public_key,
+    secret_of,
+)
 
 DELAYS = (1, 16, 17, 127, 128, 144, 255, 256, 1008, 2016, 32767, 32768, 65535)
 EXPIRIES = (1, 16, 17, 127, 128, 32767, 32768, 700123, 8388607, 8388608, 16777216, 499999998, 499999999)
-SEQUENCES = (0xfffffffd, 0xfffffffe, 0xffffffff, 0)
-NEIGHBOURS = ("to_remote", "to_local by revocation", "offered by revocation", "received by revocation", "offered by preimage")
+SEQUENCES = (0xFFFFFFFD, 0xFFFFFFFE, 0xFFFFFFFF, 0)
+NEIGHBOURS = (
+    "to_remote",
+    "to_local by revocation",
+    "offered by revocation",
+    "received by revocation",
+    "offered by preimage",
+)
 OUTPUT_OF = {"offered": 0, "received": 1, "to_remote": 2, "to_local": 3, "second": 4}
 THREE = ("first and second of three", "first and third of three", "second and third of three")
 
@@ -14,7 +33,14 @@ THREE = ("first and second of three", "first and third of three", "second and th
 def programs(name):
     """Programs that are paid: a key's hash, a script's, the older forms of both, taproot, and a note."""
     h20, h32 = digest_of(name)[:20], digest_of(name + " paid")
-    return [b"\x00\x14" + h20, b"\x00\x20" + h32, b"\x76\xa9\x14" + h20 + b"\x88\xac", b"\xa9\x14" + h20 + b"\x87", b"\x51\x20" + h32, b"\x6a\x04note"]
+    return [
+        b"\x00\x14" + h20,
+        b"\x00\x20" + h32,
+        b"\x76\xa9\x14" + h20 + b"\x88\xac",
+        b"\xa9\x14" + h20 + b"\x87",
+        b"\x51\x20" + h32,
+        b"\x6a\x04note",
+    ]
 
 
 def outputs_for(name, number, total):
@@ -46,7 +72,7 @@ def channel_spend(channel, way):
     if way.endswith("delay"):
         sequence = min(channel.delay + (0, 0, 5)[n % 3], 65535)
     if way == "received by timeout":
-        sequence, lock_time = (0xfffffffd, 0xfffffffe, 0)[n % 3], min(channel.expiry + (0, 0, 3)[n % 3], 499999999)
+        sequence, lock_time = (0xFFFFFFFD, 0xFFFFFFFE, 0)[n % 3], min(channel.expiry + (0, 0, 3)[n % 3], 499999999)
     if way == "received by revocation" and n % 2:
         lock_time = channel.expiry
     main = channel.second_stage(way, sequence) if way.startswith("second") else channel.claim(way, sequence)
@@ -54,7 +80,9 @@ def channel_spend(channel, way):
     at = n % (len(others) + 1)
     claims = others[:at] + [main] + others[at:]
     total = sum(claim.value for claim in claims)
-    return Spend(claims, outputs_for(f"{way} {n}", n, total), 2 if way.endswith("delay") else 1 + n % 2, lock_time, at).sign()
+    return Spend(
+        claims, outputs_for(f"{way} {n}", n, total), 2 if way.endswith("delay") else 1 + n % 2, lock_time, at
+    ).sign()
 
 
 def wallet_claim(way, name, sequence, value):
@@ -65,21 +93,36 @@ def wallet_claim(way, name, sequence, value):
     if way == "wallet key":
         return Claim(way, outpoint, value, None, [None, keys[0]], secrets[:1], sequence)
     if way == "key hash":
-        script = assembled_script(opcodes.OP_DUP, opcodes.OP_HASH160, crypto.hash_160(keys[0]), opcodes.OP_EQUALVERIFY, opcodes.OP_CHECKSIG)
+        script = assembled_script(
+            opcodes.OP_DUP, opcodes.OP_HASH160, crypto.hash_160(keys[0]), opcodes.OP_EQUALVERIFY, opcodes.OP_CHECKSIG
+        )
         return Claim(way, outpoint, value, script, [None, keys[0]], secrets[:1], sequence)
-    signing = {"first and second of three": (0, 1), "first and third of three": (0, 2), "second and third of three": (1, 2)}[way]
+    signing = {
+        "first and second of three": (0, 1),
+        "first and third of three": (0, 2),
+        "second and third of three": (1, 2),
+    }[way]
     return Claim(way, outpoint, value, multisig(2, keys), [b"", None, None], [secrets[k] for k in signing], sequence)
 
 
 def wallet_spend(way, n):
     """The spend of some outputs of wallets: the main one, and up to three more of the other ways."""
     main = wallet_claim(way, f"{way} {n}", SEQUENCES[n % 4], 40_000 + 137 * n)
-    others = [wallet_claim(("wallet key", "key hash", THREE[n % 3])[(n + k) % 3], f"{way} {n} and {k}", SEQUENCES[(n + k) % 4], 7_000 + 999 * k)
-              for k in range((n * 5) % 4)]
+    others = [
+        wallet_claim(
+            ("wallet key", "key hash", THREE[n % 3])[(n + k) % 3],
+            f"{way} {n} and {k}",
+            SEQUENCES[(n + k) % 4],
+            7_000 + 999 * k,
+        )
+        for k in range((n * 5) % 4)
+    ]
     at = (n * 7) % (len(others) + 1)
     claims = others[:at] + [main] + others[at:]
     total = sum(claim.value for claim in claims)
-    return Spend(claims, outputs_for(f"{way} {n}", n + 1, total), 1 + n % 2, (0, 800_000 + n, 1_700_000_000 + n)[n % 3], at).sign()
+    return Spend(
+        claims, outputs_for(f"{way} {n}", n + 1, total), 1 + n % 2, (0, 800_000 + n, 1_700_000_000 + n)[n % 3], at
+    ).sign()
 
 
 def spends():
@@ -96,5 +139,3 @@ def spends():
         yield f"wallet key {n}", wallet_spend("wallet key", n)
         yield f"key hash {n}", wallet_spend("key hash", n)
         yield f"{THREE[n % 3]} {n}", wallet_spend(THREE[n % 3], n)
-
-

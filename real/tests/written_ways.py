@@ -1,11 +1,13 @@
 """The ways to spend whose answers are written down beforehand: what the pages and the standards say of each.
 
-Places are opcodes of the script, counted from 0. 'push K' is what opcode K pushes, 'item J' the item J of the witness, from the first,
-'hash J' its HASH160, and '-' the empty item. Tested, not proved."""
+Places are opcodes of the script, counted from 0. 'push K' is what opcode K pushes, 'item J' the item J of the witness,
+from the first, 'hash J' its HASH160, and '-' the empty item. Tested, not proved.
+"""
 
 from collections import namedtuple
 
-# path, counted, height: of a clean input. check: the opcode that takes the signatures. stack: what stands there, the top first.
+# path, counted, height: of a clean input. check: the opcode that takes the signatures. stack: what stands there, the
+# top first.
 # end: the number of opcodes. keys: of each item that is a signature, where its key stands.
 Way = namedtuple("Way", "path counted height check stack end keys")
 
@@ -42,19 +44,43 @@ WAYS = {
 
 # One name for the ways that the faults treat alike.
 FAMILY = {way: way for way in WAYS}
-FAMILY.update({"second stage by delay": "to_local by delay", "second stage by revocation": "to_local by revocation", "wallet key": "to_remote",
-               "close": "funding", "first and second of three": "three", "first and third of three": "three", "second and third of three": "three"})
+FAMILY.update(
+    {
+        "second stage by delay": "to_local by delay",
+        "second stage by revocation": "to_local by revocation",
+        "wallet key": "to_remote",
+        "close": "funding",
+        "first and second of three": "three",
+        "first and third of three": "three",
+        "second and third of three": "three",
+    }
+)
 PAIRED = ("offered by timeout", "received by success", "funding", "three")
 
-# Where a question about a signature goes into the script: before this opcode. After 'swapped' a key stands above the signature there.
+# Where a question about a signature goes into the script: before this opcode. After 'swapped' a key stands above the
+# signature there.
 QUESTIONS = {
-    "to_local by delay": (6, ""), "to_local by revocation": (1, ""), "key hash": (4, "swapped"), "offered by revocation": (5, "swapped"),
-    "offered by timeout": (14, "swapped"), "offered by preimage": (23, "swapped"), "received by revocation": (5, "swapped"),
-    "received by success": (16, "swapped"), "received by timeout": (26, "swapped"), "funding": (0, ""), "three": (0, "")}
+    "to_local by delay": (6, ""),
+    "to_local by revocation": (1, ""),
+    "key hash": (4, "swapped"),
+    "offered by revocation": (5, "swapped"),
+    "offered by timeout": (14, "swapped"),
+    "offered by preimage": (23, "swapped"),
+    "received by revocation": (5, "swapped"),
+    "received by success": (16, "swapped"),
+    "received by timeout": (26, "swapped"),
+    "funding": (0, ""),
+    "three": (0, ""),
+}
 # The same for a path with as many items that the witness does not take.
 OTHER_QUESTIONS = {
-    "to_local by delay": (1, ""), "to_local by revocation": (6, ""), "offered by revocation": (23, "swapped"), "offered by preimage": (5, "swapped"),
-    "received by revocation": (26, "swapped"), "received by timeout": (5, "swapped")}
+    "to_local by delay": (1, ""),
+    "to_local by revocation": (6, ""),
+    "offered by revocation": (23, "swapped"),
+    "offered by preimage": (5, "swapped"),
+    "received by revocation": (26, "swapped"),
+    "received by timeout": (5, "swapped"),
+}
 
 
 def corrected_row(row, was, why):
@@ -63,7 +89,9 @@ def corrected_row(row, was, why):
 
 
 def clean_answer(way, relay=()):
-    """A clean input. Its answer: path, counted opcodes, height, of each signature its key, and the rules of relay that it breaks."""
+    """A clean input. Its answer: path, counted opcodes, height, of each signature its key, and the rules of relay that
+    it breaks.
+    """
     of = WAYS[way]
     return ["clean", of.path, of.counted, of.height, dict(of.keys), list(relay)]
 
@@ -101,12 +129,12 @@ def lock_time_stop(keys, rest=("item 0",)):
 
 def age_passes(version, sequence, delay_blocks):
     """BIP 112, for a delay in blocks."""
-    return version >= 2 and not sequence & 0x80400000 and sequence & 0xffff >= delay_blocks
+    return version >= 2 and not sequence & 0x80400000 and sequence & 0xFFFF >= delay_blocks
 
 
 def height_passes(lock_time, sequence, expiry_height):
     """BIP 65, for a height."""
-    return lock_time < 500000000 and expiry_height <= lock_time and sequence != 0xffffffff
+    return lock_time < 500000000 and expiry_height <= lock_time and sequence != 0xFFFFFFFF
 
 
 def shifted_keys(keys):
@@ -131,21 +159,34 @@ def exchange_answers(way, lock_passes):
         "offered by timeout": [
             (1, 2, stops("FalseEnd", 26, ["-"], {1: "push 16", 2: "push 7"})),
             (2, 3, stops("FalseEnd", 26, ["-"], {1: "push 7", 3: "push 16"})),
-            (0, 1, stops("FailedCheck Extra", 18, OFFERED_PAIR + PAIR, {0: "push 7", 2: "push 16"}))],
+            (0, 1, stops("FailedCheck Extra", 18, OFFERED_PAIR + PAIR, {0: "push 7", 2: "push 16"})),
+        ],
         "received by revocation": [
-            (0, 1, stops("FailedCheck TokenForm", 26, ["push 7", "item 0"], {1: "item 0"}) if lock_passes else lock_time_stop({1: "item 0"}))],
+            (
+                0,
+                1,
+                (
+                    stops("FailedCheck TokenForm", 26, ["push 7", "item 0"], {1: "item 0"})
+                    if lock_passes
+                    else lock_time_stop({1: "item 0"})
+                ),
+            )
+        ],
         "received by success": [
             (1, 2, stops("FalseEnd", 29, ["-"], {1: "push 18", 2: "push 7"})),
             (2, 3, lock_time_stop({1: "push 7", 3: "push 18"}, PAIR)),
-            (0, 1, stops("FailedCheck Extra", 20, RECEIVED_PAIR + PAIR, {0: "push 7", 2: "push 18"}))],
+            (0, 1, stops("FailedCheck Extra", 20, RECEIVED_PAIR + PAIR, {0: "push 7", 2: "push 18"})),
+        ],
         "received by timeout": [(0, 1, stops("FalseEnd", 29, ["-"], {1: "push 7"}))],
     }
     if FAMILY[way] in table:
         return table[FAMILY[way]]
     check, taken = WAYS[way].check, WAYS[way].stack
-    return [(1, 2, false_end(way, {1: keys[2], 2: keys[1]})),
-            (0, 1, stops("FailedCheck Extra", check, taken, {0: keys[1], 2: keys[2]})),
-            (0, 2, stops("FailedCheck Extra", check, taken, {0: keys[2], 1: keys[1]}))]
+    return [
+        (1, 2, false_end(way, {1: keys[2], 2: keys[1]})),
+        (0, 1, stops("FailedCheck Extra", check, taken, {0: keys[1], 2: keys[2]})),
+        (0, 2, stops("FailedCheck Extra", check, taken, {0: keys[2], 1: keys[1]})),
+    ]
 
 
 def bottom_item_answer(way):
@@ -156,24 +197,43 @@ def bottom_item_answer(way):
 
 
 def top_item_answers(way, lock_passes):
-    """Of each way: one more item right before the script, and the answer. The 20 and the 32 bytes are unlike all hashes."""
+    """Of each way: one more item right before the script, and the answer. The 20 and the 32 bytes are unlike all
+    hashes.
+    """
     keys = dict(WAYS[way].keys)
     table = {
-        "to_local by delay": [("01", stops("NotOneValue", 9, ["-", "item 0"], keys)), ("", stops("NotOneValue", 9, ["-", "item 0"], keys))],
-        "to_local by revocation": [("", stops("FailedCheck Sequence", 4, ["push 3", "item 1", "item 0"], keys)),
-                                   ("01", stops("FailedCheck TokenForm", 8, ["push 1", "item 1", "item 0"], keys))],
+        "to_local by delay": [
+            ("01", stops("NotOneValue", 9, ["-", "item 0"], keys)),
+            ("", stops("NotOneValue", 9, ["-", "item 0"], keys)),
+        ],
+        "to_local by revocation": [
+            ("", stops("FailedCheck Sequence", 4, ["push 3", "item 1", "item 0"], keys)),
+            ("01", stops("FailedCheck TokenForm", 8, ["push 1", "item 1", "item 0"], keys)),
+        ],
         "to_remote": [("", ["stops", "NotTwoItems"])],
-        "key hash": [("55" * 20, stops("FailedCheck Verify", 3, ["push 2", "hash 2", "item 2", "item 1", "item 0"], keys))],
+        "key hash": [
+            ("55" * 20, stops("FailedCheck Verify", 3, ["push 2", "hash 2", "item 2", "item 1", "item 0"], keys))
+        ],
         "offered by revocation": [("", stops("MissingOperand", 18, OFFERED_PAIR + ["item 1", "item 0"], keys))],
         "offered by preimage": [("", stops("MissingOperand", 18, OFFERED_PAIR + ["item 1", "item 0"], keys))],
         "offered by timeout": [
             ("", stops("FailedCheck Extra", 18, OFFERED_PAIR + ["item 3"] + PAIR, keys)),
-            ("55" * 32, stops("FailedCheck Verify", 22, ["push 21", "hash 4", "push 7", "item 3"] + PAIR, keys))],
+            ("55" * 32, stops("FailedCheck Verify", 22, ["push 21", "hash 4", "push 7", "item 3"] + PAIR, keys)),
+        ],
         "received by revocation": [
-            ("", stops("FailedCheck TokenForm", 26, ["push 7", "item 1", "item 0"], keys) if lock_passes
-             else lock_time_stop(keys, ["item 1", "item 0"]))],
-        "received by success": [("", lock_time_stop(keys, ["item 3"] + PAIR)),
-                                ("55" * 32, stops("FailedCheck Verify", 15, ["push 14", "hash 4", "push 7", "item 3"] + PAIR, keys))],
+            (
+                "",
+                (
+                    stops("FailedCheck TokenForm", 26, ["push 7", "item 1", "item 0"], keys)
+                    if lock_passes
+                    else lock_time_stop(keys, ["item 1", "item 0"])
+                ),
+            )
+        ],
+        "received by success": [
+            ("", lock_time_stop(keys, ["item 3"] + PAIR)),
+            ("55" * 32, stops("FailedCheck Verify", 15, ["push 14", "hash 4", "push 7", "item 3"] + PAIR, keys)),
+        ],
         "received by timeout": [("", stops("NotOneValue", 29, ["-", "item 0"], keys))],
     }
     if FAMILY[way] in table:
