@@ -240,3 +240,7 @@ class Recording(Record):
 
     def sign(self, private, digest):
         return self.note_answer("sign", self.curve.sign(private, digest), private, digest)
+
+
+# a curve that is asked: the library, a record of its answers, or the library while its answers are recorded
+AnyCurve = Curve | Recorded | Recording

@@ -4,8 +4,6 @@ status, worked by hand from docs/REAL.md. Tested, not proved.
 import base64
 import json
 import os
-import subprocess
-import sys
 
 from real.lib.psbt import (
     FINAL_SCRIPTWITNESS,
@@ -629,67 +627,3 @@ NOTED = [
         ),
     ),
 ]
-
-
-def run_tool(tool, words, given, **streams):
-    data = given if isinstance(given, bytes) else given.encode()
-    return subprocess.run(
-        [sys.executable, os.path.join(os.path.dirname(HERE), tool), *words.split()], input=data, **streams
-    )
-
-
-def answers(tool, words, given, printed, status):
-    """Whether a call prints this and ends so."""
-    ran = run_tool(tool, words, given, capture_output=True)
-    said = ran.stderr.decode() if status in (2, 3) else ran.stdout.decode()
-    found = said == printed and ran.returncode == status
-    if not found:
-        print(
-            f"real/{tool} {words}: status {ran.returncode}, {said[:200]!r}, {ran.stderr.decode()[-200:]!r}; wanted"
-            f" {status}, {printed[:200]!r}"
-        )
-    return found
-
-
-def fails_to_write(tool, words, given):
-    """Whether a call that can't write ends with status 1, and without a word of Python's."""
-    with open("/dev/full", "wb") as full:
-        ran = run_tool(tool, words, given, stdout=full, stderr=subprocess.PIPE)
-    found = (ran.returncode, b"Traceback" in ran.stderr, b"note: standard output can't be written" in ran.stderr) == (
-        1,
-        False,
-        True,
-    )
-    if not found:
-        print(f"real/{tool} {words}: status {ran.returncode} where nothing can be written")
-    return found
-
-
-def is_noted(tool, words, given, note):
-    """Whether a refusal says this on standard error, and no key there or anywhere."""
-    ran = run_tool(tool, words, given, capture_output=True)
-    found = (
-        ran.returncode == 1
-        and f"note: {note}" in ran.stderr.decode()
-        and not any(it.encode() in ran.stdout + ran.stderr for it in (WIF, KNOWN_KEY))
-    )
-    if not found:
-        print(
-            f"real/{tool} {words}: status {ran.returncode}, {ran.stderr.decode()[-300:]!r}; wanted the note {note!r}"
-        )
-    return found
-
-
-def run():
-    """How many calls there are, and how many answer otherwise. The first of each status 0 and 1 is made again where
-    nothing can be written.
-    """
-    rows = [
-        (tool, *row)
-        for tool, rows in (("judge", JUDGE), ("psbt", PSBT), ("sign", SIGN), ("revoked", REVOKED))
-        for row in rows
-    ]
-    again = {(tool, status): (tool, words, given) for tool, words, given, _, status in reversed(rows) if status < 2}
-    differ = sum(not answers(*row) for row in rows) + sum(not fails_to_write(*row) for row in again.values())
-    differ += sum(not is_noted(*row) for row in NOTED)
-    return len(rows) + len(again) + len(NOTED), differ

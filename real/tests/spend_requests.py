@@ -423,43 +423,6 @@ def refusals(told):
     yield " " * 4_194_305, "TooLong", 12
 
 
-def ask(count):
-    """Each plan is the one that is worked out here, and each refusal the one that is wanted."""
-    told = bolt3.read()
-    for asked, sequences, lock_time in requests(told):
-        found = spend_answer(line(asked))
-        count.check(found == (line(wanted_plan(told, asked, sequences, lock_time)), 0), f"a plan: {found}")
-        found = spend_answer(line(shown_request(asked)))
-        count.check(
-            found == (line(wanted_plan(told, asked, sequences, lock_time)), 0),
-            f"a plan by the ids that explorers show: {found}",
-        )
-    for asked, refusal, notes in givens(told):
-        found = spend_answers(line(asked))
-        wanted = (
-            (line(wanted_plan(told, asked, [0], 501)), 0)
-            if refusal is None
-            else (line({"refused": refusal[0], "number": refusal[1]}), 1)
-        )
-        count.check(found == (*wanted, notes), f"a destination and a feerate: {found}")
-    for text, name, number, notes in faults(told):
-        found = spend_answers(text)
-        count.check(
-            found == (line({"refused": name, "number": number}), 1, notes),
-            f"a fault that is to be named by {notes}: {found}",
-        )
-    beyond = []
-    for asked, sequences, lock_time, outputs, name, number in bounds(told):
-        found = spend_answer(line(asked))
-        count.check(found == (line(wanted_plan(told, asked, sequences, lock_time)), 0), f"a plan at a bound: {found}")
-        beyond.append((changed_request(asked, outputs=outputs), name, number))
-    for text, name, number in (*refusals(told), *beyond):
-        found = spend_answer(text)
-        count.check(
-            found == (line({"refused": name, "number": number}), 1), f"a refusal that is to be {name}: {found}"
-        )
-
-
 if __name__ == "__main__":
     for each in requests(bolt3.read()):
         print(line(each[0]), line(wanted_plan(bolt3.read(), *each)), sep="")

@@ -10,30 +10,13 @@ from real.lib.plan import read_plan
 from real.lib.ripemd160 import ripemd160
 from real.lib.transaction import Input, Output, Transaction, hash160, read_transaction, sha256
 from real.tests import bolt3, calls
+from real.tests.checks import JudgeCase
 
 MUTATIONS, TRANSACTIONS, INPUTS, TRIES = 4000, 3, 250, 40
 KEYS = [bytes([2]) + bytes([7 + it]) * 32 for it in range(4)]
 # NOTIF, 1, ELSE, 0, ENDIF: what was true is false
 NEGATED = b"\x64\x51\x67\x00\x68"
 PREIMAGE, DELAY, LOCK_TIME = b"\x09" * 32, 7, 600
-
-
-def survives(count, name, read, given):
-    """Whether a reader of changed bytes returns, or refuses by name, and nothing else."""
-    chance = random.Random(name)
-    for number in range(MUTATIONS):
-        changed = bytearray(given[: chance.randrange(len(given)) if number % 4 == 0 else None])
-        for _ in range(chance.randrange(1, 4)):
-            if changed:
-                changed[chance.randrange(len(changed))] = chance.randrange(256)
-        try:
-            read(bytes(changed))
-        except Refused:
-            pass
-        except Exception as why:  # any other end is what is looked for
-            count.check(False, f"{name}, number {number}: {type(why).__name__} {why}")
-            return
-    count.check(True, name)
 
 
 def read_all_fields(given):
@@ -43,29 +26,6 @@ def read_all_fields(given):
         psbt.spent_output(found, index)
         psbt.final_witness(fields)
         psbt.taproot_fields(fields)
-
-
-def read_hostile_bytes(count):
-    """Each reader, with changed bytes."""
-    told = bolt3.read()
-    plan = json.dumps(bolt3.plan(told, *bolt3.PLANNED)).encode()
-    _, transaction, _, _, _ = next(bolt3.htlc_transactions(told))
-    survives(count, "changed transactions", read_transaction, transaction.bytes())
-    survives(count, "changed plans", lambda it: assembly.make(read_plan(it)), plan)
-    survives(count, "changed partially signed transactions", read_all_fields, assembly.make(read_plan(plan)).bytes())
-    survives(
-        count,
-        "changed base64",
-        lambda it: read_all_fields(psbt.decoded_bytes(it)),
-        assembly.make(read_plan(plan)).base64().encode(),
-    )
-    survives(count, "changed revoked states", penalties.read_state, calls.state_lines(calls.SEEN).encode())
-    survives(
-        count,
-        "changed commitments with payment base points",
-        commitment_number.commitment_numbers,
-        json.dumps({"transaction": calls.SEEN.stripped_bytes().hex(), **calls.PAYMENTS}).encode(),
-    )
 
 
 def encoded_numbers(r, s):
@@ -85,27 +45,6 @@ def item_numbers(item):
     except IndexError:
         return None
     return int.from_bytes(first, "big"), int.from_bytes(second, "big")
-
-
-def strict_encodings(count):
-    """An item is in strict DER exactly where an encoder writes it of the numbers that it has."""
-    chance, strict = random.Random("strict"), 0
-    for _ in range(MUTATIONS):
-        item = bytearray(
-            encoded_numbers(
-                chance.getrandbits(chance.choice((1, 8, 250, 256))), chance.getrandbits(chance.choice((7, 128, 255)))
-            )
-        )
-        for _ in range(chance.randrange(3)):
-            item[chance.randrange(len(item) - 1)] = chance.choice(
-                (0, 1, 2, 0x30, 0x7F, 0x80, len(item) - 3, chance.randrange(256))
-            )
-        numbers = item_numbers(item)
-        holds = numbers is not None and encoded_numbers(*numbers) == item and len(item) <= signatures.LONGEST
-        if signatures.is_strict_der(bytes(item)) != holds:
-            count.check(False, f"strict DER of {item.hex()}")
-        strict += holds
-    count.check(0 < strict < MUTATIONS, "encodings that are strict and others")
 
 
 class Drawn:
@@ -180,65 +119,119 @@ def drawn_case(chance):
     ]
 
 
-def judge_drawn_cases(count, trace):
-    """The judge with tokens and a run by the rules of consensus with signatures agree, but for the rules that are
-    stricter. Each kind of answer comes.
-    """
-    chance, seen = random.Random("drawn"), {}
-    for _ in range(TRANSACTIONS):
-        for it in judgement.judge(*drawn_case(chance), Drawn(), trace):
-            kind = it["answer"], it.get("reason") if it["answer"] != "stops" else None
-            seen[kind] = seen.get(kind, 0) + 1
-            if it.get("reason") in ("Disagreement", "DigestDiffers"):
-                count.check(False, f"a script at random: {it}")
-    wanted = [("clean", None), ("stops", None)]
-    wanted += [("not judged", it) for it in ("MeasuredSignature", "AmbiguousItem", "NotListed")]
-    wanted += [
-        ("stricter here", it)
-        for it in ("FailedCheck Number", "FailedCheck KeyForm", "FailedCheck TokenForm", "OpenBranch")
-    ]
-    count.check(all(seen.get(it, 0) for it in wanted), f"answers of scripts at random: {seen}")
+class HostileTest(JudgeCase):
+    """Hostile bytes, encodings and scripts at random."""
 
+    def survives(self, name, read, given):
+        """Whether a reader of changed bytes returns, or refuses by name, and nothing else."""
+        chance = random.Random(name)
+        for number in range(MUTATIONS):
+            changed = bytearray(given[: chance.randrange(len(given)) if number % 4 == 0 else None])
+            for _ in range(chance.randrange(1, 4)):
+                if changed:
+                    changed[chance.randrange(len(changed))] = chance.randrange(256)
+            try:
+                read(bytes(changed))
+            except Refused:
+                pass
+            except Exception as why:  # any other end is what is looked for
+                self.check(False, f"{name}, number {number}: {type(why).__name__} {why}")
+                return
+        self.check(True, name)
 
-def judge_bounds(count, trace):
-    """What is looked at is bounded over all inputs: two of them, and each alone is within the bound."""
-    signature, keys = encoded_numbers(1, 1), [bytes([2]) + place.to_bytes(32, "big") for place in range(1, 251)]
-    checked = [[signature] * 300 + keys + [b"\x51" + b"\x75" * place + b"\x51"] for place in (1, 2)]
-    # seven branches have too many paths to be listed
-    branched = [[(b"\x63" * 7 + b"\x68" * 7 + b"\x51" * place)] for place in (9_200, 9_201)]
-    for witnesses, reasons in (
-        (checked, ["NotOneValue", "TooManyChecks"]),
-        (branched, ["MissingOperand", "TooManySteps"]),
-    ):
-        inputs = [Input(bytes(32) + place.to_bytes(4, "little"), b"", 0, it) for place, it in enumerate(witnesses)]
-        spent = [Output(5, b"\x00\x20" + sha256(it[-1])) for it in witnesses]
-        found = judgement.judge(Transaction(2, inputs, [Output(1, b"\x51")], 0), spent, Drawn(), trace)
-        count.check([it["reason"] for it in found] == reasons, f"{reasons}, and not {[it['reason'] for it in found]}")
-    # 20 items, each of 520 bytes, and 201 copies of one: 36 times 114,920 bytes are within the bound
-    copied = [
-        judgement.Case(place, Input(bytes(36), b"", 0), None, b"\x76" * 201, [bytes(520)] * 20) for place in range(37)
-    ]
-    judgement.attempt(copied, judgement.within_budget, judgement.Budget())
-    count.check(
-        [it.settled and it.settled.reason for it in copied] == [None] * 36 + ["TooMuchStack"], "stacks with copies"
-    )
+    def test_hostile_bytes(self):
+        """Each reader, with changed bytes."""
+        told = bolt3.read()
+        plan = json.dumps(bolt3.plan(told, *bolt3.PLANNED)).encode()
+        _, transaction, _, _, _ = next(bolt3.htlc_transactions(told))
+        self.survives("changed transactions", read_transaction, transaction.bytes())
+        self.survives("changed plans", lambda it: assembly.make(read_plan(it)), plan)
+        self.survives("changed partially signed transactions", read_all_fields, assembly.make(read_plan(plan)).bytes())
+        self.survives(
+            "changed base64",
+            lambda it: read_all_fields(psbt.decoded_bytes(it)),
+            assembly.make(read_plan(plan)).base64().encode(),
+        )
+        self.survives("changed revoked states", penalties.read_state, calls.state_lines(calls.SEEN).encode())
+        self.survives(
+            "changed commitments with payment base points",
+            commitment_number.commitment_numbers,
+            json.dumps({"transaction": calls.SEEN.stripped_bytes().hex(), **calls.PAYMENTS}).encode(),
+        )
 
+    def test_strict_encodings(self):
+        """An item is in strict DER exactly where an encoder writes it of the numbers that it has."""
+        chance, strict = random.Random("strict"), 0
+        for _ in range(MUTATIONS):
+            item = bytearray(
+                encoded_numbers(
+                    chance.getrandbits(chance.choice((1, 8, 250, 256))),
+                    chance.getrandbits(chance.choice((7, 128, 255))),
+                )
+            )
+            for _ in range(chance.randrange(3)):
+                item[chance.randrange(len(item) - 1)] = chance.choice(
+                    (0, 1, 2, 0x30, 0x7F, 0x80, len(item) - 3, chance.randrange(256))
+                )
+            numbers = item_numbers(item)
+            holds = numbers is not None and encoded_numbers(*numbers) == item and len(item) <= signatures.LONGEST
+            if signatures.is_strict_der(bytes(item)) != holds:
+                self.check(False, f"strict DER of {item.hex()}")
+            strict += holds
+        self.check(0 < strict < MUTATIONS, "encodings that are strict and others")
 
-def hashes(count):
-    """RIPEMD-160 of two texts, as its authors print them, and HASH160 of each length by both hashers, where this
-    Python has one.
-    """
-    for given, wanted in (
-        (b"", "9c1185a5c5e9fc54612808977ee8f548b2258d31"),
-        (b"abc", "8eb208f7e05d987a9b044a8e98c6b087f15a0bfc"),
-    ):
-        count.check(ripemd160(given).hex() == wanted, f"RIPEMD-160 of {given}")
-    count.check(all(hash160(bytes(it)) == ripemd160(sha256(bytes(it))) for it in range(200)), "HASH160")
+    def test_drawn_cases(self):
+        """The judge with tokens and a run by the rules of consensus with signatures agree, but for the rules that are
+        stricter. Each kind of answer comes.
+        """
+        chance, seen = random.Random("drawn"), {}
+        for _ in range(TRANSACTIONS):
+            for it in judgement.judge(*drawn_case(chance), Drawn(), self.trace):
+                kind = it["answer"], it.get("reason") if it["answer"] != "stops" else None
+                seen[kind] = seen.get(kind, 0) + 1
+                if it.get("reason") in ("Disagreement", "DigestDiffers"):
+                    self.check(False, f"a script at random: {it}")
+        wanted = [("clean", None), ("stops", None)]
+        wanted += [("not judged", it) for it in ("MeasuredSignature", "AmbiguousItem", "NotListed")]
+        wanted += [
+            ("stricter here", it)
+            for it in ("FailedCheck Number", "FailedCheck KeyForm", "FailedCheck TokenForm", "OpenBranch")
+        ]
+        self.check(all(seen.get(it, 0) for it in wanted), f"answers of scripts at random: {seen}")
 
+    def test_bounds(self):
+        """What is looked at is bounded over all inputs: two of them, and each alone is within the bound."""
+        signature, keys = encoded_numbers(1, 1), [bytes([2]) + place.to_bytes(32, "big") for place in range(1, 251)]
+        checked = [[signature] * 300 + keys + [b"\x51" + b"\x75" * place + b"\x51"] for place in (1, 2)]
+        # seven branches have too many paths to be listed
+        branched = [[(b"\x63" * 7 + b"\x68" * 7 + b"\x51" * place)] for place in (9_200, 9_201)]
+        for witnesses, reasons in (
+            (checked, ["NotOneValue", "TooManyChecks"]),
+            (branched, ["MissingOperand", "TooManySteps"]),
+        ):
+            inputs = [Input(bytes(32) + place.to_bytes(4, "little"), b"", 0, it) for place, it in enumerate(witnesses)]
+            spent = [Output(5, b"\x00\x20" + sha256(it[-1])) for it in witnesses]
+            found = judgement.judge(Transaction(2, inputs, [Output(1, b"\x51")], 0), spent, Drawn(), self.trace)
+            self.check(
+                [it["reason"] for it in found] == reasons, f"{reasons}, and not {[it['reason'] for it in found]}"
+            )
+        # 20 items, each of 520 bytes, and 201 copies of one: 36 times 114,920 bytes are within the bound
+        copied = [
+            judgement.Case(place, Input(bytes(36), b"", 0), None, b"\x76" * 201, [bytes(520)] * 20)
+            for place in range(37)
+        ]
+        judgement.attempt(copied, judgement.within_budget, judgement.Budget())
+        self.check(
+            [it.settled and it.settled.reason for it in copied] == [None] * 36 + ["TooMuchStack"], "stacks with copies"
+        )
 
-def all_of(count, trace):
-    hashes(count)
-    judge_bounds(count, trace)
-    read_hostile_bytes(count)
-    strict_encodings(count)
-    judge_drawn_cases(count, trace)
+    def test_hashes(self):
+        """RIPEMD-160 of two texts, as its authors print them, and HASH160 of each length by both hashers, where this
+        Python has one.
+        """
+        for given, wanted in (
+            (b"", "9c1185a5c5e9fc54612808977ee8f548b2258d31"),
+            (b"abc", "8eb208f7e05d987a9b044a8e98c6b087f15a0bfc"),
+        ):
+            self.check(ripemd160(given).hex() == wanted, f"RIPEMD-160 of {given}")
+        self.check(all(hash160(bytes(it)) == ripemd160(sha256(bytes(it))) for it in range(200)), "HASH160")

@@ -10,124 +10,14 @@ from real.lib.ripemd160 import ripemd160
 from real.lib.signer import sign
 from real.lib.transaction import Input, Output, Transaction, compact_size, hash160, sha256, text
 from real.tests import bolt3, spend_requests
+from real.tests.checks import CurveCase
 
 # the order of the curve (SEC 2)
 ORDER = int("fffffffffffffffffffffffffffffffebaaedce6af48a03bbfd25e8cd0364141", 16)
 
 
-def spend_again(count, curve, trace):
-    """Each HTLC transaction of the appendix from its plan: made, signed by both keys, finished. The signatures are
-    those of the appendix.
-    """
-    told = bolt3.read()
-    privates = [bytes.fromhex(told["terms"]["keys"][it]) for it in ("local_htlc_privkey", "remote_htlc_privkey")]
-    wanted = {name: (transaction.bytes(), spent) for name, transaction, spent, _, _ in bolt3.htlc_transactions(told)}
-    spend_key_hashes(count, privates, curve, trace)
-    for case in told["cases"]:
-        for it in case["htlc_transactions"]:
-            plan = json.dumps(bolt3.plan(told, case["name"], it["htlc"]))
-            made = assembly.make(read_plan(plan)).base64()
-            signed = sign(psbt.read(psbt.decoded_bytes(made.encode())), privates, curve).base64()
-            finished = assembly.finish(read_plan(plan), psbt.read(psbt.decoded_bytes(signed.encode())), curve)
-            raw, spent = wanted[f"{case['name']}: HTLC {it['htlc']}"]
-            count.check(finished.bytes() == raw, f"{case['name']}: HTLC {it['htlc']}, signed anew")
-            count.check(
-                judgement.judge(finished, [spent], curve, trace)[0]["answer"] == "clean",
-                f"{case['name']}: HTLC {it['htlc']}, judged",
-            )
-            refuse_faults(count, plan, signed, privates, curve)
-            finish_final_witness(count, plan, finished.inputs[0].witness, curve)
-            tell_preimage(count, told, it, made)
-
-
-def spend_key_hashes(count, privates, curve, trace):
-    """An output to the hash of a key and one to a script, whose keys are in the witness and in the script, in one
-    transaction.
-    """
-    keys = [curve.public_key(it) for it in privates]
-    program, script = b"\x00\x14" + hash160(keys[0]), push_of(keys[1]) + b"\xac"
-    spent = [Output(7_000, program), Output(8_000, b"\x00\x20" + sha256(script))]
-    transaction = Transaction(
-        2, [Input(bytes([5 + it]) * 36, b"", 7) for it in range(2)], [Output(14_000, program)], 0
-    )
-    inputs = []
-    for index, (output, code, items) in enumerate(
-        zip(spent, (scripts.key_script(program), script), ([None, keys[0].hex()], [None, script.hex()]))
-    ):
-        wanted = {"item": 0, "key": keys[index].hex(), "digest": transaction.digest(index, code, output.value).hex()}
-        inputs.append(
-            {
-                "value": output.value,
-                "program": output.program.hex(),
-                "script": code.hex(),
-                "witness": items,
-                "signatures": [wanted],
-            }
-        )
-    plan = json.dumps({"transaction": transaction.stripped_bytes().hex(), "inputs": inputs})
-    made = assembly.make(read_plan(plan))
-    count.check(
-        [psbt.key_of(psbt.WITNESS_SCRIPT) in it for it in made.inputs] == [False, True],
-        "a witness script where there is one",
-    )
-    signed = sign(made, privates, curve)
-    count.check(
-        [len(psbt.with_kind(it, psbt.PARTIAL_SIG)) for it in signed.inputs] == [1, 1],
-        "a signature for each input's own key",
-    )
-    found = judgement.judge(assembly.finish(read_plan(plan), signed, curve), spent, curve, trace)
-    count.check([it["answer"] for it in found] == ["clean", "clean"], f"the hash of a key, and a script: {found}")
-
-
-def spend_request(count, curve, trace):
-    """What the program `spend` makes is signed by the peer's key, finished and judged: an HTLC by its preimage, and
-    one after its timeout.
-    """
-    told = bolt3.read()
-    plan, _ = spend_requests.spend_answer(spend_requests.line(next(spend_requests.requests(told))[0]))
-    signed = sign(assembly.make(read_plan(plan)), [bytes.fromhex(told["terms"]["keys"]["remote_htlc_privkey"])], curve)
-    finished = assembly.finish(read_plan(plan), signed, curve)
-    spent = [it.output for it in read_plan(plan).inputs]
-    found = judgement.judge(finished, spent, curve, trace)
-    count.check(
-        [(it["answer"], it.get("path")) for it in found] == [("clean", 2), ("clean", 2)],
-        f"a spend of {len(spent)} outputs: {found}",
-    )
-    weight = 3 * len(finished.stripped_bytes()) + len(finished.bytes())
-    count.check(weight <= json.loads(plan)["weight"] < weight + 8, f"a weight of {weight}")
-
-
 def push_of(key):
     return bytes([len(key)]) + key
-
-
-def finish_final_witness(count, plan, witness, curve):
-    """A final witness in another order is put back into the order of the plan; one that lacks a signature is refused."""
-    for items, holds in ((list(reversed(witness)), True), ([*witness[:1], *witness[2:]], False)):
-        found = assembly.make(read_plan(plan))
-        found.inputs[0][psbt.key_of(psbt.FINAL_SCRIPTWITNESS)] = compact_size(len(items)) + b"".join(map(text, items))
-        if holds:
-            count.check(
-                assembly.finish(read_plan(plan), found, curve).inputs[0].witness == witness,
-                "a final witness in another order",
-            )
-        else:
-            count.check(
-                is_refused_as(
-                    "MissingSignature 0", lambda found=found: assembly.finish(read_plan(plan), found, curve)
-                ),
-                "a final witness without a signature",
-            )
-
-
-def tell_preimage(count, told, htlc, made):
-    """The preimage of an HTLC-success transaction stands beside the hash that the script has: RIPEMD-160 of the
-    payment hash.
-    """
-    found = psbt.with_kind(psbt.read(psbt.decoded_bytes(made.encode())).inputs[0], psbt.HASH160)
-    payment = next(it for it in told["htlcs"] if it["id"] == htlc["htlc"])
-    pair = {ripemd160(bytes.fromhex(payment["payment_hash"])): bytes.fromhex(payment["preimage"])}
-    count.check(found == (pair if htlc["kind"] == "success" else {}), "a preimage that is told")
 
 
 def is_refused_as(name, make):
@@ -155,32 +45,160 @@ def with_high_s(signature):
     return b"\x30" + push_of(body) + signature[-1:]
 
 
-def refuse_faults(count, plan, signed, privates, curve):
-    """Signatures that are missing, changed, of another hash type, or for a key that nobody asked for are refused by
-    name.
-    """
-    other = {**json.loads(plan)}
-    other["transaction"] = other["transaction"][:-8] + "07000000"
-    tried = [
-        ("MissingSignature 0", lambda: assembly.finish(read_plan(plan), assembly.make(read_plan(plan)), curve)),
-        (
-            "BadSignature 0",
-            lambda: assembly.finish(read_plan(plan), with_signatures(signed, lambda it: it[:-1]), curve),
-        ),
-        (
-            "BadSignature 0",
-            lambda: assembly.finish(
-                read_plan(plan), with_signatures(signed, lambda it: it[:-2] + bytes([it[-2] ^ 1]) + it[-1:]), curve
+class PsbtTest(CurveCase):
+    """Each HTLC transaction of the appendix, the hash of a key, and what spend makes."""
+
+    def test_appendix(self):
+        """Each HTLC transaction of the appendix from its plan: made, signed by both keys, finished. The signatures are
+        those of the appendix.
+        """
+        told = bolt3.read()
+        privates = [bytes.fromhex(told["terms"]["keys"][it]) for it in ("local_htlc_privkey", "remote_htlc_privkey")]
+        wanted = {
+            name: (transaction.bytes(), spent) for name, transaction, spent, _, _ in bolt3.htlc_transactions(told)
+        }
+        self.spend_key_hashes(privates)
+        for case in told["cases"]:
+            for it in case["htlc_transactions"]:
+                plan = json.dumps(bolt3.plan(told, case["name"], it["htlc"]))
+                made = assembly.make(read_plan(plan)).base64()
+                signed = sign(psbt.read(psbt.decoded_bytes(made.encode())), privates, self.curve).base64()
+                finished = assembly.finish(read_plan(plan), psbt.read(psbt.decoded_bytes(signed.encode())), self.curve)
+                raw, spent = wanted[f"{case['name']}: HTLC {it['htlc']}"]
+                self.check(finished.bytes() == raw, f"{case['name']}: HTLC {it['htlc']}, signed anew")
+                self.check(
+                    judgement.judge(finished, [spent], self.curve, self.trace)[0]["answer"] == "clean",
+                    f"{case['name']}: HTLC {it['htlc']}, judged",
+                )
+                self.refuse_faults(plan, signed, privates)
+                self.finish_final_witness(plan, finished.inputs[0].witness)
+                self.tell_preimage(told, it, made)
+
+    def spend_key_hashes(self, privates):
+        """An output to the hash of a key and one to a script, whose keys are in the witness and in the script, in one
+        transaction.
+        """
+        keys = [self.curve.public_key(it) for it in privates]
+        program, script = b"\x00\x14" + hash160(keys[0]), push_of(keys[1]) + b"\xac"
+        spent = [Output(7_000, program), Output(8_000, b"\x00\x20" + sha256(script))]
+        transaction = Transaction(
+            2, [Input(bytes([5 + it]) * 36, b"", 7) for it in range(2)], [Output(14_000, program)], 0
+        )
+        inputs = []
+        for index, (output, code, items) in enumerate(
+            zip(spent, (scripts.key_script(program), script), ([None, keys[0].hex()], [None, script.hex()]))
+        ):
+            wanted = {
+                "item": 0,
+                "key": keys[index].hex(),
+                "digest": transaction.digest(index, code, output.value).hex(),
+            }
+            inputs.append(
+                {
+                    "value": output.value,
+                    "program": output.program.hex(),
+                    "script": code.hex(),
+                    "witness": items,
+                    "signatures": [wanted],
+                }
+            )
+        plan = json.dumps({"transaction": transaction.stripped_bytes().hex(), "inputs": inputs})
+        made = assembly.make(read_plan(plan))
+        self.check(
+            [psbt.key_of(psbt.WITNESS_SCRIPT) in it for it in made.inputs] == [False, True],
+            "a witness script where there is one",
+        )
+        signed = sign(made, privates, self.curve)
+        self.check(
+            [len(psbt.with_kind(it, psbt.PARTIAL_SIG)) for it in signed.inputs] == [1, 1],
+            "a signature for each input's own key",
+        )
+        found = judgement.judge(assembly.finish(read_plan(plan), signed, self.curve), spent, self.curve, self.trace)
+        self.check([it["answer"] for it in found] == ["clean", "clean"], f"the hash of a key, and a script: {found}")
+
+    def test_request(self):
+        """What the program `spend` makes is signed by the peer's key, finished and judged: an HTLC by its preimage,
+        and one after its timeout.
+        """
+        told = bolt3.read()
+        plan, _ = spend_requests.spend_answer(spend_requests.line(next(spend_requests.requests(told))[0]))
+        signed = sign(
+            assembly.make(read_plan(plan)), [bytes.fromhex(told["terms"]["keys"]["remote_htlc_privkey"])], self.curve
+        )
+        finished = assembly.finish(read_plan(plan), signed, self.curve)
+        spent = [it.output for it in read_plan(plan).inputs]
+        found = judgement.judge(finished, spent, self.curve, self.trace)
+        self.check(
+            [(it["answer"], it.get("path")) for it in found] == [("clean", 2), ("clean", 2)],
+            f"a spend of {len(spent)} outputs: {found}",
+        )
+        weight = 3 * len(finished.stripped_bytes()) + len(finished.bytes())
+        self.check(weight <= json.loads(plan)["weight"] < weight + 8, f"a weight of {weight}")
+
+    def finish_final_witness(self, plan, witness):
+        """A final witness in another order is put back into the order of the plan; one that lacks a signature is
+        refused.
+        """
+        for items, holds in ((list(reversed(witness)), True), ([*witness[:1], *witness[2:]], False)):
+            found = assembly.make(read_plan(plan))
+            found.inputs[0][psbt.key_of(psbt.FINAL_SCRIPTWITNESS)] = compact_size(len(items)) + b"".join(
+                map(text, items)
+            )
+            if holds:
+                self.check(
+                    assembly.finish(read_plan(plan), found, self.curve).inputs[0].witness == witness,
+                    "a final witness in another order",
+                )
+            else:
+                self.check(
+                    is_refused_as(
+                        "MissingSignature 0", lambda found=found: assembly.finish(read_plan(plan), found, self.curve)
+                    ),
+                    "a final witness without a signature",
+                )
+
+    def tell_preimage(self, told, htlc, made):
+        """The preimage of an HTLC-success transaction stands beside the hash that the script has: RIPEMD-160 of the
+        payment hash.
+        """
+        found = psbt.with_kind(psbt.read(psbt.decoded_bytes(made.encode())).inputs[0], psbt.HASH160)
+        payment = next(it for it in told["htlcs"] if it["id"] == htlc["htlc"])
+        pair = {ripemd160(bytes.fromhex(payment["payment_hash"])): bytes.fromhex(payment["preimage"])}
+        self.check(found == (pair if htlc["kind"] == "success" else {}), "a preimage that is told")
+
+    def refuse_faults(self, plan, signed, privates):
+        """Signatures that are missing, changed, of another hash type, or for a key that nobody asked for are refused
+        by name.
+        """
+        other = {**json.loads(plan)}
+        other["transaction"] = other["transaction"][:-8] + "07000000"
+        tried = [
+            (
+                "MissingSignature 0",
+                lambda: assembly.finish(read_plan(plan), assembly.make(read_plan(plan)), self.curve),
             ),
-        ),
-        ("HighS 0", lambda: assembly.finish(read_plan(plan), with_signatures(signed, with_high_s), curve)),
-        (
-            "HashType 0",
-            lambda: assembly.finish(read_plan(plan), with_signatures(signed, lambda it: it[:-1] + b"\x83"), curve),
-        ),
-        ("OtherDigest 0", lambda: read_plan(json.dumps(other))),
-        ("BadKey 0", lambda: sign(assembly.make(read_plan(plan)), [bytes(32), *privates], curve)),
-        ("UnusedKey 2", lambda: sign(assembly.make(read_plan(plan)), [*privates, b"\x07" * 32], curve)),
-    ]
-    for name, make in tried:
-        count.check(is_refused_as(name, make), f"a fault that is to be refused as {name}")
+            (
+                "BadSignature 0",
+                lambda: assembly.finish(read_plan(plan), with_signatures(signed, lambda it: it[:-1]), self.curve),
+            ),
+            (
+                "BadSignature 0",
+                lambda: assembly.finish(
+                    read_plan(plan),
+                    with_signatures(signed, lambda it: it[:-2] + bytes([it[-2] ^ 1]) + it[-1:]),
+                    self.curve,
+                ),
+            ),
+            ("HighS 0", lambda: assembly.finish(read_plan(plan), with_signatures(signed, with_high_s), self.curve)),
+            (
+                "HashType 0",
+                lambda: assembly.finish(
+                    read_plan(plan), with_signatures(signed, lambda it: it[:-1] + b"\x83"), self.curve
+                ),
+            ),
+            ("OtherDigest 0", lambda: read_plan(json.dumps(other))),
+            ("BadKey 0", lambda: sign(assembly.make(read_plan(plan)), [bytes(32), *privates], self.curve)),
+            ("UnusedKey 2", lambda: sign(assembly.make(read_plan(plan)), [*privates, b"\x07" * 32], self.curve)),
+        ]
+        for name, make in tried:
+            self.check(is_refused_as(name, make), f"a fault that is to be refused as {name}")

@@ -4,8 +4,9 @@ what is wanted of real/judge.
 The answers follow from the sheet of written_ways.py, which is worked by hand from the pages and the standards: nothing
 here runs a script or asks a judge. Tested, not proved.
 """
-
-from real.tests import written_faults as faults, written_specials, written_spends, written_ways as ways
+from real.tests import written_faults as faults
+from real.tests import written_specials, written_spends
+from real.tests import written_ways as ways
 from real.tests.written_ways import corrected_row
 
 LOCKED = ("to_local by delay", "received by timeout")  # these have faults of locks in more variants
