@@ -2,15 +2,20 @@
 Tested, not proved.
 """
 from real.lib import psbt, scripts, signatures
+from real.lib.curve import AnyCurve
 from real.lib.errors import Refused
+from real.lib.plan import Plan
+from real.lib.plan import Spent
+from real.lib.plan import Wanted
 from real.lib.psbt import Partial, key_of
+from real.lib.transaction import Transaction
 from real.lib.transaction import hash160, read_transaction
 
 # signatures of final witnesses times those that are wanted of their input, in all
 MAX_CHECKS = 100_000
 
 
-def input_fields(index, spent, outpoint):
+def input_fields(index: int, spent: Spent, outpoint: bytes) -> dict[bytes, bytes]:
     """The fields of an input: what it spends, the hash type, the script, the keys' derivations, and preimages whose
     hash the script has.
     """
@@ -39,7 +44,7 @@ def input_fields(index, spent, outpoint):
     return fields
 
 
-def make(plan):
+def make(plan: Plan) -> Partial:
     """The partially signed transaction of a plan, without a signature."""
     inputs = [
         input_fields(index, it, given.outpoint)
@@ -53,7 +58,7 @@ def make(plan):
     )
 
 
-def checked_signature(wanted, item, curve, place):
+def checked_signature(wanted: Wanted, item: bytes, curve: AnyCurve, place: str) -> bytes:
     """A signature of the wanted key over the wanted digest, with hash type ALL and a low s."""
     if not signatures.is_strict_der(item):
         raise Refused(f"BadSignature {place}")
@@ -66,14 +71,16 @@ def checked_signature(wanted, item, curve, place):
     return item
 
 
-def formed_items(fields):
+def formed_items(fields: dict[bytes, bytes]) -> list[bytes]:
     """The items of an input's final witness that have the form of a signature with hash type ALL."""
     return [it for it in psbt.final_witness(fields) or [] if signatures.is_strict_der(it) and it[-1] == signatures.ALL]
 
 
-def fill(index, spent, fields, curve):
+def fill(index: int, spent: Spent, fields: dict[bytes, bytes], curve: AnyCurve) -> list[bytes]:
     """The witness of an input, with its signatures in their places."""
-    witness, partials, formed = list(spent.witness), psbt.with_kind(fields, psbt.PARTIAL_SIG), formed_items(fields)
+    # the plan has nothing in the places of its wanted signatures
+    witness = [it or b"" for it in spent.witness]
+    partials, formed = psbt.with_kind(fields, psbt.PARTIAL_SIG), formed_items(fields)
     for it in spent.wanted:
         found = partials.get(it.key)
         if found is None:
@@ -84,7 +91,7 @@ def fill(index, spent, fields, curve):
     return witness
 
 
-def check_fields(index, spent, partially):
+def check_fields(index: int, spent: Spent, partially: Partial) -> None:
     """Whether an input tells the same output, script and hash type as the plan, and no field of taproot."""
     fields = partially.inputs[index]
     taproot = psbt.taproot_fields(fields)
@@ -100,7 +107,7 @@ def check_fields(index, spent, partially):
         raise Refused(f"HashType {index}")
 
 
-def finish(plan, partially, curve):
+def finish(plan: Plan, partially: Partial, curve: AnyCurve) -> Transaction:
     """The signed transaction of a plan, with the signatures of a partially signed one."""
     if partially.transaction.stripped_bytes() != plan.transaction.stripped_bytes():
         raise Refused("OtherSpend")

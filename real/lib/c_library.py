@@ -4,6 +4,8 @@ are asked is tested, not proved.
 ENFORCE_LIBRARY names the shared library. Without it the one of out/library is taken, where `./enforce
 --install-library out/library` put it.
 """
+from types import ModuleType
+from typing import Any
 import os
 import sys
 
@@ -14,7 +16,7 @@ CONSTANTS = ("hash", "is")
 NUMBERS = ("size", "lock", "age")
 
 
-def binding():
+def binding() -> ModuleType | None:
     """The Python binding over a library that is here, or None."""
     library = os.environ.get("ENFORCE_LIBRARY") or INSTALLED
     if not os.path.exists(library):
@@ -30,18 +32,18 @@ def binding():
     return enforce
 
 
-def told_fact(fact):
+def told_fact(fact: Any) -> dict[str, Any]:
     """A fact in the members of docs/TRACE.md that are looked at here."""
     value = fact.number if fact.kind in NUMBERS else fact.constant.hex() or None if fact.kind in CONSTANTS else None
     return {"kind": fact.kind, "holds": fact.holds, "slots": list(fact.slots), "value": value}
 
 
-def told_path(path):
+def told_path(path: Any) -> dict[str, Any]:
     members = {"arity": path.arity, "counted": path.counted, "height": path.height, "lock": path.lock, "age": path.age}
     return {**members, "facts": [told_fact(it) for it in path.facts]}
 
 
-def listing_of(enforce, script):
+def listing_of(enforce: Any, script: bytes) -> dict[str, Any]:
     """What is listed of a script, in the members of docs/TRACE.md that are looked at here."""
     try:
         return {"paths": [told_path(it) for it in enforce.paths(script)]}
@@ -49,7 +51,7 @@ def listing_of(enforce, script):
         return {"refused": str(refused)}
 
 
-def is_same(one, other):
+def is_same(one: Any, other: Any) -> bool:
     """Whether the library tells of a script what `trace` tells, in the members that the library has."""
     if isinstance(one, dict):
         return all(name in other and is_same(value, other[name]) for name, value in one.items())

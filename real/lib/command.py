@@ -1,4 +1,10 @@
 """How a tool of this folder begins and ends: its input, its words, and its status. Tested, not proved."""
+from typing import Literal
+from collections.abc import Iterable
+from typing import Any
+from collections.abc import Iterator
+from collections.abc import Callable
+from real.lib.curve import AnyCurve
 import os
 import sys
 
@@ -9,7 +15,7 @@ REFUSED, WRONG_WORDS, NOT_RUN, LEFT = 1, 2, 3, 4
 MAX_INPUT = 4_194_304
 
 
-def read_input():
+def read_input() -> bytes:
     """All of standard input, within its limit."""
     if sys.stdin is None:
         raise Refused("ReadFailed")
@@ -22,7 +28,7 @@ def read_input():
     return data
 
 
-def say_notes(notes):
+def say_notes(notes: Iterable[str]) -> None:
     """Notes on standard error. Where that can't be written, nothing else changes."""
     try:
         for it in notes:
@@ -31,7 +37,7 @@ def say_notes(notes):
         pass
 
 
-def curve_of(record, instead):
+def curve_of(record: str | None, instead: str) -> AnyCurve:
     """The library; or the record, with a line that says what is not done instead."""
     if record is None:
         return Curve()
@@ -40,14 +46,14 @@ def curve_of(record, instead):
     return found
 
 
-def record_of(words):
+def record_of(words: list[str]) -> str | Literal[False] | None:
     """The record that the last words name: None where there are none, False where they are others."""
     if not words:
         return None
     return words[1] if len(words) == 2 and words[0] == "--recorded" else False
 
 
-def help_or_usage(words, text, usage):
+def help_or_usage(words: list[str], text: str | None, usage: str) -> int:
     """The help, or the usage for wrong words, with the status."""
     if words == ["--help"]:
         return ends(lambda: print(text, end="") or 0)
@@ -55,7 +61,7 @@ def help_or_usage(words, text, usage):
     return WRONG_WORDS
 
 
-def ends(run, refusal="refused {}".format):
+def ends(run: Callable[[], int], refusal: Callable[[Refused], str] = "refused {}".format) -> int:
     """Runs a tool to its end, and gives its status. A refusal is one line on standard output, with its note on
     standard error; a failed write is a line there, unless nobody reads any more.
     """

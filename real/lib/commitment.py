@@ -1,8 +1,9 @@
 """The outputs of a revoked commitment, by scripts that are built anew from its keys (BOLT 3, "Commitment Transaction
 Outputs"). Tested, not proved.
 """
+from collections.abc import Iterator
+from real.lib.curve import AnyCurve
 from dataclasses import dataclass
-from typing import List, Optional
 
 from real.lib import derivation, scripts
 from real.lib.errors import Refused
@@ -46,16 +47,16 @@ class Known:
     kind: str
     program: bytes
     script: bytes
-    items: List[bytes]
+    items: list[bytes]
     key: bytes
-    htlc: Optional[Htlc] = None
+    htlc: Htlc | None = None
 
 
-def push(item):
+def push(item: bytes) -> bytes:
     return bytes([len(item)]) + item
 
 
-def number(value):
+def number(value: int) -> bytes:
     """The push of a number, minimally encoded."""
     if value == 0:
         return b"\x00"
@@ -64,7 +65,7 @@ def number(value):
     return push(value.to_bytes(value.bit_length() // 8 + 1, "little"))
 
 
-def to_local_script(keys, delay_blocks):
+def to_local_script(keys: Keys, delay_blocks: int) -> bytes:
     return (
         b"\x63"
         + push(keys.revocation)
@@ -76,7 +77,7 @@ def to_local_script(keys, delay_blocks):
     )
 
 
-def htlc_script(keys, htlc, channel_type=STATIC_REMOTEKEY):
+def htlc_script(keys: Keys, htlc: Htlc, channel_type: str = STATIC_REMOTEKEY) -> bytes:
     end = HTLC_ENDS[channel_type]
     start = (
         b"\x76\xa9"
@@ -92,11 +93,11 @@ def htlc_script(keys, htlc, channel_type=STATIC_REMOTEKEY):
     return start + b"\x63\xa9" + payment + b"\x88\x52\x7c" + push(keys.local_htlc) + b"\x52\xae\x67\x75" + timeout
 
 
-def program_of(script):
+def program_of(script: bytes) -> bytes:
     return b"\x00\x20" + sha256(script)
 
 
-def named_outputs(keys, funding_keys):
+def named_outputs(keys: Keys, funding_keys: list[bytes]) -> Iterator[tuple[bytes, str, int | None]]:
     """What an output is that is not taken from a channel with anchors, by its program, and the value that it has to
     have; None where it may have any.
     """
@@ -105,7 +106,9 @@ def named_outputs(keys, funding_keys):
         yield program_of(push(key) + b"\xac\x73\x64\x60\xb2\x68"), "anchor", ANCHOR_SAT
 
 
-def known_outputs(keys, delay_blocks, htlcs, channel_type=STATIC_REMOTEKEY):
+def known_outputs(
+    keys: Keys, delay_blocks: int, htlcs: list[Htlc], channel_type: str = STATIC_REMOTEKEY
+) -> Iterator[Known]:
     """The outputs whose programs are known, in the order in which a program is compared with theirs."""
     script, payment = to_local_script(keys, delay_blocks), b"\x00\x14" + hash160(keys.remote)
     yield Known("to_local", program_of(script), script, [b"\x01"], keys.revocation)
@@ -122,18 +125,20 @@ def known_outputs(keys, delay_blocks, htlcs, channel_type=STATIC_REMOTEKEY):
         )
 
 
-def table_of(keys, delay_blocks, htlcs, channel_type=STATIC_REMOTEKEY):
+def table_of(
+    keys: Keys, delay_blocks: int, htlcs: list[Htlc], channel_type: str = STATIC_REMOTEKEY
+) -> dict[bytes, Known]:
     """What is known of an output, by its program. The script of an offered HTLC has no expiry, so those with one hash
     have one program, and nothing tells which output is whose: of these the HTLC that expires first is kept, so that no
     deadline is too late.
     """
-    found = {}
+    found: dict[bytes, Known] = {}
     for it in known_outputs(keys, delay_blocks, sorted(htlcs, key=lambda it: it.expiry_height), channel_type):
         found.setdefault(it.program, it)
     return found
 
 
-def keys_of(curve, bases, point, is_legacy):
+def keys_of(curve: AnyCurve, bases: dict[str, bytes], point: bytes, is_legacy: bool) -> Keys:
     """The keys of the commitment with this per-commitment point. The remote key is the payment base point itself,
     unless the channel is older than static_remotekey.
     """
@@ -146,7 +151,9 @@ def keys_of(curve, bases, point, is_legacy):
     )
 
 
-def private_keys_of(curve, bases, privates, secret, point, is_legacy):
+def private_keys_of(
+    curve: AnyCurve, bases: dict[str, bytes], privates: list[bytes], secret: bytes, point: bytes, is_legacy: bool
+) -> tuple[dict[bytes, bytes], list[int]]:
     """The private keys that sign penalties, by their public keys: from the private keys of the revocation and payment
     base points, in any order. One of the two may be missing. Beside them the places of keys that are that of neither
     base point; where all are, the first is refused.

@@ -1,8 +1,12 @@
 """The number of a commitment, which its lock time and sequence have (BOLT 3, "Commitment Transaction"). Tested, not
 proved.
 """
+from typing import Any
+from collections.abc import Iterator
 from real.lib.errors import Refused
+from real.lib.plan import Shape
 from real.lib.plan import read_object
+from real.lib.transaction import Transaction
 from real.lib.transaction import read_transaction, sha256
 
 # the first bytes of lock time and sequence; their other three have the lower and the upper half of the number
@@ -12,27 +16,27 @@ LAST = 2 ** (8 * NUMBER_SIZE) - 1
 DOUBTED = 2**32
 
 
-def read_base(shape, name):
+def read_base(shape: Shape, name: str) -> bytes:
     found = shape.bytes(name, 33)
     if found[0] not in (2, 3):
         raise shape.refusal(name)
     return found
 
 
-def mask_of(opener_payment, other_payment):
+def mask_of(opener_payment: bytes, other_payment: bytes) -> int:
     """What the number is masked with: the last bytes of the SHA-256 of both payment base points, first that of the
     side that opened the channel.
     """
     return int.from_bytes(sha256(opener_payment + other_payment)[-NUMBER_SIZE:], "big")
 
 
-def has_form(transaction):
+def has_form(transaction: Transaction) -> bool:
     """Whether a transaction has the form of a commitment: one input, and the first bytes of lock time and sequence."""
     marks = transaction.lock_time >> HALF, transaction.inputs[0].sequence >> HALF
     return len(transaction.inputs) == 1 and marks == (LOCK_TIME_MARK, SEQUENCE_MARK)
 
 
-def number_of(transaction, mask):
+def number_of(transaction: Transaction, mask: int) -> int:
     """The commitment number. A transaction whose lock time and sequence have another form, or that has more inputs, is
     no commitment.
     """
@@ -42,7 +46,7 @@ def number_of(transaction, mask):
     return (upper << HALF | lower) ^ mask
 
 
-def notes_of(found):
+def notes_of(found: dict[str, Any]) -> Iterator[str]:
     """A number that no channel reaches comes out where a base point is another channel's, or the two are changed
     round.
     """
@@ -53,7 +57,7 @@ def notes_of(found):
         )
 
 
-def commitment_numbers(given):
+def commitment_numbers(given: str | bytes) -> dict[str, Any]:
     """What is said of the transaction that a JSON text has: its number, and that of its per-commitment secret, which
     counts down from the last (BOLT 3, "Per-commitment Secret Requirements").
     """

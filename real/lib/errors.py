@@ -6,7 +6,7 @@ proved.
 class Refused(Exception):
     """An input that is refused, by its name and the numbers that it carries; and a note in words, if there is one."""
 
-    def __init__(self, name, note=None):
+    def __init__(self, name: str, note: str | None = None) -> None:
         super().__init__(name)
         self.note = note
 
@@ -15,7 +15,7 @@ class NotRun(Exception):
     """Something that is needed is missing here."""
 
 
-def bytes_of(text):
+def bytes_of(text: str) -> bytes:
     """The bytes of a text in hexadecimal, without blanks."""
     try:
         if not text.isascii() or any(it.isspace() for it in text):

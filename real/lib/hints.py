@@ -12,14 +12,14 @@ WALLET_KEY = re.compile(r"[59KLc][1-9A-HJ-NP-Za-km-z]{50,51}", re.ASCII)
 SATOSHIS = 100_000_000
 
 
-def is_hex(word):
+def is_hex(word: str) -> bool:
     try:
         return bool(bytes_of(word))
     except Refused:
         return False
 
 
-def hex_hint(word):
+def hex_hint(word: str) -> str:
     """Why a word is not bytes in hexadecimal."""
     if ADDRESS.fullmatch(word) or ADDRESS.fullmatch(word.lower()):
         return (
@@ -35,7 +35,7 @@ def hex_hint(word):
     return "this is not hexadecimal"
 
 
-def value_hint(word):
+def value_hint(word: str) -> str:
     """Why a word is no value in satoshis."""
     if BITCOINS.fullmatch(word):
         return (
@@ -47,7 +47,7 @@ def value_hint(word):
     return "a value is a whole number of satoshis, in digits alone"
 
 
-def line_hint(line):
+def line_hint(line: str) -> str:
     """Why a line is not a value and a program."""
     words = line.split()
     if len(words) != 2:
@@ -62,7 +62,7 @@ def line_hint(line):
     return hex_hint(program)
 
 
-def key_hint(line):
+def key_hint(line: str) -> str:
     """Why a line is no private key. Nothing of the line is said."""
     if WALLET_KEY.fullmatch(line):
         return "this has the form of a wallet's private key (WIF); 32 bytes in hexadecimal are wanted"
@@ -75,7 +75,7 @@ def key_hint(line):
     return "a private key stands here as 32 bytes in hexadecimal, 64 digits, without 0x"
 
 
-def private_key_of(number, line):
+def private_key_of(number: int, line: str) -> bytes:
     """The private key on line `number` after the first."""
     if len(line) != 64 or not is_hex(line):
         raise Refused(f"BadKey {number}", f"key {number}: {key_hint(line)}")

@@ -1,12 +1,19 @@
 """Reads what real/judge is given: a transaction with the outputs that it spends, as lines or partially signed. Tested,
 not proved.
 """
+from real.lib.curve import Verifier
+from real.lib.trace_program import Trace
+from real.lib.transaction import Transaction
+from typing import Any
 from real.lib import hints, judgement, psbt, scripts, summary
 from real.lib.errors import Refused, bytes_of
 from real.lib.transaction import MAX_MONEY, Output, read_transaction
 
+# a transaction, what it spends (None where that is not known), and what settles some of its inputs
+Given = tuple[Transaction, list[Output | None], dict[int, judgement.Settled]]
 
-def output_of(number, line):
+
+def output_of(number: int, line: str) -> Output:
     """A value and a program, as line `number` of the input has them."""
     words = line.split(" ")
     if (
@@ -21,7 +28,7 @@ def output_of(number, line):
         raise Refused(f"BadLine {number}", f"line {number}: {hints.line_hint(line)}") from None
 
 
-def transaction_bytes(line):
+def transaction_bytes(line: str) -> bytes:
     """The bytes of the transaction, which the first line has."""
     try:
         return bytes_of(line)
@@ -29,7 +36,7 @@ def transaction_bytes(line):
         raise Refused("BadHex", f"line 1, the transaction: {hints.hex_hint(line)}") from None
 
 
-def read_lines(given):
+def read_lines(given: bytes) -> Given:
     """A transaction and the outputs that it spends, as lines."""
     try:
         lines = given.decode("ascii").splitlines()
@@ -49,7 +56,7 @@ def read_lines(given):
     return transaction, [output_of(number, line.strip()) for number, line in enumerate(lines[1:], 2)], {}
 
 
-def unjudged_reason(fields, output):
+def unjudged_reason(fields: dict[bytes, bytes], output: Output | None) -> judgement.Settled | None:
     """Why an input of a partially signed transaction is not judged, or None. Outputs of other kinds than version 0 are
     named later.
     """
@@ -66,7 +73,7 @@ def unjudged_reason(fields, output):
     return None
 
 
-def read_partial(given):
+def read_partial(given: bytes) -> Given:
     """A partially signed transaction, with what it says of the outputs that it spends: None where it says nothing."""
     found = psbt.read(psbt.decoded_bytes(given))
     outputs, settled = [], {}
@@ -81,13 +88,19 @@ def read_partial(given):
     return found.transaction, outputs, settled
 
 
-def read(given):
+def read(given: bytes) -> Given:
     """The transaction, the outputs that it spends, and what settles some inputs. No item may have the form of a token."""
     transaction, spent, settled = (read_partial if psbt.is_partial(given) else read_lines)(given)
     judgement.refuse_tokens(transaction)
     return transaction, spent, settled
 
 
-def answers_of(transaction, spent, settled, curve, trace):
+def answers_of(
+    transaction: Transaction,
+    spent: list[Output | None],
+    settled: dict[int, judgement.Settled],
+    curve: Verifier,
+    trace: Trace,
+) -> list[dict[str, Any]]:
     """What is told of a transaction, and of each of its inputs."""
     return [summary.summary_of(transaction, spent), *judgement.judge(transaction, spent, curve, trace, settled)]

@@ -1,4 +1,6 @@
 """Tells what was found of a transaction and its inputs in lines for people. Tested, not proved."""
+from typing import Any
+
 RELAY = {
     "LOW_S": "a signature has a high s (BIP 146)",
     "NULLFAIL": "a signature that fails is not empty (BIP 146)",
@@ -22,12 +24,12 @@ FAULTS = {
 }
 
 
-def count_of(count, word):
+def count_of(count: int, word: str) -> str:
     """A number of things."""
     return f"{count} {word}{'' if count == 1 else 's'}"
 
 
-def whole_page(it):
+def whole_page(it: dict[str, Any]) -> str:
     fee = "a fee that is not known" if it["fee"] is None else f"a fee of {count_of(it['fee'], 'satoshi')}"
     faults = "".join(f"  fault   {each}: {FAULTS[each]}\n" for each in it["faults"])
     return (
@@ -44,19 +46,19 @@ WAITS = {
 }
 
 
-def wait_line(wait):
+def wait_line(wait: dict[str, int] | None) -> str:
     """How long a transaction or one of its inputs has to wait, if it has."""
     return "".join(f"  when    {WAITS[name].format(number)}\n" for name, number in (wait or {}).items())
 
 
-def signature_line(it):
+def signature_line(it: dict[str, Any]) -> str:
     """An item that is a signature, and of which key."""
     if it["key"]:
         return f"  signed  item {it['item']} by {it['key']}\n"
     return f"  invalid item {it['item']}: a signature of no compressed key that stands here\n"
 
 
-def head(it):
+def head(it: dict[str, Any]) -> str:
     start = f"input {it['input']}, {it['outpoint']},"
     if it["answer"] == "clean":
         on = "its paths are not listed" if it["path"] is None else f"path {it['path']}"
@@ -72,7 +74,7 @@ def head(it):
     )
 
 
-def page(it):
+def page(it: dict[str, Any]) -> str:
     """The lines of one object."""
     if "txid" in it:
         return whole_page(it)

@@ -4,8 +4,15 @@ judge is proved; what is done here is tested, not proved.
 A token names a key and a digest, so it may stand where the library says that a signature is this key's over this
 digest. Where that would change more than the signature, the input is not judged, and is told why.
 """
+from collections.abc import Sequence
+from typing import Any
+from collections.abc import Callable
+from real.lib.consensus import End
+from real.lib.consensus import Spend
+from real.lib.curve import AnyCurve
+from real.lib.curve import Verifier
+from real.lib.trace_program import Trace
 from dataclasses import dataclass, field
-from typing import Dict, List, Optional, Set
 
 from real.lib import consensus, locks, scripts, signatures
 from real.lib.curve import Once
@@ -31,7 +38,7 @@ class Settled(Exception):
     reason, and the reason in words.
     """
 
-    def __init__(self, reason, says, answer="not judged"):
+    def __init__(self, reason: str, says: str, answer: str = "not judged") -> None:
         super().__init__(reason)
         self.reason, self.says, self.answer = reason, says, answer
 
@@ -41,7 +48,7 @@ class Signed:
     """An item that has the form of a signature, and the token that stands in its place."""
 
     item: int
-    key: Optional[bytes]
+    key: bytes | None
     real: bytes
     token: bytes
 
@@ -52,22 +59,28 @@ class Case:
 
     index: int
     given: Input
-    spent: Optional[Output]
+    spent: Output | None
     script: bytes = b""
-    items: List[bytes] = field(default_factory=list)
+    items: list[bytes] = field(default_factory=list)
     digest: bytes = b""
-    formed: List[int] = field(default_factory=list)
-    signed: List[Signed] = field(default_factory=list)
-    settled: Optional[Settled] = None
+    formed: list[int] = field(default_factory=list)
+    signed: list[Signed] = field(default_factory=list)
+    settled: Settled | None = None
 
-    def is_own_script(self):
-        return scripts.has_script(self.spent.program, self.script)
+    @property
+    def output(self) -> Output:
+        """What the input spends, where that is known."""
+        assert self.spent is not None
+        return self.spent
 
-    def slot(self, item):
+    def is_own_script(self) -> bool:
+        return scripts.has_script(self.output.program, self.script)
+
+    def slot(self, item: int) -> int:
         """The slot of an item: counted from the last one, which is the top of the stack."""
         return len(self.items) - 1 - item
 
-    def tokens(self):
+    def tokens(self) -> list[bytes]:
         """The witness with tokens in the place of signatures."""
         found = list(self.given.witness)
         for it in self.signed:
@@ -81,8 +94,8 @@ class Way:
     it.
     """
 
-    signatures: Set[int] = field(default_factory=set)
-    measures: Dict[int, List[dict]] = field(default_factory=dict)
+    signatures: set[int] = field(default_factory=set)
+    measures: dict[int, list[dict]] = field(default_factory=dict)
 
 
 @dataclass
@@ -93,7 +106,7 @@ class Budget:
     steps: int = MAX_STEPS
     stack: int = MAX_STACK
 
-    def take(self, name, count):
+    def take(self, name: str, count: int) -> bool:
         """Whether that much is left, which is then taken."""
         left = getattr(self, name) - count
         if left >= 0:
@@ -101,7 +114,7 @@ class Budget:
         return left >= 0
 
 
-def refuse_tokens(transaction):
+def refuse_tokens(transaction: Transaction) -> None:
     """No given item has the form of a token, whatever it is meant as."""
     for index, it in enumerate(transaction.inputs):
         for place, item in enumerate(it.witness):
@@ -109,7 +122,7 @@ def refuse_tokens(transaction):
                 raise Refused(f"ForgedToken {index} {place}")
 
 
-def other_kind(program):
+def other_kind(program: bytes) -> Settled:
     """Why an output of another kind than version 0 is not judged."""
     if scripts.is_taproot(program):
         return Settled("Taproot", "the output is one of version 1 (BIP 341)")
@@ -125,9 +138,9 @@ def other_kind(program):
     return Settled("LegacyInput", "the output is no witness program (BIP 141)")
 
 
-def find_script(case):
+def find_script(case: Case) -> None:
     """Finds the script and its items, or settles the input."""
-    program, witness = case.spent.program, case.given.witness
+    program, witness = case.output.program, case.given.witness
     if not (scripts.is_key_hash(program) or scripts.is_script_hash(program)):
         raise other_kind(program)
     if case.given.script:
@@ -144,7 +157,7 @@ def find_script(case):
         case.script, case.items = witness[-1], witness[:-1]
 
 
-def stack_of(operations, items):
+def stack_of(operations: list[tuple[int, int, bytes | None]], items: list[bytes]) -> int:
     """How many bytes a stack may have at most, where each item may be a token."""
     sizes = [max(len(it), signatures.TOKEN_SIZE) for it in items if it] + [
         len(pushed) for _, _, pushed in operations if pushed is not None
@@ -152,7 +165,7 @@ def stack_of(operations, items):
     return sum(sizes) + max(sizes, default=0) * sum(opcode == scripts.DUP for _, opcode, _ in operations)
 
 
-def within_budget(case, budget):
+def within_budget(case: Case, budget: Budget) -> None:
     """Names an opcode that the machine does not know, and settles an input whose script has too many paths and
     opcodes, or copies too much.
     """
@@ -179,7 +192,7 @@ def within_budget(case, budget):
             ) from None
 
 
-def way_of(path):
+def way_of(path: dict[str, Any]) -> Way:
     """What a listed path asks of its signatures' slots, and which facts measure a slot."""
     found = Way()
     for fact in path["facts"]:
@@ -191,7 +204,7 @@ def way_of(path):
     return found
 
 
-def holds_of(fact, item):
+def holds_of(fact: dict[str, Any], item: bytes) -> bool:
     """Whether a fact that measures an item holds of it."""
     if fact["kind"] == "size":
         return len(item) == fact["value"]
@@ -200,7 +213,7 @@ def holds_of(fact, item):
     return fact["kind"] == "is" and item.hex() == (fact["value"] or "")
 
 
-def is_measured(way, slot, signed):
+def is_measured(way: Way, slot: int, signed: Signed) -> bool:
     """Whether a path measures a signature: one in its place as a signature at all, another one where its token answers
     otherwise.
     """
@@ -210,7 +223,7 @@ def is_measured(way, slot, signed):
     return any(holds_of(it, signed.real) != holds_of(it, signed.token) for it in facts)
 
 
-def ways_of(case, listing):
+def ways_of(case: Case, listing: dict[str, Any]) -> list[Way]:
     """The listed paths with this number of items. A script whose branches do not close has none."""
     refused = listing.get("refused")
     if refused not in (None, "OpenBranch"):
@@ -221,7 +234,7 @@ def ways_of(case, listing):
     return [way_of(it) for it in listing.get("paths", []) if it["arity"] == len(case.items)]
 
 
-def signing_key(case, place, item, keys, curve):
+def signing_key(case: Case, place: int, item: bytes, keys: list[bytes], curve: Verifier) -> bytes | None:
     """The key for which an item is valid, if there is one."""
     valid = [it for it in keys if curve.verify(it, case.digest, item[:-1])]
     if len(valid) > 1:
@@ -229,7 +242,7 @@ def signing_key(case, place, item, keys, curve):
     return valid[0] if valid else None
 
 
-def find_formed_items(case):
+def find_formed_items(case: Case) -> None:
     """Finds the items that have the form of a signature. A script with a push that is cut does not run."""
     if scripts.pushes(case.script) is None:
         return
@@ -246,7 +259,7 @@ def find_formed_items(case):
             )
 
 
-def find_signatures(case, listing, curve, budget):
+def find_signatures(case: Case, listing: dict[str, Any], curve: Verifier, budget: Budget) -> None:
     """Finds which of these items are signatures, and says where a token can't stand in their place."""
     ways, keys = ways_of(case, listing), signatures.candidate_keys(case.script, case.items)
     if not budget.take("checks", len(case.formed) * len(keys)):
@@ -269,7 +282,7 @@ def find_signatures(case, listing, curve, budget):
         case.signed.append(signed)
 
 
-def within_limits(case, transaction):
+def within_limits(case: Case, transaction: Transaction) -> None:
     """Settles each input of a transaction that the judge does not read."""
     counts = ("TooManyInputs", len(transaction.inputs), MAX_INPUTS), (
         "TooManyOutputs",
@@ -283,7 +296,13 @@ def within_limits(case, transaction):
         raise Settled("TooLongOutput", f"the program of an output has more than {MAX_TEXT} bytes")
 
 
-def prepare(transaction, spent, curve, trace, reasons):
+def prepare(
+    transaction: Transaction,
+    spent: Sequence[Output | None],
+    curve: Verifier,
+    trace: Trace,
+    reasons: dict[int, Settled],
+) -> list[Case]:
     """Each input with its tokens, or settled."""
     cases = [
         Case(index, it, output, settled=reasons.get(index))
@@ -298,14 +317,14 @@ def prepare(transaction, spent, curve, trace, reasons):
     own = [it for it in own if it.settled is None]
     digests = Digests(transaction)
     for case in own:
-        case.digest = digests.digest_of(case.index, case.script, case.spent.value)
+        case.digest = digests.digest_of(case.index, case.script, case.output.value)
     formed = [it for it in own if it.formed]
     for case, listing in zip(formed, trace.paths([it.script for it in formed])):
         attempt([case], find_signatures, listing, curve, budget)
     return cases
 
 
-def attempt(cases, step, *given):
+def attempt(cases: list[Case], step: Callable[..., None], *given: Any) -> None:
     """Takes a step with each case that is not settled yet."""
     for it in cases:
         if it.settled is None:
@@ -315,7 +334,7 @@ def attempt(cases, step, *given):
                 it.settled = why
 
 
-def with_tokens(transaction, cases):
+def with_tokens(transaction: Transaction, cases: list[Case]) -> Transaction:
     """The transaction that the judge reads: without input scripts, which no digest has, and with tokens."""
     inputs = [
         Input(it.given.outpoint, b"", it.given.sequence, it.tokens() if it.settled is None else []) for it in cases
@@ -323,9 +342,9 @@ def with_tokens(transaction, cases):
     return Transaction(transaction.version, inputs, transaction.outputs, transaction.lock_time)
 
 
-def broken_relay_rules(case):
+def broken_relay_rules(case: Case) -> set[str]:
     """The rules of relay on the sizes of a witness that this one breaks."""
-    if scripts.is_key_hash(case.spent.program):
+    if scripts.is_key_hash(case.output.program):
         return set()
     broken = {
         "WITNESS_SCRIPT_SIZE": len(case.script) > RELAYED_SCRIPT,
@@ -335,11 +354,11 @@ def broken_relay_rules(case):
     return {name for name, holds in broken.items() if holds}
 
 
-def told_signatures(case):
+def told_signatures(case: Case) -> list[dict[str, Any]]:
     return [{"item": it.item, "key": it.key and it.key.hex()} for it in case.signed]
 
 
-def agree(said, end):
+def agree(said: dict[str, Any], end: End) -> bool:
     """Whether the judge and a run by the rules of consensus end alike, but for the rules that are stricter here."""
     if "path" in said:
         return end.valid
@@ -348,7 +367,7 @@ def agree(said, end):
     return not end.valid and end.opcode == said["opcode"]
 
 
-def conflict(case, said, transaction):
+def conflict(case: Case, said: dict[str, Any], transaction: Transaction) -> Settled:
     """Why the judge and a run by the rules of consensus end otherwise: where that run ends as the judge with tokens, a
     token is not what stood there, else they disagree.
     """
@@ -368,7 +387,7 @@ def conflict(case, said, transaction):
     )
 
 
-def stack_of_stop(case, said, spend, transaction):
+def stack_of_stop(case: Case, said: dict[str, Any], spend: Spend, transaction: Transaction) -> list[str]:
     """The stack where the judge stops, the top first, of a run with the real signatures. With tokens it has to be the
     judge's.
     """
@@ -382,7 +401,7 @@ def stack_of_stop(case, said, spend, transaction):
     return real
 
 
-def answer(case, said, transaction, curve):
+def answer(case: Case, said: dict[str, Any], transaction: Transaction, curve: Verifier) -> dict[str, Any]:
     """What is answered of an input that was judged."""
     if "digest" in said and said["digest"] != case.digest.hex():
         raise Settled(
@@ -412,7 +431,7 @@ def answer(case, said, transaction, curve):
     return {**stop, "age": locks.age_of(transaction, case.index), "relay": relay} if end.valid else stop
 
 
-def says_of(said, case, stack, transaction):
+def says_of(said: dict[str, Any], case: Case, stack: list[str], transaction: Transaction) -> str:
     """Why a run stops, in words for real signatures."""
     if said["stopped"] == "FailedCheck TokenForm":
         return "a signature is neither empty nor in strict DER (BIP 66), or the script pushes it"
@@ -423,12 +442,13 @@ def says_of(said, case, stack, transaction):
     return said["says"]
 
 
-def false_end_of(case):
+def false_end_of(case: Case) -> str | None:
     """What to look at first where a run with signatures ends with a false entry."""
-    keys = [it.key for it in case.signed]
-    if None in keys:
+    found = [it.key for it in case.signed]
+    keys = [it for it in found if it]
+    if None in found:
         return (
-            f"item {case.signed[keys.index(None)].item} is valid for no key that stands here: compare the value of the"
+            f"item {case.signed[found.index(None)].item} is valid for no key that stands here: compare the value of the"
             " spent output first"
         )
     if len(set(keys)) < len(keys):
@@ -440,26 +460,33 @@ def false_end_of(case):
     )
 
 
-def input_answer(case, said, transaction, curve):
+def input_answer(case: Case, said: dict[str, Any] | None, transaction: Transaction, curve: Verifier) -> dict[str, Any]:
     try:
         if case.settled is not None:
             raise case.settled
+        assert said is not None
         return answer(case, said, transaction, curve)
     except Settled as why:
         return {"answer": why.answer, "reason": why.reason, "says": why.says}
 
 
-def judge(transaction, spent, curve, trace, reasons=None):
+def judge(
+    transaction: Transaction,
+    spent: Sequence[Output | None],
+    curve: Verifier,
+    trace: Trace,
+    reasons: dict[int, Settled] | None = None,
+) -> list[dict[str, Any]]:
     """What becomes of each input, in their order. `reasons` has what settles some inputs, by their number."""
     refuse_tokens(transaction)
-    curve = Once(curve)
-    cases = prepare(transaction, spent, curve, trace, reasons or {})
-    said = [None] * len(cases)
+    asked = Once(curve)
+    cases = prepare(transaction, spent, asked, trace, reasons or {})
+    said: Sequence[dict[str, Any] | None] = [None] * len(cases)
     if any(it.settled is None for it in cases):
         said = trace.witness(
-            with_tokens(transaction, cases), [it.spent if it.settled is None else NOT_SPENT for it in cases]
+            with_tokens(transaction, cases), [it.output if it.settled is None else NOT_SPENT for it in cases]
         )
     return [
-        {"input": it.index, "outpoint": it.given.shown_outpoint(), **input_answer(it, line, transaction, curve)}
+        {"input": it.index, "outpoint": it.given.shown_outpoint(), **input_answer(it, line, transaction, asked)}
         for it, line in zip(cases, said)
     ]

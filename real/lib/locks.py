@@ -2,23 +2,24 @@
 Tested, not proved.
 """
 from real.lib.consensus import DISABLE, FINAL, LOCKTIME_THRESHOLD, MASK, TYPE
+from real.lib.transaction import Transaction
 
 UNIT_SECONDS = 512
 
 
-def signed_number(item):
+def signed_number(item: bytes) -> int:
     """The number that an entry of a stack is."""
     found = int.from_bytes(item, "little")
     sign = 0x80 << 8 * (len(item) - 1) if item else 0
     return -(found ^ sign) if found & sign else found
 
 
-def lock_words(lock):
+def lock_words(lock: int) -> str:
     """An absolute lock, with its kind."""
     return f"{lock}, a {'height' if lock < LOCKTIME_THRESHOLD else 'time in seconds'}"
 
 
-def age_words(sequence):
+def age_words(sequence: int) -> str:
     """A relative lock, with its kind."""
     age = sequence & MASK
     return (
@@ -28,7 +29,7 @@ def age_words(sequence):
     )
 
 
-def lock_cause(wanted, transaction, sequence):
+def lock_cause(wanted: int, transaction: Transaction, sequence: int) -> str:
     """The first of the four reasons of BIP 65 that holds."""
     reached = transaction.lock_time
     if wanted < 0:
@@ -46,7 +47,7 @@ def lock_cause(wanted, transaction, sequence):
     )
 
 
-def age_cause(wanted, transaction, sequence):
+def age_cause(wanted: int, transaction: Transaction, sequence: int) -> str:
     """The first of the five reasons of BIP 112 that holds."""
     if wanted < 0:
         return f"the script asks for the age {wanted}, which is negative"
@@ -66,13 +67,12 @@ def age_cause(wanted, transaction, sequence):
 CAUSES = {"FailedCheck LockTime": lock_cause, "FailedCheck Sequence": age_cause}
 
 
-def cause_of(stopped, top, transaction, sequence):
-    """Why a check of a lock fails, by the entry that it looks at; None for another stop."""
-    find = CAUSES.get(stopped)
-    return find(signed_number(top), transaction, sequence) if find else None
+def cause_of(stopped: str, top: bytes, transaction: Transaction, sequence: int) -> str:
+    """Why a check of a lock fails, by the entry that it looks at."""
+    return CAUSES[stopped](signed_number(top), transaction, sequence)
 
 
-def lock_of(transaction):
+def lock_of(transaction: Transaction) -> dict[str, int] | None:
     """The height or the time that a block has to be above before it can have the transaction; None where its lock time
     asks for nothing.
     """
@@ -82,7 +82,7 @@ def lock_of(transaction):
     return {"above_height": lock} if lock < LOCKTIME_THRESHOLD else {"above_time": lock}
 
 
-def age_of(transaction, index):
+def age_of(transaction: Transaction, index: int) -> dict[str, int] | None:
     """How much older than the spent output the transaction has to be; None where its sequence asks for nothing (BIP
     68).
     """

@@ -1,8 +1,15 @@
 """Penalties on a revoked commitment's outputs: built, signed, and judged before they are told (BOLT 5, "Revoked
 Transaction Close Handling"). Tested, not proved.
 """
+from collections.abc import Iterable
+from typing import Any
+from collections.abc import Iterator
+from real.lib.commitment import Htlc
+from real.lib.commitment import Keys
+from real.lib.commitment import Known
+from real.lib.curve import AnyCurve
+from real.lib.trace_program import Trace
 from dataclasses import dataclass
-from typing import Dict, List, Optional
 
 from real.lib import commitment, commitment_number, hints, judgement, scripts, signatures, summary
 from real.lib.errors import Refused
@@ -50,17 +57,17 @@ class State:
     transaction: Transaction
     secret: bytes
     delay_blocks: int
-    htlcs: List[commitment.Htlc]
-    bases: Dict[str, bytes]
+    htlcs: list[commitment.Htlc]
+    bases: dict[str, bytes]
     # both keys of the funding output, if they are told: the keys of the anchors
-    funding_keys: List[bytes]
+    funding_keys: list[bytes]
     # the outputs that are told to be gone
-    spent: List[int]
+    spent: list[int]
     destination: bytes
     feerate_per_kw: int
     height: int
     # the height of the block that has the transaction, if one has it
-    confirmed_height: Optional[int]
+    confirmed_height: int | None
 
 
 # what is known of an output whose program is another
@@ -76,14 +83,14 @@ class Take:
     known: commitment.Known
 
 
-def read_htlc(shape):
+def read_htlc(shape: Shape) -> commitment.Htlc:
     direction = shape.check_names("direction", "hash", "expiry_height").member("direction", str)
     if direction not in ("offered", "received"):
         raise shape.refusal("direction")
     return commitment.Htlc(direction == "offered", shape.bytes("hash", 32), shape.number("expiry_height", MAX_HEIGHT))
 
 
-def read_channel_type(shape):
+def read_channel_type(shape: Shape) -> str:
     found = shape.member("channel_type", str, optional=True)
     if found is None:
         return commitment.STATIC_REMOTEKEY
@@ -92,7 +99,7 @@ def read_channel_type(shape):
     return found
 
 
-def read_funding_keys(shape):
+def read_funding_keys(shape: Shape) -> list[bytes]:
     """Both keys, or none."""
     found = shape.member("funding_keys", list, optional=True) or []
     if len(found) not in (0, 2):
@@ -100,7 +107,7 @@ def read_funding_keys(shape):
     return [Shape({"key": it}, f"{shape.place}.funding_keys[{at}]").bytes("key", 33) for at, it in enumerate(found)]
 
 
-def read_spent(shape, transaction):
+def read_spent(shape: Shape, transaction: Transaction) -> list[int]:
     """The outputs that are gone, each once, in their order."""
     found = shape.member("spent", list, optional=True) or []
     for at, it in enumerate(found):
@@ -109,7 +116,7 @@ def read_spent(shape, transaction):
     return sorted(found)
 
 
-def read_destination(shape):
+def read_destination(shape: Shape) -> bytes:
     """A program that wallets have an address for. One of four bytes is none: a transaction of one input that pays to
     it is shorter than nodes pass on.
     """
@@ -122,7 +129,7 @@ def read_destination(shape):
     return found
 
 
-def read_feerate(shape):
+def read_feerate(shape: Shape) -> int:
     """The feerate, within the limit that the state has for it."""
     found, most = shape.number("feerate_per_kw", MAX_FEERATE), shape.number(
         "most_feerate_per_kw", MAX_FEERATE, optional=True
@@ -139,7 +146,7 @@ def read_feerate(shape):
     return found
 
 
-def read_confirmed_height(shape, height):
+def read_confirmed_height(shape: Shape, height: int) -> int | None:
     """The height of the block that has the transaction, or null where none has it. It is always asked for: without it
     a deadline would be too late.
     """
@@ -154,7 +161,7 @@ def read_confirmed_height(shape, height):
     return found
 
 
-def read_state(given):
+def read_state(given: str | bytes) -> State:
     """The state that a JSON text tells."""
     shape = read_object(given, "state").check_names(*MEMBERS)
     transaction = read_transaction(shape.line("transaction"))
@@ -179,7 +186,7 @@ def read_state(given):
     )
 
 
-def deadline_of(known, state):
+def deadline_of(known: Known, state: State) -> int | None:
     """The number of next blocks in which nobody else can take an output; None where nobody else ever can. The owner
     takes to_local in the block that is the delay above the transaction's (BIP 68); HTLC-timeout is in a block above
     the expiry (BIP 65); HTLC-success may be in any. With anchors either is in a block above the transaction's.
@@ -189,17 +196,17 @@ def deadline_of(known, state):
     confirmed_height = state.height + 1 if state.confirmed_height is None else state.confirmed_height
     waits = state.delay_blocks if known.kind == "to_local" else int(state.channel_type == commitment.ANCHORS)
     first = confirmed_height + waits
-    if known.kind == "offered":
+    if known.htlc is not None and known.htlc.is_offered:
         first = max(first, known.htlc.expiry_height + 1)
     return max(0, first - 1 - state.height)
 
 
-def least_deadline(found):
+def least_deadline(found: Iterable[int | None]) -> int | None:
     """The least of deadlines; None where there is none."""
     return min((it for it in found if it is not None), default=None)
 
 
-def split_outputs(state, table):
+def split_outputs(state: State, table: dict[bytes, Known]) -> tuple[list[Take], list[int]]:
     """The outputs that are the commitment's, and the indices of the others; without those that are told to be gone."""
     takes, others, gone = [], [], set(state.spent)
     for index, output in enumerate(state.transaction.outputs):
@@ -213,7 +220,7 @@ def split_outputs(state, table):
     return takes, others
 
 
-def is_htlc_transaction(state, table):
+def is_htlc_transaction(state: State, table: dict[bytes, Known]) -> bool:
     """Whether the transaction is one that spends HTLCs of the commitment: it has an output with the script of
     to_local, and not the form of a commitment.
     """
@@ -221,16 +228,16 @@ def is_htlc_transaction(state, table):
     return is_delayed and not commitment_number.has_form(state.transaction)
 
 
-def names_of(state, keys, table, others):
+def names_of(state: State, keys: Keys, table: dict[bytes, Known], others: list[int]) -> dict[str, Any]:
     """What other outputs of a channel with anchors are, which are not taken here: to_remote and the anchors, and what
     its owner added to an HTLC transaction, all of whose own outputs have one script.
     """
     if state.channel_type != commitment.ANCHORS:
         return {}
-    found, named = {}, {
-        program: (kind, value) for program, kind, value in commitment.named_outputs(keys, state.funding_keys)
-    }
-    added = ("added", None) if is_htlc_transaction(state, table) else (None, None)
+    found: dict[str, list[int]] = {}
+    outputs = commitment.named_outputs(keys, state.funding_keys)
+    named: dict[bytes, tuple[str | None, int | None]] = {program: (kind, value) for program, kind, value in outputs}
+    added = ("added" if is_htlc_transaction(state, table) else None), None
     for index in others:
         output = state.transaction.outputs[index]
         kind, value = named.get(output.program, added)
@@ -239,30 +246,30 @@ def names_of(state, keys, table, others):
     return {"named": found}
 
 
-def witness_of(known, signature):
+def witness_of(known: Known, signature: bytes) -> list[bytes]:
     ends = [known.key] if known.kind == "to_remote" else [*known.items, known.script]
     return [signature, *ends]
 
 
-def input_weight(known):
+def input_weight(known: Known) -> int:
     """The greatest weight of the input that takes an output (BIP 141)."""
     items = witness_of(known, bytes(SIGNATURE_SIZE))
     return 4 * INPUT_SIZE + len(compact_size(len(items))) + sum(len(text(it)) for it in items)
 
 
-def weight_of(takes, destination):
+def weight_of(takes: list[Take], destination: bytes) -> int:
     """The greatest weight of a transaction that takes outputs."""
     plain = BASE_SIZE + len(compact_size(len(takes))) + len(compact_size(1) + Output(0, destination).bytes())
     return 4 * plain + MARKER_SIZE + sum(input_weight(it.known) for it in takes)
 
 
-def dust_sat(program):
+def dust_sat(program: bytes) -> int:
     """The least value of an output with this program that Bitcoin Core passes on by default."""
     spending = WITNESS_INPUT_SIZE if scripts.is_witness_program(program) else PLAIN_INPUT_SIZE
     return DUST_FEERATE_PER_KVB * (len(Output(0, program).bytes()) + spending) // 1000
 
 
-def unsigned_transaction(state, takes):
+def unsigned_transaction(state: State, takes: list[Take]) -> tuple[Transaction | None, int]:
     """The transaction that takes outputs, and its fee; None where too little is left to be passed on."""
     value = sum(it.output.value for it in takes)
     fee = -(-weight_of(takes, state.destination) * state.feerate_per_kw // 1000)
@@ -273,7 +280,7 @@ def unsigned_transaction(state, takes):
     return Transaction(VERSION, inputs, [Output(value - fee, state.destination)], 0), fee
 
 
-def is_joined(it, state, signing):
+def is_joined(it: Take, state: State, signing: dict[bytes, bytes]) -> bool:
     """Whether an output goes into the transaction of several: its key is there, nobody else can take it yet, and it
     has no less than what its input costs.
     """
@@ -281,7 +288,7 @@ def is_joined(it, state, signing):
     return is_safe and input_weight(it.known) * state.feerate_per_kw <= 1000 * it.output.value
 
 
-def batches(takes, state, signing, is_one):
+def batches(takes: list[Take], state: State, signing: dict[bytes, bytes], is_one: bool) -> list[list[Take]]:
     """One transaction for each output. Or one for all that can be joined, unless they have too little together, and
     one for each other output. The dearest stands first.
     """
@@ -293,7 +300,9 @@ def batches(takes, state, signing, is_one):
     return sorted(found, key=lambda it: -sum(each.output.value for each in it))
 
 
-def signed_transaction(transaction, takes, signing, curve):
+def signed_transaction(
+    transaction: Transaction, takes: list[Take], signing: dict[bytes, bytes], curve: AnyCurve
+) -> Transaction:
     """The same with a signature in each input, each verified."""
     digests = Digests(transaction)
     for index, it in enumerate(takes):
@@ -305,7 +314,7 @@ def signed_transaction(transaction, takes, signing, curve):
     return transaction
 
 
-def judge_transaction(transaction, takes, curve, trace):
+def judge_transaction(transaction: Transaction, takes: list[Take], curve: AnyCurve, trace: Trace) -> None:
     """Refuses a transaction that the judge does not find clean, or that consensus refuses as a whole."""
     spent = [it.output for it in takes]
     faults = summary.summary_of(transaction, spent)["faults"]
@@ -316,7 +325,9 @@ def judge_transaction(transaction, takes, curve, trace):
             raise Refused(f"NotClean {it.index} {found.get('reason', 'another path')}")
 
 
-def answer_of(takes, state, signing, curve, trace):
+def answer_of(
+    takes: list[Take], state: State, signing: dict[bytes, bytes], curve: AnyCurve, trace: Trace
+) -> dict[str, Any]:
     """What is said of outputs: the transaction that takes them, after the judge found each of its inputs clean; or why
     there is none.
     """
@@ -347,7 +358,9 @@ def answer_of(takes, state, signing, curve, trace):
     }
 
 
-def penalties(state, privates, curve, trace, is_one=False, is_legacy=False):
+def penalties(
+    state: State, privates: list[bytes], curve: AnyCurve, trace: Trace, is_one: bool = False, is_legacy: bool = False
+) -> Iterator[dict[str, Any]]:
     """All that is said: of each transaction of penalties, and of each output that none takes; and last of all outputs."""
     if not curve.is_private(state.secret):
         raise Refused("BadSecret")
@@ -366,12 +379,12 @@ def penalties(state, privates, curve, trace, is_one=False, is_legacy=False):
     takes, others = split_outputs(state, table)
     # the judge lists all scripts by one call
     trace.paths([it.known.script for it in takes])
-    found = {TAKEN: [], TOO_LITTLE: [], NO_KEY: []}
+    found: dict[str, list[int]] = {TAKEN: [], TOO_LITTLE: [], NO_KEY: []}
     for batch in batches(takes, state, signing, is_one):
         answer = answer_of(batch, state, signing, curve, trace)
         found[answer["answer"]] += answer["outputs"]
         yield answer
-    taken, too_little, no_key = map(sorted, found.values())
+    taken, too_little, no_key = (sorted(it) for it in found.values())
     last = {
         "transaction": state.transaction.txid(),
         "taken": taken,
@@ -384,7 +397,7 @@ def penalties(state, privates, curve, trace, is_one=False, is_legacy=False):
     yield {**last, **{name: it for name, it in optional.items() if it}}
 
 
-def is_left(last):
+def is_left(last: dict[str, Any]) -> bool:
     """Whether the last line says that something is left: an output that matches nothing and is not named, one whose
     key is missing, or a key that is that of neither base point.
     """

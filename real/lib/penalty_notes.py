@@ -1,5 +1,8 @@
 """What real/revoked says beside its answers, in words on standard error. Tested, not proved."""
+from typing import Any
+from collections.abc import Iterator
 from real.lib import commitment, commitment_number, penalties
+from real.lib.penalties import State
 
 # the least feerate that nodes pass on by default, one satoshi for a virtual byte; and how many transactions nodes are
 # sure to take that spend one which no block has
@@ -8,7 +11,7 @@ RELAYED_FEERATE, CHILDREN = 253, 24
 DEAR = 10
 
 
-def is_kept(state, found):
+def is_kept(state: State, found: list[dict[str, Any]]) -> bool:
     """Whether a penalty may be made invalid by another id of what it spends: an HTLC transaction of a channel with
     anchors, to which its owner may add inputs, that no block has.
     """
@@ -20,7 +23,7 @@ def is_kept(state, found):
     )
 
 
-def notes_of(state, found):
+def notes_of(state: State, found: list[dict[str, Any]]) -> Iterator[str]:
     """The notes, in their order."""
     sent = [it for it in found[:-1] if it["answer"] == penalties.TAKEN]
     if is_kept(state, found):
@@ -47,5 +50,5 @@ def notes_of(state, found):
         )
 
 
-def places_of(outputs):
+def places_of(outputs: list[list[int]]) -> str:
     return ", ".join(str(at) for at in sorted(at for it in outputs for at in it))

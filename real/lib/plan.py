@@ -1,11 +1,12 @@
 """Plans of unsigned spends, each one JSON object: the transaction, and of each input what it spends, its witness and
 the signatures that are wanted. Tested, not proved.
 """
+from typing import Any
+from collections.abc import Callable
 import json
 import math
 import re
 from dataclasses import dataclass, field
-from typing import Dict, List, Optional
 
 from real.lib import scripts
 from real.lib.errors import Refused, bytes_of
@@ -37,14 +38,14 @@ class Spent:
 
     output: Output
     script: bytes
-    witness: List[Optional[bytes]]
-    wanted: List[Wanted]
+    witness: list[bytes | None]
+    wanted: list[Wanted]
     # the outpoint as explorers show it, if it is told
-    explorer: Optional[str] = None
-    previous: Optional[bytes] = None
-    derivations: Dict[bytes, bytes] = field(default_factory=dict)
+    explorer: str | None = None
+    previous: bytes | None = None
+    derivations: dict[bytes, bytes] = field(default_factory=dict)
 
-    def preimages(self):
+    def preimages(self) -> list[bytes]:
         """The items of 32 bytes. One may be a preimage that the script asks for."""
         return [it for it in self.witness if it is not None and len(it) == 32]
 
@@ -54,29 +55,29 @@ class Plan:
     """An unsigned spend."""
 
     transaction: Transaction
-    fee: Optional[int]
-    inputs: List[Spent]
+    fee: int | None
+    inputs: list[Spent]
 
 
 class Shape:
     """Reads members of a JSON object; what has another type is refused by its place."""
 
-    def __init__(self, value, place):
+    def __init__(self, value: Any, place: str) -> None:
         self.value, self.place = value, place
         if not isinstance(value, dict):
             raise Refused(f"BadShape {place}")
 
-    def refusal(self, name):
+    def refusal(self, name: str) -> Refused:
         return Refused(f"BadShape {self.place}.{name}".replace("plan.", ""))
 
-    def check_names(self, *names):
+    def check_names(self, *names: str) -> "Shape":
         """The same; a member with another name is refused, since it may be one of these that is misspelled."""
         for name in self.value:
             if name not in names:
                 raise self.refusal(name if NAME.fullmatch(name) else "?")
         return self
 
-    def member(self, name, kind, optional=False):
+    def member(self, name: str, kind: type, optional: bool = False) -> Any:
         found = self.value.get(name)
         if found is None and optional:
             return None
@@ -84,13 +85,18 @@ class Shape:
             raise self.refusal(name)
         return found
 
-    def number(self, name, most, optional=False):
+    def number(self, name: str, most: int, optional: bool = False) -> Any:
         found = self.member(name, int, optional)
         if found is not None and not 0 <= found <= most:
             raise self.refusal(name)
         return found
 
-    def bytes(self, name, size=None, optional=False):
+    def line(self, name: str) -> bytes:
+        """Bytes that may have been read from a file, with the end of its line."""
+        found = self.member(name, str)
+        return Shape({name: found.rstrip("\r\n")}, self.place).bytes(name)
+
+    def bytes(self, name: str, size: int | None = None, optional: bool = False) -> Any:
         found = self.member(name, str, optional)
         try:
             found = None if found is None else bytes_of(found)
@@ -100,26 +106,21 @@ class Shape:
             raise self.refusal(name)
         return found
 
-    def line(self, name):
-        """Bytes that may have been read from a file, with the end of its line."""
-        found = self.member(name, str)
-        return Shape({name: found.rstrip("\r\n")}, self.place).bytes(name)
-
-    def objects(self, name, optional=False):
+    def objects(self, name: str, optional: bool = False) -> list["Shape"]:
         return [
             Shape(it, f"{self.place}.{name}[{at}]".replace("plan.", ""))
             for at, it in enumerate(self.member(name, list, optional) or [])
         ]
 
 
-def read_witness(shape):
+def read_witness(shape: Shape) -> list[bytes | None]:
     found = []
     for at, it in enumerate(shape.member("witness", list)):
         found.append(None if it is None else Shape({"item": it}, f"{shape.place}.witness[{at}]").bytes("item"))
     return found
 
 
-def read_path(text):
+def read_path(text: str) -> bytes | None:
     """A path of BIP 32, as m/48h/0'/7, in the form of a PSBT."""
     words = text.split("/")
     if words[0] != "m":
@@ -133,7 +134,7 @@ def read_path(text):
     return found
 
 
-def read_derivations(shape):
+def read_derivations(shape: Shape) -> dict[bytes, bytes]:
     found = {}
     for it in shape.objects("derivations", optional=True):
         path = read_path(it.check_names("key", "fingerprint", "path").member("path", str))
@@ -143,12 +144,12 @@ def read_derivations(shape):
     return found
 
 
-def read_wanted(shape, items):
+def read_wanted(shape: Shape, items: int) -> Wanted:
     shape.check_names("item", "key", "digest")
     return Wanted(shape.number("item", items), shape.bytes("key", KEY_SIZE), shape.bytes("digest", 32))
 
 
-def read_input(shape):
+def read_input(shape: Shape) -> Spent:
     shape.check_names(
         "explorer", "value", "program", "script", "path", "witness", "signatures", "previous", "derivations"
     )
@@ -169,7 +170,7 @@ def read_input(shape):
     )
 
 
-def check_input(plan, index, digests):
+def check_input(plan: Plan, index: int, digests: Digests) -> None:
     """Whether an input's parts fit each other: its outpoint, its script, its witness, the items that wait, the keys,
     and the digests.
     """
@@ -190,7 +191,7 @@ def check_input(plan, index, digests):
         raise Refused(f"OtherDigest {index}")
 
 
-def members(pairs):
+def members(pairs: list[tuple[str, Any]]) -> dict[str, Any]:
     """The members of a JSON object. Each stands there once."""
     found = dict(pairs)
     if len(found) != len(pairs):
@@ -198,12 +199,12 @@ def members(pairs):
     return found
 
 
-def whole_number(digits):
+def whole_number(digits: str) -> int | float:
     """A whole number of JSON. One with more digits is infinite, which no member may be."""
     return int(digits) if len(digits) <= DIGITS else math.inf
 
 
-def read_object(given, place):
+def read_object(given: str | bytes, place: str) -> Shape:
     """The object that a JSON text tells."""
     try:
         value = json.loads(given, object_pairs_hook=members, parse_int=whole_number)
@@ -212,7 +213,7 @@ def read_object(given, place):
     return Shape(value, place)
 
 
-def split_object(text):
+def split_object(text: str) -> tuple[str, str]:
     """The JSON object that a text begins with, on one line or on several, and what stands after it. Of what is no JSON
     the first line stands for the object.
     """
@@ -224,7 +225,7 @@ def split_object(text):
     return text[:end], text[end:]
 
 
-def read_plan(given):
+def read_plan(given: str | bytes) -> Plan:
     """The plan that a JSON text tells."""
     shape = read_object(given, "plan").check_names("transaction", "explorer", "fee", "weight", "inputs")
     # who makes a plan may say by which weight its fee is; nothing follows from it here

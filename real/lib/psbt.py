@@ -1,12 +1,13 @@
 """Partially signed transactions of version 0 (BIP 174). Tested, not proved."""
+from typing import TypeVar
 import base64
 import binascii
 from dataclasses import dataclass
-from typing import Dict, List
 
 from real.lib.errors import Refused, bytes_of
 from real.lib.transaction import Output, Reader, Transaction, compact_size, read_output, read_transaction, text
 
+Found = TypeVar("Found")
 MAGIC = b"psbt\xff"
 UNSIGNED_TX, VERSION = 0x00, 0xFB
 (
@@ -49,43 +50,43 @@ class Partial:
     """
 
     transaction: Transaction
-    fields: Dict[bytes, bytes]
-    inputs: List[Dict[bytes, bytes]]
-    outputs: List[Dict[bytes, bytes]]
+    fields: dict[bytes, bytes]
+    inputs: list[dict[bytes, bytes]]
+    outputs: list[dict[bytes, bytes]]
 
-    def bytes(self):
+    def bytes(self) -> bytes:
         return MAGIC + b"".join(map(map_bytes, [self.fields, *self.inputs, *self.outputs]))
 
-    def base64(self):
+    def base64(self) -> str:
         return base64.b64encode(self.bytes()).decode()
 
 
-def map_bytes(fields):
+def map_bytes(fields: dict[bytes, bytes]) -> bytes:
     return b"".join(text(key) + text(value) for key, value in sorted(fields.items())) + b"\x00"
 
 
-def key_of(kind, data=b""):
+def key_of(kind: int, data: bytes = b"") -> bytes:
     return compact_size(kind) + data
 
 
-def kind_of(key):
+def kind_of(key: bytes) -> tuple[int, bytes]:
     reader = Reader(key)
     return reader.count(), key[reader.at :]
 
 
-def with_kind(fields, kind):
+def with_kind(fields: dict[bytes, bytes], kind: int) -> dict[bytes, bytes]:
     """The fields of a kind: what follows the kind in their keys, and their values."""
     found = [(*kind_of(key), value) for key, value in fields.items()]
     return {data: value for each, data, value in found if each == kind}
 
 
-def taproot_fields(fields):
+def taproot_fields(fields: dict[bytes, bytes]) -> list[str]:
     """The names of an input's fields that are of taproot."""
     return sorted({TAPROOT[kind_of(key)[0]] for key in fields if kind_of(key)[0] in TAPROOT})
 
 
-def read_map(reader):
-    fields = {}
+def read_map(reader: Reader) -> dict[bytes, bytes]:
+    fields: dict[bytes, bytes] = {}
     while True:
         key = reader.text()
         if not key:
@@ -96,21 +97,21 @@ def read_map(reader):
         kind_of(key)
 
 
-def version_of(fields):
+def version_of(fields: dict[bytes, bytes]) -> int:
     given = fields.get(key_of(VERSION), bytes(4))
     if len(given) != 4:
         raise Refused("BadField VERSION")
     return int.from_bytes(given, "little")
 
 
-def check_lone_fields(fields):
+def check_lone_fields(fields: dict[bytes, bytes]) -> None:
     for key in fields:
         kind, data = kind_of(key)
         if kind in ALONE and data:
             raise Refused(f"BadField {kind}")
 
 
-def has_witnesses(data):
+def has_witnesses(data: bytes) -> bool:
     """Whether these bytes are a transaction with witnesses, which a partially signed one has in fields of its own."""
     try:
         return any(it.witness for it in read_transaction(data).inputs)
@@ -118,7 +119,7 @@ def has_witnesses(data):
         return False
 
 
-def read(data):
+def read(data: bytes) -> Partial:
     """The partially signed transaction of these bytes."""
     if data[: len(MAGIC)] != MAGIC:
         raise Refused("BadMagic")
@@ -133,14 +134,15 @@ def read(data):
     transaction = read_transaction(fields[key_of(UNSIGNED_TX)], marked=False)
     if any(it.script for it in transaction.inputs):
         raise Refused("SignedTransaction")
-    inputs, outputs = ([read_map(reader) for _ in found] for found in (transaction.inputs, transaction.outputs))
+    inputs = [read_map(reader) for _ in transaction.inputs]
+    outputs = [read_map(reader) for _ in transaction.outputs]
     reader.end()
     for it in inputs:
         check_lone_fields(it)
     return Partial(transaction, fields, inputs, outputs)
 
 
-def decoded_bytes(given):
+def decoded_bytes(given: bytes) -> bytes:
     """The bytes of a partially signed transaction that is given as they are, in base64 or in hexadecimal."""
     if given[: len(MAGIC)] == MAGIC:
         return given
@@ -153,18 +155,18 @@ def decoded_bytes(given):
         raise Refused("BadBase64") from None
 
 
-def is_partial(given):
+def is_partial(given: bytes) -> bool:
     """Whether an input looks like a partially signed transaction."""
     start = given.lstrip()[:10]
     return start[:5] == MAGIC or start[:6] == b"cHNidP" or start.lower() == MAGIC.hex().encode()
 
 
-def whole_field(reader, found):
+def whole_field(reader: Reader, found: Found) -> Found:
     reader.end()
     return found
 
 
-def spent_output(partial, index):
+def spent_output(partial: Partial, index: int) -> Output | None:
     """The output that an input spends, or None where no field tells it. Two fields that tell it otherwise are refused."""
     fields, outpoint = partial.inputs[index], partial.transaction.inputs[index].outpoint
     found = []
@@ -182,7 +184,7 @@ def spent_output(partial, index):
     return found[0] if found else None
 
 
-def final_witness(fields):
+def final_witness(fields: dict[bytes, bytes]) -> list[bytes] | None:
     """The final witness of an input, or None."""
     given = fields.get(key_of(FINAL_SCRIPTWITNESS))
     if given is None:
@@ -191,5 +193,5 @@ def final_witness(fields):
     return whole_field(reader, [reader.text() for _ in range(reader.count())])
 
 
-def output_field(output: Output):
+def output_field(output: Output) -> bytes:
     return output.value.to_bytes(8, "little") + text(output.program)

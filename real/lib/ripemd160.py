@@ -1,4 +1,5 @@
 """RIPEMD-160, for a Python whose OpenSSL does not have it. Tested, not proved."""
+from collections.abc import Sequence
 import struct
 
 MASK = 0xFFFFFFFF
@@ -24,14 +25,14 @@ MIXES = (
 )
 
 
-def rotated_word(number, count):
+def rotated_word(number: int, count: int) -> int:
     return (number << count | number >> 32 - count) & MASK
 
 
-def line(state, words, right):
+def line(state: tuple[int, ...], words: tuple[int, ...], right: bool) -> tuple[int, ...]:
     """The five words of one of the two lines after its five rounds."""
     a, b, c, d, e = state
-    order = FIRST[right]
+    order: Sequence[int] = FIRST[right]
     for turn in range(5):
         mix, constant = MIXES[4 - turn if right else turn], CONSTANTS[right][turn]
         for word in order:
@@ -41,10 +42,10 @@ def line(state, words, right):
     return a, b, c, d, e
 
 
-def ripemd160(data):
+def ripemd160(data: bytes) -> bytes:
     """The hash of these bytes."""
     padded = data + b"\x80" + bytes(-(len(data) + 9) % 64) + struct.pack("<Q", 8 * len(data))
-    state = START
+    state: tuple[int, ...] = START
     for at in range(0, len(padded), 64):
         words = struct.unpack("<16L", padded[at : at + 64])
         left, right = line(state, words, False), line(state, words, True)

@@ -40,12 +40,12 @@ NAMES = dict(
 )
 
 
-def name_of(opcode):
+def name_of(opcode: int) -> str:
     """An opcode's name in Bitcoin."""
     return f"OP_{NAMES[opcode]}" if opcode in NAMES else "an unassigned opcode"
 
 
-def operations(script):
+def operations(script: bytes) -> list[tuple[int, int, bytes | None]]:
     """The opcodes of a script: the place of each, its byte, and what it pushes or None. BadOpcode and Truncated name
     the first bad byte.
     """
@@ -67,7 +67,7 @@ def operations(script):
     return found
 
 
-def pushes(script):
+def pushes(script: bytes) -> set[bytes] | None:
     """What a script pushes, each once; None where it has an opcode that the machine does not know, or a push that is
     cut.
     """
@@ -77,33 +77,33 @@ def pushes(script):
         return None
 
 
-def is_key_hash(program):
+def is_key_hash(program: bytes) -> bool:
     """Version 0 with the hash of a key (BIP 141)."""
     return len(program) == 22 and program[:2] == b"\x00\x14"
 
 
-def is_script_hash(program):
+def is_script_hash(program: bytes) -> bool:
     """Version 0 with the hash of a script (BIP 141)."""
     return len(program) == 34 and program[:2] == b"\x00\x20"
 
 
-def is_nesting(program):
+def is_nesting(program: bytes) -> bool:
     """The hash of a script that is no witness program (BIP 16)."""
     return len(program) == 23 and program[:2] == b"\xa9\x14" and program[-1] == EQUAL
 
 
-def is_witness_program(program):
+def is_witness_program(program: bytes) -> bool:
     """A program of any version (BIP 141)."""
     versioned = program[:1] == b"\x00" or FIRST_NUMBER <= (program[:1] or b"\x00")[0] <= LAST_NUMBER
     return versioned and 4 <= len(program) <= 42 and program[1] == len(program) - 2
 
 
-def is_public_key_hash(program):
+def is_public_key_hash(program: bytes) -> bool:
     """The hash of a key in a program without a witness (P2PKH)."""
     return len(program) == 25 and program[:3] == b"\x76\xa9\x14" and program[-2:] == b"\x88\xac"
 
 
-def is_address(program):
+def is_address(program: bytes) -> bool:
     """Whether wallets have an address for a program: the hash of a key or of a script, or a witness program whose
     length its version allows (BIP 141).
     """
@@ -112,16 +112,16 @@ def is_address(program):
     return is_public_key_hash(program) or is_nesting(program) or is_witness_program(program)
 
 
-def is_taproot(program):
+def is_taproot(program: bytes) -> bool:
     return len(program) == 34 and program[:2] == b"\x51\x20"
 
 
-def key_script(program):
+def key_script(program: bytes) -> bytes:
     """The script that runs for the hash of a key (BIP 143)."""
     return b"\x76\xa9\x14" + program[2:] + b"\x88\xac"
 
 
-def has_script(program, script):
+def has_script(program: bytes, script: bytes) -> bool:
     """Whether this is the program of the script, which for the hash of a key is the one of BIP 143."""
     if is_key_hash(program):
         return script == key_script(program)

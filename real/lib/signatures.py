@@ -17,7 +17,7 @@ SHORTEST, LONGEST = 9, 73
 NOBODY = b"\x02" + b"\xff" * 32
 
 
-def is_strict_der(item):
+def is_strict_der(item: bytes) -> bool:
     """Whether an item is a signature in strict DER with a hash type after it, by the rules of BIP 66."""
     if not SHORTEST <= len(item) <= LONGEST or item[0] != 0x30 or item[1] != len(item) - 3:
         return False
@@ -30,33 +30,33 @@ def is_strict_der(item):
     return is_positive(item, 2, r_size) and is_positive(item, 4 + r_size, s_size)
 
 
-def is_positive(item, at, size):
+def is_positive(item: bytes, at: int, size: int) -> bool:
     """Whether an integer of this size stands there, is not negative and has no needless byte of zero before it."""
     if item[at] != 0x02 or size == 0 or item[at + 2] & 0x80:
         return False
     return not (size > 1 and item[at + 2] == 0 and not item[at + 3] & 0x80)
 
 
-def name_of_hash_type(number):
+def name_of_hash_type(number: int) -> str:
     return f"{number:02x} ({HASH_TYPES.get(number, 'undefined')})"
 
 
-def token(key, digest):
+def token(key: bytes, digest: bytes) -> bytes:
     """The token that stands for a signature of this key over this digest."""
     return key + digest + b"\x01"
 
 
-def nobodys_token(item):
+def nobodys_token(item: bytes) -> bytes:
     """A token that is valid for no key: of nobody, and over the SHA-256 of the item that it stands for."""
     return token(NOBODY, sha256(item))
 
 
-def is_token(item):
+def is_token(item: bytes) -> bool:
     """Whether an item has the form of a token."""
     return len(item) == TOKEN_SIZE and item[0] in (2, 3) and item[-1] == 1
 
 
-def candidate_keys(script, items):
+def candidate_keys(script: bytes, items: list[bytes]) -> list[bytes]:
     """The keys for which a signature may be valid: all 33-byte pushes of the script, and all 33-byte items of the
     witness, each once.
     """

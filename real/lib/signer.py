@@ -1,11 +1,14 @@
 """Signs a partially signed transaction with private keys. Tested, not proved."""
 from real.lib import psbt, scripts, signatures
+from real.lib.curve import AnyCurve
 from real.lib.errors import Refused
+from real.lib.psbt import Partial
 from real.lib.psbt import key_of
 from real.lib.transaction import Digests, hash160
+from real.lib.transaction import Output
 
 
-def script_of(fields, output, index):
+def script_of(fields: dict[bytes, bytes], output: Output, index: int) -> bytes | None:
     """The script that an input's signature is over, or None where the input is of another kind."""
     if scripts.is_key_hash(output.program):
         return scripts.key_script(output.program)
@@ -19,7 +22,9 @@ def script_of(fields, output, index):
     return script
 
 
-def sign_input(found, index, keys, digests, curve):
+def sign_input(
+    found: Partial, index: int, keys: dict[bytes, tuple[bytes, bytes]], digests: Digests, curve: AnyCurve
+) -> set[bytes]:
     """Adds to an input a signature of each key that its script names, by itself or by its hash. Gives the public keys."""
     fields, output = found.inputs[index], psbt.spent_output(found, index)
     taproot = psbt.taproot_fields(fields)
@@ -46,7 +51,7 @@ def sign_input(found, index, keys, digests, curve):
     return set(used)
 
 
-def sign(found, privates, curve):
+def sign(found: Partial, privates: list[bytes], curve: AnyCurve) -> Partial:
     """Signs each input for each private key whose public key its script names. A key that no script names is refused
     by its place.
     """

@@ -1,6 +1,10 @@
 """What consensus refuses of a transaction as a whole, whatever its inputs' scripts say. Tested, not proved."""
+from collections.abc import Sequence
+from typing import Any
 from real.lib import locks, scripts
 from real.lib.transaction import MAX_MONEY
+from real.lib.transaction import Output
+from real.lib.transaction import Transaction
 
 # limits of a block, and so of each transaction in it (BIP 141)
 MAX_WEIGHT, MAX_SIGOPS, SCALE = 4_000_000, 80_000, 4
@@ -11,7 +15,7 @@ LENGTHS = {0x4C: 1, 0x4D: 2, 0x4E: 4}
 CHECK, CHECK_MANY, MOST_KEYS = (0xAC, 0xAD), (0xAE, 0xAF), 20
 
 
-def after_push(script, opcode, at):
+def after_push(script: bytes, opcode: int, at: int) -> int:
     """Where a push ends whose opcode stands before this byte; behind the end where it is cut."""
     size = opcode
     if opcode in LENGTHS:
@@ -19,7 +23,7 @@ def after_push(script, opcode, at):
     return at + size
 
 
-def sigops(script, is_witness):
+def sigops(script: bytes, is_witness: bool) -> int:
     """How many signature checks a script counts for, as far as it can be read. Keys of a check of many are counted by
     the number before it in a witness script alone.
     """
@@ -38,7 +42,7 @@ def sigops(script, is_witness):
     return found
 
 
-def cost(transaction, spent):
+def cost(transaction: Transaction, spent: Sequence[Output | None]) -> int:
     """What the signature checks of a transaction cost, without those that an input nests (BIP 16), which is not
     judged.
     """
@@ -52,19 +56,19 @@ def cost(transaction, spent):
     return found
 
 
-def summary_of(transaction, spent):
+def summary_of(transaction: Transaction, spent: Sequence[Output | None]) -> dict[str, Any]:
     """The ids of a transaction, its fee where all spent outputs are known, and what consensus refuses of it. A spent
     output that is not known is None.
     """
     paid, known = sum(it.value for it in transaction.outputs), None not in spent
-    fee = sum(it.value for it in spent) - paid if known else None
+    fee = sum(it.value for it in spent if it) - paid if known else None
     outpoints = {it.outpoint for it in transaction.inputs}
     faults = {
         "NoOutputs": not transaction.outputs,
         "SameOutpoint": len(outpoints) < len(transaction.inputs),
         "NoOutpoint": NO_OUTPOINT in outpoints,
         "TooMuch": max(paid, paid + (fee or 0)) > MAX_MONEY,
-        "OutputsExceed": known and fee < 0,
+        "OutputsExceed": fee is not None and fee < 0,
         "TooHeavy": (SCALE - 1) * len(transaction.stripped_bytes()) + len(transaction.bytes()) > MAX_WEIGHT,
         "TooManySigops": cost(transaction, spent) > MAX_SIGOPS,
     }

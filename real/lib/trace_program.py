@@ -1,6 +1,12 @@
 """Asks the proved judge about scripts and transactions: the program `trace`, and of the paths of scripts the library
 for C, where it is built. How they are asked is tested, not proved.
 """
+from collections.abc import Sequence
+from types import ModuleType
+from typing import TextIO
+from typing import Any
+from real.lib.transaction import Output
+from real.lib.transaction import Transaction
 import json
 import os
 import subprocess
@@ -19,11 +25,15 @@ class Trace:
     is not proved, is passed on once.
     """
 
-    def __init__(self, program=os.path.join(TOP, "trace"), notes=sys.stderr, library=None):
-        self.program, self.notes, self.noted, self.listed = program, notes, set(), {}
+    def __init__(
+        self, program: str = os.path.join(TOP, "trace"), notes: TextIO = sys.stderr, library: ModuleType | None = None
+    ) -> None:
+        self.program, self.notes = program, notes
+        self.noted: set[str] = set()
+        self.listed: dict[bytes, dict[str, Any]] = {}
         self.library = library or c_library.binding()
 
-    def lines(self, word, text):
+    def lines(self, word: str, text: str) -> list[dict[str, Any]]:
         """The objects that it answers, one a line."""
         try:
             ran = subprocess.run([self.program, word], input=text.encode(), capture_output=True, timeout=SECONDS)
@@ -41,13 +51,13 @@ class Trace:
         except ValueError:
             raise NotRun(f"{self.program} answers otherwise than docs/TRACE.md says") from None
 
-    def note(self, said):
+    def note(self, said: str) -> None:
         for line in said.splitlines():
             if line not in self.noted:
                 self.noted.add(line)
                 print(line, file=self.notes)
 
-    def paths(self, scripts):
+    def paths(self, scripts: Sequence[bytes]) -> list[dict[str, Any]]:
         """What is listed of each script. A script is asked about once."""
         new = [it for it in dict.fromkeys(scripts) if it not in self.listed]
         self.listed.update(
@@ -55,14 +65,14 @@ class Trace:
         )
         return [self.listed[it] for it in scripts]
 
-    def by_program(self, scripts):
+    def by_program(self, scripts: Sequence[bytes]) -> list[dict[str, Any]]:
         """What the program lists of scripts."""
         found = self.lines("script", "".join(f"{it.hex()}\n" for it in scripts)) if scripts else []
         if len(found) != len(scripts):
             raise NotRun(f"{self.program} answers otherwise than docs/TRACE.md says")
         return found
 
-    def witness(self, transaction, spent):
+    def witness(self, transaction: Transaction, spent: Sequence[Output]) -> list[dict[str, Any]]:
         """What becomes of each input of a transaction whose witnesses have tokens."""
         text = transaction.bytes().hex() + "\n" + "".join(f"{it.value} {it.program.hex()}\n" for it in spent)
         found = self.lines("witness", text)
@@ -73,7 +83,7 @@ class Trace:
         return found
 
 
-def built_program():
+def built_program() -> str:
     """The program that ./trace runs now, without its look at the sources before each call. For tests, which call it
     often.
     """

@@ -3,6 +3,9 @@ the answer that is wanted. Tested, not proved.
 
 bolt3.json has the cases; its members say where they come from.
 """
+from typing import Any
+from collections.abc import Iterator
+from real.lib.transaction import Transaction
 import json
 import os
 
@@ -15,23 +18,23 @@ ALL = b"\x01"
 PLANNED = "commitment tx with seven outputs", 0
 
 
-def read():
+def read() -> dict[str, Any]:
     with open(os.path.join(HERE, "bolt3.json"), encoding="utf-8") as file:
         return json.load(file)
 
 
-def signed_transaction(raw, items, script, value):
+def signed_transaction(raw: str, items: list[bytes], script: bytes, value: int) -> tuple[Transaction, Output]:
     """A transaction with one input, which has these items and this script."""
     found = read_transaction(bytes.fromhex(raw), marked=False)
     found.inputs[0].witness = [*items, script]
     return found, Output(value, b"\x00\x20" + sha256(script))
 
 
-def signatures_of(told, *names):
+def signatures_of(told: dict[str, Any], *names: str) -> list[bytes]:
     return [bytes.fromhex(told[it]) + ALL for it in names]
 
 
-def commitments(told):
+def commitments(told: dict[str, Any]) -> Iterator[tuple[str, Transaction, Output, int, int]]:
     """Each case's commitment, with the place at which a run of its script ends and its path."""
     for case in told["cases"]:
         ours, theirs = signatures_of(case, "local_signature_der", "remote_signature_der")
@@ -46,7 +49,7 @@ def commitments(told):
         ), FUNDING_SCRIPT_END, 0
 
 
-def htlc_transactions(told):
+def htlc_transactions(told: dict[str, Any]) -> Iterator[tuple[str, Transaction, Output, int, int]]:
     """Each HTLC transaction: path 1 of its script, by both keys (BOLT 3)."""
     preimages = {it["id"]: bytes.fromhex(it["preimage"]) for it in told["htlcs"]}
     for case in told["cases"]:
@@ -64,7 +67,7 @@ def htlc_transactions(told):
             yield f"{case['name']}: HTLC {it['htlc']}", *found, RECEIVED_END if success else OFFERED_END, 1
 
 
-def changed_rows(name, transaction, spent, end):
+def changed_rows(name: str, transaction: Transaction, spent: Output, end: int) -> Iterator[dict[str, Any]]:
     """The transaction with a changed signature, amount and order: each leaves a false entry at the end."""
     answer = [{"answer": "stops", "reason": "FalseEnd", "opcode": end}]
     items = transaction.inputs[0].witness
@@ -76,7 +79,7 @@ def changed_rows(name, transaction, spent, end):
     yield row(f"{name} / order", transaction, [items[0], items[2], items[1], *items[3:]], spent, answer)
 
 
-def row(name, transaction, items, spent, answers):
+def row(name: str, transaction: Transaction, items: list[bytes], spent: Output, answers: list[dict[str, Any]]) -> dict[str, Any]:
     transaction.inputs[0].witness = items
     return {
         "name": name,
@@ -86,7 +89,7 @@ def row(name, transaction, items, spent, answers):
     }
 
 
-def rows():
+def rows() -> Iterator[dict[str, Any]]:
     told = read()
     for name, transaction, spent, end, path in [*commitments(told), *htlc_transactions(told)]:
         items = transaction.inputs[0].witness
@@ -94,7 +97,7 @@ def rows():
         yield from changed_rows(name, transaction, spent, end)
 
 
-def vectors():
+def vectors() -> Iterator[tuple[str, str, Transaction, Output]]:
     """The id in the hash's own byte order and the digest of each transaction, with the transaction and what it spends."""
     told = read()
     cases = [*told["cases"], *(it for case in told["cases"] for it in case["htlc_transactions"])]
@@ -102,7 +105,7 @@ def vectors():
         yield it["txid_hash_order"], it["bip143_digest"], transaction, spent
 
 
-def plan(told, case_name, htlc):
+def plan(told: dict[str, Any], case_name: str, htlc: int) -> dict[str, Any]:
     """An HTLC transaction of the appendix, as the plan of an unsigned spend tells it."""
     case = next(it for it in told["cases"] if it["name"].startswith(case_name))
     it = next(it for it in case["htlc_transactions"] if it["htlc"] == htlc)

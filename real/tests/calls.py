@@ -1,6 +1,7 @@
 """Calls of real/judge, real/psbt, real/sign and real/revoked with hostile or wrong input: what each prints and its
 status, worked by hand from docs/REAL.md. Tested, not proved.
 """
+from typing import Any
 import base64
 import json
 import os
@@ -50,26 +51,26 @@ CLEAN = {**CLEAN, "signatures": [], "digest": ONE.digest(0, SCRIPT, 5).hex(), "a
 WHOLE = {"txid": ONE.txid(), "wtxid": ONE.wtxid(), "inputs": 1, "outputs": 1, "fee": 1, "lock": None, "faults": []}
 
 
-def bare_transaction():
+def bare_transaction() -> Transaction:
     return Transaction(2, [Input(OUTPOINT, b"", 0)], [Output(4, b"\x51")], 0)
 
 
-def partial_base64(fields=None, whole=None, before=b""):
+def partial_base64(fields: dict[bytes, bytes] | None=None, whole: dict[bytes, bytes] | None=None, before: bytes=b"") -> str:
     """A partially signed transaction of one input with these fields, in base64."""
     own = {key_of(0): before or bare_transaction().stripped_bytes(), **(whole or {})}
     return Partial(bare_transaction(), own, [fields or {}], [{}]).base64()
 
 
-def line(value):
+def line(value: dict[str, Any]) -> str:
     return json.dumps(value, separators=(",", ":")) + "\n"
 
 
-def settled_line(reason, says):
+def settled_line(reason: str, says: str) -> str:
     """The line of the one input where it is not judged."""
     return line({"input": 0, "outpoint": CLEAN["outpoint"], "answer": "not judged", "reason": reason, "says": says})
 
 
-def refused_line(name):
+def refused_line(name: str) -> str:
     return line({"refused": name})
 
 
@@ -234,11 +235,11 @@ PLAN = {
 MADE = partial_base64({**UTXO, key_of(SIGHASH_TYPE): b"\x01\x00\x00\x00", key_of(WITNESS_SCRIPT): SCRIPT})
 
 
-def changed_plan(**members):
+def changed_plan(**members: Any) -> str:
     return json.dumps({**PLAN, **members})
 
 
-def other_input(**members):
+def other_input(**members: Any) -> str:
     return changed_plan(inputs=[{**PLAN["inputs"][0], **members}])
 
 
@@ -410,25 +411,25 @@ PAYMENTS = {"opener_payment": BACKUP["bases"]["owner_htlc"], "other_payment": BA
 NUMBER = {"transaction": SEEN.txid(), "commitment_number": 42, "secret_index": 281_474_976_710_613}
 
 
-def seen_transaction(*places):
+def seen_transaction(*places: tuple[int, int | None]) -> Transaction:
     """The transaction of the page with some of its outputs (the second is to_remote); a value may be told."""
     outputs = [Output(value or SEEN.outputs[at].value, SEEN.outputs[at].program) for at, value in places]
     return Transaction(SEEN.version, SEEN.inputs, outputs, SEEN.lock_time)
 
 
-def state_lines(transaction, *keys, **members):
+def state_lines(transaction: Transaction, *keys: str, **members: Any) -> str:
     """What real/revoked reads."""
     return "\n".join([json.dumps({**BACKUP, "transaction": transaction.stripped_bytes().hex(), **members}), *keys])
 
 
-def without(transaction, name):
+def without(transaction: Transaction, name: str) -> str:
     """The same without a member of the state."""
     given = json.loads(state_lines(transaction))
     del given[name]
     return json.dumps(given)
 
 
-def answer_lines(transaction, *answers, taken=(), too_little=(), no_key=(), others=()):
+def answer_lines(transaction: Transaction, *answers: dict[str, Any], taken: tuple[()]=(), too_little: Any=(), no_key: Any=(), others: Any=()) -> str:
     """What real/revoked prints where it makes no transaction."""
     last = {
         "transaction": transaction.txid(),

@@ -5,10 +5,13 @@ The owner is who published the commitment; the peer is whose tower takes its out
 SHA-256 of the channel's number, so they are the same everywhere. Nothing here was made from the answers of a program
 of this repository.
 """
+from typing import Any
+from collections.abc import Iterator
+from electrum.lnutil import UpdateAddHtlc
+from electrum.transaction import PartialTransaction
 import functools
 import hashlib
 from dataclasses import dataclass
-from typing import Dict, List, Optional
 
 from electrum import bitcoin, ecc, lnutil
 
@@ -29,20 +32,20 @@ CONFIRMED_HEIGHTS = (None, HEIGHT, HEIGHT - 1, HEIGHT - 143, HEIGHT - 1_008)
 class Draws:
     """Numbers that a name determines."""
 
-    def __init__(self, name):
+    def __init__(self, name: str) -> None:
         self.name, self.count = name, 0
 
-    def bytes(self):
+    def bytes(self) -> bytes:
         self.count += 1
         return hashlib.sha256(f"{self.name} {self.count}".encode()).digest()
 
-    def number_below(self, bound):
+    def number_below(self, bound: int) -> int:
         return int.from_bytes(self.bytes(), "big") % bound
 
-    def number_between(self, least, most):
+    def number_between(self, least: int, most: int) -> int:
         return least + self.number_below(most - least + 1)
 
-    def choice(self, values):
+    def choice(self, values: Any) -> Htlc | int:
         return values[self.number_below(len(values))]
 
 
@@ -55,7 +58,7 @@ class Htlc:
     payment_hash: bytes
     expiry_height: int
 
-    def of_electrum(self):
+    def of_electrum(self) -> UpdateAddHtlc:
         return lnutil.UpdateAddHtlc(
             amount_msat=self.amount_msat, payment_hash=self.payment_hash, cltv_expiry=self.expiry_height, timestamp=0
         )
@@ -72,25 +75,25 @@ class Channel:
     dust_limit_sat: int
     feerate_per_kw: int
     commitment_number: int
-    privates: Dict[str, bytes]
+    privates: dict[str, bytes]
     secret: bytes
-    htlcs: List[Htlc]
+    htlcs: list[Htlc]
     owner_msat: int
     peer_msat: int
 
-    def confirmed_height(self):
+    def confirmed_height(self) -> int | None:
         """The height of the block that has what is seen; None where none has it yet."""
         return CONFIRMED_HEIGHTS[self.number % len(CONFIRMED_HEIGHTS)]
 
-    def capacity_sat(self):
+    def capacity_sat(self) -> int:
         return -(-(self.owner_msat + self.peer_msat + sum(it.amount_msat for it in self.htlcs)) // 1000)
 
-    def least_sat(self, is_received):
+    def least_sat(self, is_received: bool) -> int:
         """The least value of an HTLC that is not trimmed."""
         threshold = lnutil.received_htlc_trim_threshold_sat if is_received else lnutil.offered_htlc_trim_threshold_sat
         return threshold(dust_limit_sat=self.dust_limit_sat, feerate=self.feerate_per_kw)
 
-    def untrimmed_htlcs(self):
+    def untrimmed_htlcs(self) -> list[Htlc]:
         return [it for it in self.htlcs if it.amount_msat // 1000 >= self.least_sat(it.is_received)]
 
 
@@ -115,10 +118,10 @@ class Known:
     program: bytes
     last: bytes
     key: bytes
-    first_height: Optional[int]
+    first_height: int | None
 
 
-def drawn_htlc(draws, channel):
+def drawn_htlc(draws: Draws, channel: Channel) -> Htlc:
     """An HTLC. One in eight has the hash of an earlier one, as the parts of a payment have; half stand near the bound
     below which an HTLC is trimmed.
     """
@@ -134,7 +137,7 @@ def drawn_htlc(draws, channel):
     return Htlc(is_received, 1000 * amount_sat + draws.number_below(1000), payment_hash, expiry_height)
 
 
-def drawn_channel(number):
+def drawn_channel(number: int) -> Channel:
     """The channel of a number: of two one is older than static_remotekey, of two more one was opened by the owner, and
     there are 0 to 20 HTLCs in turn.
     """
@@ -162,11 +165,11 @@ def drawn_channel(number):
     return found
 
 
-def public_key(private):
+def public_key(private: bytes) -> bytes:
     return ecc.ECPrivkey(private).get_public_key_bytes(compressed=True)
 
 
-def keys_of(channel):
+def keys_of(channel: Channel) -> Keys:
     point, base = public_key(channel.secret), {name: public_key(it) for name, it in channel.privates.items()}
     return Keys(
         revocation=lnutil.derive_blinded_pubkey(base["revocation"], point),
@@ -177,23 +180,23 @@ def keys_of(channel):
     )
 
 
-def program_at(address):
+def program_at(address: str) -> bytes:
     return bytes.fromhex(bitcoin.address_to_script(address))
 
 
 @functools.cache
-def script_program(script):
+def script_program(script: bytes) -> bytes:
     return program_at(bitcoin.redeem_script_to_address("p2wsh", script.hex()))
 
 
-def htlc_script(keys, htlc):
+def htlc_script(keys: Keys, htlc: Htlc) -> bytes:
     """The witness script of an HTLC's output."""
     return lnutil.make_htlc_output_witness_script(
         htlc.is_received, keys.revocation, keys.peer_htlc, keys.owner_htlc, htlc.payment_hash, htlc.expiry_height
     )
 
 
-def known_outputs(channel):
+def known_outputs(channel: Channel) -> Iterator[Known]:
     """What Electrum makes of each output that the commitment may have."""
     keys = keys_of(channel)
     script = lnutil.make_commitment_output_to_local_witness_script(keys.revocation, channel.delay_blocks, keys.delayed)
@@ -216,7 +219,7 @@ def known_outputs(channel):
         )
 
 
-def outputs_by_program(channel):
+def outputs_by_program(channel: Channel) -> dict[bytes, Known]:
     """The same by programs. Several HTLCs may have one: then the first height of all of them counts."""
     found = {}
     for it in known_outputs(channel):
@@ -226,7 +229,7 @@ def outputs_by_program(channel):
     return found
 
 
-def payment_bases(channel):
+def payment_bases(channel: Channel) -> list[bytes]:
     """The payment base points, first that of the side that opened the channel."""
     found = [
         Key(f"payment base of the owner of channel {channel.number}").public,
@@ -235,7 +238,7 @@ def payment_bases(channel):
     return found if channel.is_owner_opener else found[::-1]
 
 
-def commitment_of(channel):
+def commitment_of(channel: Channel) -> PartialTransaction:
     """The commitment's transaction, by lnutil, signed by both funding keys."""
     keys, funding = keys_of(channel), [Key(f"funding {side} of channel {channel.number}") for side in range(2)]
     opener, other = payment_bases(channel)
@@ -265,14 +268,14 @@ def commitment_of(channel):
     return found
 
 
-def htlc_private_key(channel, name):
+def htlc_private_key(channel: Channel, name: str) -> bytes:
     """The private HTLC key of a side at this commitment."""
     return lnutil.derive_privkey(int.from_bytes(channel.privates[name], "big"), public_key(channel.secret)).to_bytes(
         32, "big"
     )
 
 
-def second_stage_of(channel, commitment, htlc):
+def second_stage_of(channel: Channel, commitment: PartialTransaction, htlc: Htlc) -> PartialTransaction:
     """The HTLC transaction of an HTLC, by lnutil, signed by both sides. The preimage of a received one is any, since
     nobody runs that script here.
     """

@@ -9,7 +9,7 @@ from real.lib.errors import NotRun
 SYSTEM = "/usr/bin/python3"
 
 
-def need_electrum():
+def need_electrum() -> None:
     """Runs this program again under the system's Python where the package is not this one's. Electrum wants the
     library too.
     """

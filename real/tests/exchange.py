@@ -1,15 +1,19 @@
 """Partially signed transactions between Electrum and this folder, both ways. Tested, not proved. Wants Debian's
 python3-electrum.
 """
+from typing import Any
+from collections.abc import Iterator
 from electrum.crypto import sha256d
 from electrum.transaction import PartialTransaction
+
+from real.tests.claims import Claim
 
 from real.tests import claims as built
 
 FINGERPRINT, PATH = "0badcafe", "m/1017h/0'/7"
 
 
-def plan_of(transaction, claims):
+def plan_of(transaction: PartialTransaction, claims: list[Claim]) -> dict[str, Any]:
     """The plan of a transaction that nobody signed yet, as a program that makes unsigned spends tells it."""
     inputs = []
     for place, claim in enumerate(claims):
@@ -36,7 +40,7 @@ def plan_of(transaction, claims):
     return {"transaction": transaction.serialize_to_network(include_sigs=False), "fee": fee, "inputs": inputs}
 
 
-def read_by_electrum(text, claims):
+def read_by_electrum(text: bytes, claims: list[Claim]) -> PartialTransaction:
     """Electrum's reading of a partially signed transaction, with whether its fields are the claims'."""
     found = PartialTransaction.from_raw_psbt(text)
     for it, claim in zip(found.inputs(), claims):
@@ -47,7 +51,7 @@ def read_by_electrum(text, claims):
     return found
 
 
-def sign_by_electrum(found, claims):
+def sign_by_electrum(found: PartialTransaction, claims: list[Claim]) -> None:
     """Electrum signs what it read. Of the hash of a key it wants to be told the kind."""
     for it, claim in zip(found.inputs(), claims):
         if claim.is_key_hash:
@@ -55,7 +59,7 @@ def sign_by_electrum(found, claims):
     found.sign({key.public.hex(): (key.secret, True) for claim in claims for key in claim.signers})
 
 
-def signed_bytes(found, claims):
+def signed_bytes(found: PartialTransaction, claims: list[Claim]) -> bytes:
     """What Electrum signed, as bytes: it makes no final witness where it is not told a kind."""
     sign_by_electrum(found, claims)
     for it in found.inputs():
@@ -63,7 +67,7 @@ def signed_bytes(found, claims):
     return found.serialize_as_bytes(force_psbt=True)
 
 
-def finished_bytes(found, claims):
+def finished_bytes(found: PartialTransaction, claims: list[Claim]) -> bytes:
     """What Electrum signed, with its final witnesses where it knows how: of the hash of a key, and of 2 of 3."""
     for it, claim in zip(found.inputs(), claims):
         if claim.kind == "two_of_three":
@@ -76,7 +80,7 @@ def finished_bytes(found, claims):
     return text
 
 
-def cases(count):
+def cases(count: int) -> Iterator[tuple[list[Claim], dict[str, int | list[dict[str, Any | int | str]] | str], str]]:
     """Transactions of Electrum's with their plans, and with what Electrum makes of them when it signs them itself."""
     for number in range(count):
         claims = built.claims_of(number)

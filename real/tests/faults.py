@@ -4,6 +4,9 @@ proved.
 The answers are worked by hand from BOLT 3's scripts and BIPs 65, 66, 112, 141, 143 and 147, and from the words that
 docs/REAL.md and docs/TRACE.md have for a stop. No program of this repository was asked.
 """
+from typing import Any
+from collections.abc import Iterator
+from real.tests.claims import Claim
 import hashlib
 
 from electrum.crypto import sha256d
@@ -19,19 +22,19 @@ EQUALVERIFY_OF_KEY_HASH = 3
 MEASURE = bytes.fromhex("7c820147887c")
 
 
-def clean_answer(path):
+def clean_answer(path: int) -> dict[str, Any]:
     return {"answer": "clean", "path": path, "relay": []}
 
 
-def stops(reason, opcode):
+def stops(reason: str, opcode: int) -> dict[str, int | str]:
     return {"answer": "stops", "reason": reason, "opcode": opcode}
 
 
-def unjudged_answer(reason):
+def unjudged_answer(reason: str) -> dict[str, str]:
     return {"answer": "not judged", "reason": reason}
 
 
-def false_end(claim):
+def false_end(claim: Claim) -> dict[str, int | str]:
     """A signature that is not its key's leaves a false entry at the end."""
     return stops("FalseEnd", claim.opcodes)
 
@@ -39,7 +42,7 @@ def false_end(claim):
 class Case:
     """A transaction that Electrum signed, into which a fault may be planted at one of its inputs."""
 
-    def __init__(self, number):
+    def __init__(self, number: int) -> None:
         self.number = number
         self.claims = built.claims_of(number)
         self.transaction = built.transaction_of(self.claims, number)
@@ -48,28 +51,28 @@ class Case:
         self.spent = built.spent_outputs(self.claims)
         self.place = (number // 3) % len(self.claims)
 
-    def claim(self):
+    def claim(self) -> Claim:
         return self.claims[self.place]
 
-    def clean_answers(self):
+    def clean_answers(self) -> list[dict[str, Any]]:
         return [clean_answer(it.path) for it in self.claims]
 
-    def with_answer(self, answer):
+    def with_answer(self, answer: dict[str, int | str]) -> list[dict[str, Any]]:
         """All inputs are clean but the one with the fault."""
         return [answer if place == self.place else it for place, it in enumerate(self.clean_answers())]
 
-    def row(self, fault, answers):
+    def row(self, fault: str, answers: Any) -> dict[str, Any]:
         kinds = "+".join(it.kind for it in self.claims)
         raw = built.transaction_hex(self.transaction, self.witnesses)
         row = {"name": f"{self.number:03} {kinds} / {fault}", "transaction": raw, "spent": self.spent}
         return {**row, **(answers if isinstance(answers, dict) else {"answers": answers})}
 
 
-def no_fault(case):
+def no_fault(case: Case) -> list[dict[str, Any]]:
     return case.clean_answers()
 
 
-def signature(case):
+def signature(case: Case) -> list[dict[str, Any]]:
     """The last byte of s is another one: the signature is still strict DER, and valid for no key."""
     items, claim = case.witnesses[case.place], case.claim()
     place = items.index(claim.signatures[case.number % len(claim.signatures)])
@@ -79,7 +82,7 @@ def signature(case):
     return case.with_answer(false_end(claim))
 
 
-def order(case):
+def order(case: Case) -> list[dict[str, Any]]:
     """Two signatures change places, or the signature and the item above it."""
     items, claim = case.witnesses[case.place], case.claim()
     if len(claim.signatures) == 2:
@@ -102,7 +105,7 @@ def order(case):
     )
 
 
-def swapped_received_penalty(case, claim):
+def swapped_received_penalty(case: Case, claim: Claim) -> dict[str, int | str]:
     """The timeout's branch runs: its lock may be reached by another input's, and then a key stands where a signature
     is taken.
     """
@@ -111,7 +114,7 @@ def swapped_received_penalty(case, claim):
     return stops("FailedCheck LockTime", LOCK_OF_RECEIVED)
 
 
-def extra_item(case):
+def extra_item(case: Case) -> list[dict[str, Any]]:
     """One more item, below all others."""
     claim = case.claim()
     case.witnesses[case.place].insert(0, (b"", b"\x01", b"\x00" * 5)[case.number % 3])
@@ -120,13 +123,13 @@ def extra_item(case):
     )
 
 
-def amount(case):
+def amount(case: Case) -> list[dict[str, Any]]:
     """The spent output is said to have one satoshi more: only this input's digest has it."""
     case.spent[case.place][0] += 1
     return case.with_answer(false_end(case.claim()))
 
 
-def sequence(case):
+def sequence(case: Case) -> list[dict[str, int | str]]:
     """Another sequence: every input's digest has it. A delay or a lock that it no longer meets stops first."""
     claim, given = case.claim(), case.transaction.inputs()[case.place]
     answers = [false_end(it) for it in case.claims]
@@ -141,7 +144,7 @@ def sequence(case):
     return answers
 
 
-def lock_time(case):
+def lock_time(case: Case) -> list[dict[str, int | str]]:
     """Another lock time, one lower where there is one: every input's digest has it."""
     changed = case.transaction.locktime - 1 if case.transaction.locktime else 1
     case.transaction.locktime = changed
@@ -152,7 +155,7 @@ def lock_time(case):
     ]
 
 
-def forged_token(case):
+def forged_token(case: Case) -> dict[str, str]:
     """A token of the right key over the right digest, where the signature stood."""
     items, claim = case.witnesses[case.place], case.claim()
     place = items.index(claim.signatures[0])
@@ -162,7 +165,7 @@ def forged_token(case):
     return {"refused": f"ForgedToken {case.place} {place}"}
 
 
-def measured_signature(case):
+def measured_signature(case: Case) -> list[dict[str, Any]]:
     """The script asks for the size of its signature, and Electrum signs for that script."""
     claim = case.claim()
     claim.script, claim.is_key_hash = MEASURE + claim.script, False
@@ -180,7 +183,7 @@ def measured_signature(case):
 FAULTS = (no_fault, signature, order, extra_item, amount, sequence, lock_time, forged_token, measured_signature)
 
 
-def rows_of(number):
+def rows_of(number: int) -> Iterator[dict[str, Any]]:
     """A transaction without a fault, and with each fault."""
     for plant in FAULTS:
         case = Case(number)

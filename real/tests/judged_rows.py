@@ -1,6 +1,10 @@
 """Transactions with the answers that are wanted of the judge: rows.jsonl, and what real/tests/cases prints. Tested,
 not proved.
 """
+from typing import Any
+from real.lib.curve import AnyCurve
+from real.lib.trace_program import Trace
+from real.tests.test_judgement import JudgementTest
 import itertools
 import json
 import os
@@ -14,12 +18,12 @@ HERE = os.path.dirname(os.path.abspath(__file__))
 ROWS = os.path.join(HERE, "rows.jsonl")
 
 
-def recorded_rows():
+def recorded_rows() -> list[dict[str, Any]]:
     with open(ROWS, encoding="utf-8") as file:
         return [json.loads(it) for it in file]
 
 
-def row_answer(row, curve, trace):
+def row_answer(row: dict[str, Any], curve: AnyCurve, trace: Trace) -> dict[str, Any]:
     """What is answered of a row's transaction."""
     try:
         spent = [Output(value, bytes.fromhex(program)) for value, program in row["spent"]]
@@ -28,7 +32,7 @@ def row_answer(row, curve, trace):
         return {"refused": str(why)}
 
 
-def is_wanted(row, found):
+def is_wanted(row: dict[str, Any], found: dict[str, Any]) -> bool:
     """Whether the answer is the wanted one: each member that is wanted is there."""
     if "refused" in row or "refused" in found:
         return row.get("refused") == found.get("refused")
@@ -39,7 +43,7 @@ def is_wanted(row, found):
     )
 
 
-def judge_rows(count, rows, curve, trace):
+def judge_rows(count: JudgementTest, rows: list[dict[str, Any]], curve: AnyCurve, trace: Trace) -> None:
     for row in rows:
         found = row_answer(row, curve, trace)
         count.check(

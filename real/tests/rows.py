@@ -4,6 +4,9 @@ proved.
 Each function gives the name of a row, a transaction and the answer for each input, worked by hand from BIPs 16, 62,
 65, 66, 112, 141, 143, 146 and 341. No program of this repository was asked.
 """
+from typing import Any
+from collections.abc import Iterator
+from collections.abc import Callable
 import hashlib
 
 from electrum import ecc, lnutil
@@ -21,36 +24,36 @@ HASH_TYPES = {"NONE": 0x02, "SINGLE": 0x03, "ALL|ANYONECANPAY": 0x81, "SINGLE|AN
 OFF, SECONDS = 1 << 31, 1 << 22
 
 
-def push(data):
+def push(data: bytes) -> bytes:
     return bytes([len(data)]) + data
 
 
-def pay_to(key):
+def pay_to(key: Key) -> bytes:
     """The script that wants one signature of this key."""
     return push(key.public) + b"\xac"
 
 
-def stricter_answer(reason, opcode):
+def stricter_answer(reason: str, opcode: int) -> dict[str, int | str]:
     return {"answer": "stricter here", "reason": reason, "opcode": opcode}
 
 
-def integer(number):
+def integer(number: int) -> bytes:
     """A positive number in DER."""
     data = number.to_bytes(number.bit_length() // 8 + 1, "big")
     return b"\x02" + push(data)
 
 
-def der(r, s):
+def der(r: int, s: int) -> bytes:
     return b"\x30" + push(integer(r) + integer(s))
 
 
-def numbers_of(signature):
+def numbers_of(signature: bytes) -> tuple[int, int]:
     """The two numbers of a signature in DER with its hash type."""
     length = signature[3]
     return int.from_bytes(signature[4 : 4 + length], "big"), int.from_bytes(signature[6 + length : -1], "big")
 
 
-def invalid_signature(seed):
+def invalid_signature(seed: str) -> bytes:
     """A signature of strict form that no key here has made."""
     r, s = (int.from_bytes(hashlib.sha256(f"{seed} {it}".encode()).digest(), "big") >> 2 for it in "rs")
     return der(r, s) + b"\x01"
@@ -59,7 +62,7 @@ def invalid_signature(seed):
 class Spend:
     """A transaction of one input with a script of the row's own."""
 
-    def __init__(self, script, signers, items, sequence=built.FINAL - 1, lock_time=0, version=2):
+    def __init__(self, script: bytes, signers: list[Key], items: Callable, sequence: int=built.FINAL - 1, lock_time: int=0, version: int=2) -> None:
         self.claim = Claim(
             "row",
             script,
@@ -77,19 +80,19 @@ class Spend:
             [built.input_of(self.claim)], [output], locktime=lock_time, version=version, BIP69_sort=False
         )
 
-    def digest(self):
+    def digest(self) -> bytes:
         return sha256d(bytes.fromhex(self.transaction.serialize_preimage(0)))
 
-    def row(self, name, answer):
+    def row(self, name: str, answer: dict[str, Any]) -> dict[str, Any]:
         built.sign(self.transaction, [self.claim])
         return self.unsigned_row(name, self.claim.witness(), answer)
 
-    def unsigned_row(self, name, items, answer):
+    def unsigned_row(self, name: str, items: list[bytes], answer: dict[str, Any]) -> dict[str, Any]:
         raw = built.transaction_hex(self.transaction, [items])
         return {"name": name, "transaction": raw, "spent": built.spent_outputs([self.claim]), "answers": [answer]}
 
 
-def hash_types():
+def hash_types() -> Iterator[dict[str, Any]]:
     """Other hash types than ALL are named and not judged (BIP 143)."""
     for name, number in HASH_TYPES.items():
         spend = Spend(pay_to(A), [A], lambda it: it)
@@ -102,7 +105,7 @@ def hash_types():
         yield spend.unsigned_row(f"hash type {number:02x}, which nobody defines", items, unjudged_answer("HashType"))
 
 
-def high_s():
+def high_s() -> Iterator[dict[str, Any]]:
     """A high s is valid by consensus; nodes do not relay it (BIP 146)."""
     spend = Spend(pay_to(A), [A], lambda it: it)
     built.sign(spend.transaction, [spend.claim])
@@ -111,7 +114,7 @@ def high_s():
     yield spend.unsigned_row("a high s", items, {**clean_answer(0), "relay": ["LOW_S"]})
 
 
-def two_keys():
+def two_keys() -> Iterator[dict[str, Any]]:
     """The other key that the same signature recovers to stands in the witness."""
     spend = Spend(b"\x75" + pay_to(A), [A], lambda it: it)
     built.sign(spend.transaction, [spend.claim])
@@ -126,7 +129,7 @@ def two_keys():
     )
 
 
-def der_preimages():
+def der_preimages() -> Iterator[dict[str, Any]]:
     """A preimage of 32 bytes has the form of a signature, and is none."""
     preimage = bytes.fromhex("301d020c") + b"\x11" * 12 + bytes.fromhex("020d") + b"\x22" * 13 + b"\x01"
     script = lnutil.make_offered_htlc(B.public, A.public, B.public, hashlib.sha256(preimage).digest())
@@ -151,7 +154,7 @@ def der_preimages():
     )
 
 
-def encodings():
+def encodings() -> Iterator[dict[str, Any]]:
     """Encodings that are not strict DER stop by consensus (BIP 66)."""
     spend = Spend(pay_to(A), [A], lambda it: it)
     built.sign(spend.transaction, [spend.claim])
@@ -173,7 +176,7 @@ def encodings():
     )
 
 
-def mixed_inputs():
+def mixed_inputs() -> Iterator[dict[str, Any]]:
     """Inputs of other kinds are named, and the one of version 0 is judged with them."""
     key_hash = built.key_hash(8)
     public, private = key_hash.signers[0].public, key_hash.signers[0].secret
@@ -218,7 +221,7 @@ def mixed_inputs():
     }
 
 
-def input_script():
+def input_script() -> Iterator[dict[str, Any]]:
     """A witness program of its own has no input script (BIP 141)."""
     spend = Spend(pay_to(A), [A], lambda it: it)
     built.sign(spend.transaction, [spend.claim])
@@ -231,7 +234,7 @@ def input_script():
     }
 
 
-def unknown_opcodes():
+def unknown_opcodes() -> Iterator[dict[str, Any]]:
     """Opcodes that the machine does not know are named."""
     others = {
         "CHECKSIGVERIFY": push(A.public) + b"\xad\x51",
@@ -242,7 +245,7 @@ def unknown_opcodes():
         yield Spend(script, [A], lambda it: it).row(f"an unknown opcode: {name}", unjudged_answer("UnknownOpcode"))
 
 
-def stricter_rules():
+def stricter_rules() -> Iterator[dict[str, Any]]:
     """What the machine here refuses and consensus lets pass."""
     uncompressed = Key("uncompressed").private.get_public_key_bytes(compressed=False)
     script = push(uncompressed) + b"\xac"
@@ -286,7 +289,7 @@ def stricter_rules():
     )
 
 
-def hash_of_long_key(key, relay):
+def hash_of_long_key(key: bytes, relay: dict[str, list[str]]) -> Iterator[dict[str, Any]]:
     """The hash of a key of 65 bytes, whose signature is valid by consensus."""
     script = b"\x76\xa9\x14" + hash_160(key) + b"\x88\xac"
     claim = Claim(
@@ -318,7 +321,7 @@ def hash_of_long_key(key, relay):
     }
 
 
-def relay_rules():
+def relay_rules() -> Iterator[dict[str, Any]]:
     """Clean by consensus, and not relayed."""
     script = pay_to(A) + b"\x64" + pay_to(B) + b"\x67\x00\x68"
     spend = Spend(script, [B], lambda it: [it[0], invalid_signature("first")])
@@ -353,12 +356,12 @@ def relay_rules():
         )
 
 
-def pushes_of(count):
+def pushes_of(count: int) -> bytes:
     """Pushes and drops of this many bytes (0, or 3 to 77)."""
     return push(b"\x05" * (count - 2)) + b"\x75" if count else b""
 
 
-def measured_signatures():
+def measured_signatures() -> Iterator[dict[str, Any]]:
     """Facts on a signature's own slot other than its size."""
     script = b"\x76\xa9" + push(b"\x09" * 20) + b"\x87\x64" + pay_to(A) + b"\x67\x00\x68"
     yield Spend(script, [A], lambda it: it).row(
@@ -378,7 +381,7 @@ def measured_signatures():
     )
 
 
-def pushed_items():
+def pushed_items() -> Iterator[dict[str, Any]]:
     """Scripts that push what looks like a signature or a token."""
     token = push(A.public + b"\x08" * 32 + b"\x01")
     yield Spend(b"\x75" + token + b"\x75" + pay_to(A), [A], lambda it: [it[0], b""]).row(
@@ -401,7 +404,7 @@ def pushed_items():
     )
 
 
-def keys_of_scripts():
+def keys_of_scripts() -> Iterator[dict[str, Any]]:
     """Keys that a signature may be valid for, or not."""
     script = push(b"\x02" + b"\xff" * 32) + b"\xac"
     yield Spend(script, [A], lambda it: it).row("a key that is no point", stops("FalseEnd", 2))
@@ -423,13 +426,13 @@ def keys_of_scripts():
     yield Spend(script, [], lambda it: [b"", b"", b""]).row("two empty signatures", stops("FalseEnd", 5))
 
 
-def relative_locks():
+def relative_locks() -> Iterator[dict[str, Any]]:
     """BIPs 68 and 112: blocks and units of 512 seconds, what is off, and bits that nobody looks at."""
 
-    def clean(age=None):
+    def clean(age: dict[str, int] | None=None) -> dict[str, Any]:
         return {**clean_answer(0), "age": age}
 
-    def stop(wanted, found):
+    def stop(wanted: str, found: str) -> dict[str, int | str]:
         return {**stops("FailedCheck Sequence", 1), "says": f"the script asks for {wanted}, {found}"}
 
     blocks = "an age of 144 blocks"
@@ -484,10 +487,10 @@ def relative_locks():
         yield Spend(script, [A], lambda it: it, sequence, 0, version).row(f"a relative lock: {name}", answer)
 
 
-def absolute_locks():
+def absolute_locks() -> Iterator[dict[str, Any]]:
     """BIP 65: heights and times, and a final input."""
 
-    def stop(wanted, found):
+    def stop(wanted: str, found: str) -> dict[str, int | str]:
         return {**stops("FailedCheck LockTime", 1), "says": f"the script asks for the lock {wanted}, {found}"}
 
     rows = [
@@ -525,7 +528,7 @@ def absolute_locks():
         yield Spend(script, [A], lambda it: it, sequence, lock_time).row(f"an absolute lock: {name}", answer)
 
 
-def limits():
+def limits() -> Iterator[dict[str, Any]]:
     """The limits of a run (BIP 141): 201 opcodes with the keys of CHECKMULTISIG, items of 520 bytes."""
     for count, answer in ((200, {**clean_answer(0), "relay": ["WITNESS_ITEMS"]}), (201, unjudged_answer("NotListed"))):
         script = b"\x75" * count + pay_to(A)
@@ -557,7 +560,7 @@ def limits():
     )
 
 
-def ends():
+def ends() -> Iterator[dict[str, Any]]:
     """What stands at the end."""
     for script, items, answer in (
         (b"", [b"\x01"], clean_answer(0)),
@@ -575,7 +578,7 @@ def ends():
         )
 
 
-def anchors():
+def anchors() -> Iterator[dict[str, Any]]:
     """The HTLC of a channel with anchors: the peer's signature of an HTLC transaction has another hash type, and one
     block has to pass on all paths but the penalty (BOLT 3).
     """
@@ -597,7 +600,7 @@ def anchors():
     yield spend.row("anchors: an HTLC-success transaction", unjudged_answer("HashType"))
 
 
-def witnesses():
+def witnesses() -> Iterator[dict[str, Any]]:
     """Witnesses that fit no program, or are not there."""
     spend = Spend(pay_to(A), [A], lambda it: it)
     built.sign(spend.transaction, [spend.claim])
@@ -675,7 +678,7 @@ KINDS_OF_ROWS = (
 )
 
 
-def all_rows():
+def all_rows() -> Iterator[dict[str, Any]]:
     for make in KINDS_OF_ROWS:
         for row in make():
             yield {key: value for key, value in row.items() if not (key == "answers" and "refused" in row)}

@@ -1,6 +1,8 @@
 """Requests for the program `spend`, and the plans that it has to print, worked out anew from BIPs 68, 141 and 143.
 Tested, not proved.
 """
+from typing import Any
+from collections.abc import Iterator
 import json
 import os
 import subprocess
@@ -29,11 +31,11 @@ DUST = (
 )
 
 
-def line(value):
+def line(value: dict[str, Any]) -> str:
     return json.dumps(value, separators=(",", ":")) + "\n"
 
 
-def claim(told, index, path, slots):
+def claim(told: dict[str, Any], index: int, path: int, slots: list[list[str]]) -> dict[str, Any]:
     """A claim on an output of the case's commitment."""
     case = next(it for it in told["cases"] if it["name"].startswith(CASE))
     output = case["outputs"][index]
@@ -47,18 +49,18 @@ def claim(told, index, path, slots):
     return {**place, "shell": None, "slots": slots, "value": output["value_sat"]}
 
 
-def preimage_slot(told, htlc):
+def preimage_slot(told: dict[str, Any], htlc: int) -> list[str]:
     return ["preimage", next(it["payment_hash"] for it in told["htlcs"] if it["id"] == htlc)]
 
 
-def request(told, outputs, htlcs, feerate_per_kw):
+def request(told: dict[str, Any], outputs: list[dict[str, Any]], htlcs: list[int], feerate_per_kw: int) -> dict[str, Any]:
     """What is asked of `spend`: these outputs pay the peer, by the preimages of these HTLCs."""
     to_remote = next(it["outputs"] for it in told["cases"] if it["name"].startswith(CASE))[5]["script_pubkey"]
     preimages = [it["preimage"] for it in told["htlcs"] if it["id"] in htlcs]
     return {"outputs": outputs, "preimages": preimages, "destination": to_remote, "feerate_per_kw": feerate_per_kw}
 
 
-def requests(told):
+def requests(told: dict[str, Any]) -> Iterator[tuple[dict[str, int | list[dict[str, Any | None | int | str]] | list[str] | str], list[int], int]]:
     """Of each request the sequence of each input and the lock time that BOLT 3 has for it: what the peer takes of a
     commitment, by a preimage and after a timeout; an output to the hash of a key; one after its delay; and what both
     keys sign.
@@ -147,12 +149,12 @@ def shown_request(asked):
     return {**asked, "outputs": outputs}
 
 
-def spend_answer(text):
+def spend_answer(text: str) -> tuple[str, int]:
     """What `spend` prints, and its status."""
     return spend_answers(text)[:2]
 
 
-def spend_answers(text):
+def spend_answers(text: str) -> tuple[str, int, list[?]]:
     """What `spend` prints, its status, and its notes."""
     try:
         ran = subprocess.run([os.path.join(TOP, "spend")], input=text.encode(), capture_output=True, timeout=SECONDS)
@@ -167,7 +169,7 @@ def spend_answers(text):
     )
 
 
-def changed_request(asked, **members):
+def changed_request(asked, **members: Any):
     return line({**asked, **members})
 
 

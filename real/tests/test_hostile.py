@@ -19,7 +19,7 @@ NEGATED = b"\x64\x51\x67\x00\x68"
 PREIMAGE, DELAY, LOCK_TIME = b"\x09" * 32, 7, 600
 
 
-def read_all_fields(given):
+def read_all_fields(given) -> None:
     """Reads a partially signed transaction as far as any tool does."""
     found = psbt.read(given)
     for index, fields in enumerate(found.inputs):
@@ -122,7 +122,7 @@ def drawn_case(chance):
 class HostileTest(JudgeCase):
     """Hostile bytes, encodings and scripts at random."""
 
-    def survives(self, name, read, given):
+    def survives(self, name, read, given) -> None:
         """Whether a reader of changed bytes returns, or refuses by name, and nothing else."""
         chance = random.Random(name)
         for number in range(MUTATIONS):
@@ -139,7 +139,7 @@ class HostileTest(JudgeCase):
                 return
         self.check(True, name)
 
-    def test_hostile_bytes(self):
+    def test_hostile_bytes(self) -> None:
         """Each reader, with changed bytes."""
         told = bolt3.read()
         plan = json.dumps(bolt3.plan(told, *bolt3.PLANNED)).encode()
@@ -159,7 +159,7 @@ class HostileTest(JudgeCase):
             json.dumps({"transaction": calls.SEEN.stripped_bytes().hex(), **calls.PAYMENTS}).encode(),
         )
 
-    def test_strict_encodings(self):
+    def test_strict_encodings(self) -> None:
         """An item is in strict DER exactly where an encoder writes it of the numbers that it has."""
         chance, strict = random.Random("strict"), 0
         for _ in range(MUTATIONS):
@@ -180,7 +180,7 @@ class HostileTest(JudgeCase):
             strict += holds
         self.check(0 < strict < MUTATIONS, "encodings that are strict and others")
 
-    def test_drawn_cases(self):
+    def test_drawn_cases(self) -> None:
         """The judge with tokens and a run by the rules of consensus with signatures agree, but for the rules that are
         stricter. Each kind of answer comes.
         """
@@ -199,7 +199,7 @@ class HostileTest(JudgeCase):
         ]
         self.check(all(seen.get(it, 0) for it in wanted), f"answers of scripts at random: {seen}")
 
-    def test_bounds(self):
+    def test_bounds(self) -> None:
         """What is looked at is bounded over all inputs: two of them, and each alone is within the bound."""
         signature, keys = encoded_numbers(1, 1), [bytes([2]) + place.to_bytes(32, "big") for place in range(1, 251)]
         checked = [[signature] * 300 + keys + [b"\x51" + b"\x75" * place + b"\x51"] for place in (1, 2)]
@@ -225,7 +225,7 @@ class HostileTest(JudgeCase):
             [it.settled and it.settled.reason for it in copied] == [None] * 36 + ["TooMuchStack"], "stacks with copies"
         )
 
-    def test_hashes(self):
+    def test_hashes(self) -> None:
         """RIPEMD-160 of two texts, as its authors print them, and HASH160 of each length by both hashers, where this
         Python has one.
         """

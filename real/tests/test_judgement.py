@@ -1,6 +1,9 @@
 """Tests of the judge with real signatures: the recorded rows, the signed transactions of BOLT 3's Appendix C, and both
 sides of each limit. Tested, not proved.
 """
+from typing import Any
+from collections.abc import Callable
+from real.lib.trace_program import Trace
 import os
 
 from real.lib import judge_text, judgement
@@ -15,17 +18,17 @@ SUCCESS = os.path.join(os.path.dirname(os.path.abspath(__file__)), "success.txt"
 class Changing:
     """A judge whose answers are changed."""
 
-    def __init__(self, trace, change):
+    def __init__(self, trace: Trace, change: Callable) -> None:
         self.trace, self.change = trace, change
 
-    def paths(self, scripts):
+    def paths(self, scripts: list[bytes]) -> list[dict[str, Any]]:
         return self.trace.paths(scripts)
 
-    def witness(self, transaction, spent):
+    def witness(self, transaction: Transaction, spent: list[Output]) -> list[dict[str, Any]]:
         return [self.change(it) for it in self.trace.witness(transaction, spent)]
 
 
-def large_transaction(inputs, outputs):
+def large_transaction(inputs: int, outputs: int) -> Transaction:
     it = read_transaction(bytes.fromhex(bolt3.plan(bolt3.read(), *bolt3.PLANNED)["transaction"]), marked=False)
     made = [type(it.inputs[0])(bytes(32) + place.to_bytes(4, "little"), b"", 0, [b"\x51"]) for place in range(inputs)]
     return Transaction(2, made, it.outputs[:1] * outputs, 0)
@@ -35,20 +38,20 @@ class JudgementTest(CurveCase):
     """What becomes of each input."""
 
     @classmethod
-    def setUpClass(cls):
+    def setUpClass(cls) -> None:
         super().setUpClass()
         cls.rows = recorded_rows()
 
-    def test_rows(self):
+    def test_rows(self) -> None:
         """The answer of each row is the wanted one."""
         judge_rows(self, [*self.rows, *bolt3.rows()], self.curve, self.trace)
 
-    def test_relay(self):
+    def test_relay(self) -> None:
         """Each rule of relay is wanted of a row, and told in words."""
         seen = {name for row in self.rows for answer in row.get("answers", []) for name in answer.get("relay", [])}
         self.check(seen == set(judge_text.RELAY), f"rules of relay: {seen}")
 
-    def test_comparison(self):
+    def test_comparison(self) -> None:
         """A wanted answer that is changed is not met, so that the comparison can fail."""
         row = next(it for it in self.rows if "answers" in it)
         found = row_answer(row, self.curve, self.trace)
@@ -60,7 +63,7 @@ class JudgementTest(CurveCase):
         ):
             self.check(not is_wanted({"answers": wanted}, found), "the comparison itself")
 
-    def test_vectors(self):
+    def test_vectors(self) -> None:
         """Ids and digests are those that the appendix's cases have."""
         for txid, digest, transaction, spent in bolt3.vectors():
             self.check(transaction.txid() == bytes.fromhex(txid)[::-1].hex(), "an id as explorers show it")
@@ -69,7 +72,7 @@ class JudgementTest(CurveCase):
                 "a digest of BIP 143",
             )
 
-    def test_guards(self):
+    def test_guards(self) -> None:
         """A digest of the judge's that is another one, and a clean run that consensus does not take, are told."""
         named = {it["name"]: it for it in self.rows}
         clean = next(it for name, it in named.items() if name.endswith("/ no_fault"))
@@ -96,7 +99,7 @@ class JudgementTest(CurveCase):
         ][0]
         self.check(found["reason"] == "Disagreement", "a stop of a good signature")
 
-    def test_large_transactions(self):
+    def test_large_transactions(self) -> None:
         """One input or output more than are judged."""
         for inputs, outputs, reason in ((4001, 1, "TooManyInputs"), (1, 4001, "TooManyOutputs")):
             found = judgement.judge(
@@ -116,7 +119,7 @@ class JudgementTest(CurveCase):
         found = judgement.judge(large_transaction(1, 4000), [Output(5, calls.PROGRAM)], self.curve, self.trace)
         self.check(found[0]["answer"] == "clean", "4,000 outputs")
 
-    def test_limits(self):
+    def test_limits(self) -> None:
         """Witnesses on both sides of their limits: items, the bytes of one, and signatures times keys."""
         formed, keys = [bytes.fromhex("3006020101020101") + b"\x01"] * 400, [
             bytes([2]) + bytes([1, it]) * 16 for it in range(251)
@@ -134,7 +137,7 @@ class JudgementTest(CurveCase):
             found = judgement.judge(given, [Output(5, calls.PROGRAM)], self.curve, self.trace)[0]
             self.check(found["reason"] == reason, f"{reason}, and not {found['reason']}")
 
-    def test_order(self):
+    def test_order(self) -> None:
         """Of two signatures that are valid, each in the place of the other, the order is named; and not where each
         stands in its own.
         """

@@ -1,6 +1,13 @@
 """Tests of penalties with real keys: BOLT 3's Appendix E, and the commitments and HTLC transactions of Appendix C as
 revoked ones. Tested, not proved.
 """
+from typing import Any
+from collections.abc import Callable
+from real.lib.commitment import Keys
+from real.lib.commitment import Known
+from real.lib.curve import AnyCurve
+from real.lib.penalties import State
+from real.lib.trace_program import Trace
 import json
 
 from real.lib import commitment, commitment_number, derivation, penalties, penalty_notes
@@ -88,11 +95,11 @@ FUNDING_KEYS = ("local_funding_pubkey", "remote_funding_pubkey")
 REST_WEIGHT = 4 * (8 + 1 + 1 + 8 + 23) + 2
 
 
-def private_key(name):
+def private_key(name: str) -> bytes:
     return bytes([PRIVATES[name]]) * 32
 
 
-def htlc(told, number):
+def htlc(told: dict[str, Any], number: int) -> dict[str, int | str]:
     found = next(it for it in told["htlcs"] if it["id"] == number)
     return {
         "direction": "offered" if found["offered_by_local"] else "received",
@@ -101,7 +108,7 @@ def htlc(told, number):
     }
 
 
-def state(told, case, curve, **changes):
+def state(told: dict[str, Any], case: dict[str, Any], curve: AnyCurve, **changes: Any) -> dict[str, Any]:
     """A case of Appendix C as a revoked state, with members changed."""
     bases = {name: curve.public_key(private_key(name)).hex() for name in PRIVATES}
     found = {
@@ -118,21 +125,21 @@ def state(told, case, curve, **changes):
     return {**found, **changes}
 
 
-def dearest(values, places=None):
+def dearest(values: Any, places: list[int] | None=None) -> list[int]:
     """Places of outputs in the order in which they are told: the greatest value first."""
     return sorted(range(len(values)) if places is None else places, key=lambda it: -values[it])
 
 
-def values_of(case):
+def values_of(case: dict[str, Any]) -> list[int]:
     return [it["value_sat"] for it in case["outputs"]]
 
 
-def penalties_of(given, curve, trace, privates=None, **options):
+def penalties_of(given: dict[str, Any], curve: AnyCurve, trace: Trace, privates: list[bytes] | None=None, **options: bool) -> list[dict[str, Any]] | None:
     keys = [private_key("revocation"), private_key("payment")] if privates is None else privates
     return list(penalties.penalties(penalties.read_state(json.dumps(given)), keys, curve, trace, **options))
 
 
-def deadline_of(output):
+def deadline_of(output: dict[str, int | str]) -> int | None:
     """The blocks after HEIGHT in which nobody else can take an output of a case that the next block has."""
     return {
         "to_local": 144,
@@ -142,21 +149,21 @@ def deadline_of(output):
     }[output["kind"]]
 
 
-def with_outputs(case, outputs):
+def with_outputs(case: dict[str, Any], outputs: Any) -> str:
     """A case's transaction with other outputs."""
     found = read_transaction(bytes.fromhex(case["unsigned_tx_no_witness"]), marked=False)
     found.outputs = [Output(value, bytes.fromhex(program)) for value, program in outputs]
     return found.bytes().hex()
 
 
-def state_and_table(given, curve):
+def state_and_table(given: dict[str, Any], curve: AnyCurve) -> tuple[State, dict[bytes, Known]]:
     """A state, and what is known of its outputs."""
     found = penalties.read_state(json.dumps(given))
     keys = commitment.keys_of(curve, found.bases, curve.public_key(found.secret), False)
     return found, commitment.table_of(keys, found.delay_blocks, found.htlcs)
 
 
-def with_anchors(told, case):
+def with_anchors(told: dict[str, Any], case: dict[str, Any]) -> list[tuple[str, int, str, int | None]]:
     """The outputs of a case's commitment as BOLT 3 has them with `option_anchors`, by the appendix's own scripts: `1
     CHECKSEQUENCEVERIFY DROP` stands before the last ENDIF of an HTLC's, and to_remote is `KEY CHECKSIGVERIFY 1
     CHECKSEQUENCEVERIFY`. The two anchors come first: `KEY CHECKSIG IFDUP NOTIF 16 CHECKSEQUENCEVERIFY ENDIF`, each
@@ -174,7 +181,7 @@ def with_anchors(told, case):
     return found
 
 
-def anchored_state(told, case, curve, outputs, **changes):
+def anchored_state(told: dict[str, Any], case: dict[str, Any], curve: AnyCurve, outputs: list[tuple[str, int, str, int | None]], **changes: int | str) -> dict[str, Any]:
     """The state of a case's commitment with these outputs, in a channel with anchors."""
     transaction = with_outputs(
         case, [(value, "0020" + sha256(bytes.fromhex(script)).hex()) for _, value, script, _ in outputs]
@@ -188,25 +195,25 @@ def anchored_state(told, case, curve, outputs, **changes):
     )
 
 
-def places_of(outputs, *kinds):
+def places_of(outputs: list[tuple[str, int, str, int | None]], *kinds: str) -> list[int]:
     return [at for at, it in enumerate(outputs) if it[0] in kinds]
 
 
-def keys_at(found, curve):
+def keys_at(found: State, curve: AnyCurve) -> Keys:
     return commitment.keys_of(curve, found.bases, curve.public_key(found.secret), False)
 
 
-def anchored_state_and_table(given, curve):
+def anchored_state_and_table(given: dict[str, Any], curve: AnyCurve) -> tuple[State, dict[bytes, Known]]:
     found = penalties.read_state(json.dumps(given))
     return found, commitment.table_of(keys_at(found, curve), found.delay_blocks, found.htlcs, found.channel_type)
 
 
-def output_names(given, curve, others):
+def output_names(given: dict[str, Any], curve: AnyCurve, others: list[int]) -> dict[str, dict[str, list[int]]]:
     found, table = anchored_state_and_table(given, curve)
     return penalties.names_of(found, keys_at(found, curve), table, others)
 
 
-def notes_of(given, curve, trace):
+def notes_of(given: dict[str, Any], curve: AnyCurve, trace: Trace) -> list[str]:
     read = penalties.read_state(json.dumps(given))
     return list(penalty_notes.notes_of(read, penalties_of(given, curve, trace)))
 
@@ -217,7 +224,7 @@ class PenaltiesTest(CurveCase):
     told = bolt3.read()
     case = told["cases"][1]
 
-    def test_cases(self):
+    def test_cases(self) -> None:
         """What is tried of each case."""
         for case in self.told["cases"]:
             self.check_case(case)
@@ -226,7 +233,7 @@ class PenaltiesTest(CurveCase):
             self.check_changes(case)
             self.check_legacy_key(case)
 
-    def test_derivation(self):
+    def test_derivation(self) -> None:
         base, point = self.curve.public_key(BASE_SECRET), self.curve.public_key(SECRET)
         found = [
             base,
@@ -239,7 +246,7 @@ class PenaltiesTest(CurveCase):
         for name, it in zip((BASE, POINT, DERIVED, DERIVED_PRIVATE, REVOCATION, REVOCATION_PRIVATE), found):
             self.check(it.hex() == name, f"a key of BOLT 3's Appendix E: {name}")
 
-    def check_case(self, case):
+    def check_case(self, case: dict[str, Any]) -> None:
         """Each output of a case is taken on its own, the dearest first, with the value and the script of the appendix,
         its fee and its deadline.
         """
@@ -269,7 +276,7 @@ class PenaltiesTest(CurveCase):
             self.check(made.inputs[0].witness[-1].hex() == script, f"{where}: its script")
             self.check(it["deadline_blocks"] == deadline_of(output), f"{where}: its deadline")
 
-    def check_last_line(self, name, found, taken=(), too_little=(), no_key=(), others=(), named=None):
+    def check_last_line(self, name: str, found: list[dict[str, Any]], taken: Any=(), too_little: Any=(), no_key: Any=(), others: Any=(), named: dict[str, list[int]] | None=None) -> None:
         """What the last line says of all outputs, and that each of the lines before it has an answer that fits."""
         wanted = {
             "taken": [*taken],
@@ -289,7 +296,7 @@ class PenaltiesTest(CurveCase):
         sent = {it["answer"] for it in found[:-1] if "transaction" in it}
         self.check(sent <= {"taken"}, f"{name}: transactions of {sent}")
 
-    def check_one(self, case):
+    def check_one(self, case: dict[str, Any]) -> None:
         """What nobody else can take yet is taken together."""
         found = penalties_of(state(self.told, case, self.curve), self.curve, self.trace, is_one=True)
         free = [
@@ -303,7 +310,7 @@ class PenaltiesTest(CurveCase):
             rest == [[at] for at in dearest(values_of(case)) if at not in free], f"{case['name']}: one by one {rest}"
         )
 
-    def test_shared_program(self):
+    def test_shared_program(self) -> None:
         """Two offered HTLCs of one hash have one program: the deadline of both outputs is by the least expiry, in
         whatever order they are told.
         """
@@ -334,7 +341,7 @@ class PenaltiesTest(CurveCase):
                     alone == {0: 0, 1: left, 2: left, 3: None, 4: 503 + 143 - height}, f"{where}: deadlines {alone}"
                 )
 
-    def test_expiries(self):
+    def test_expiries(self) -> None:
         """An output whose HTLC has expired is in no transaction of several, where another HTLC of its hash expires
         much later.
         """
@@ -356,7 +363,7 @@ class PenaltiesTest(CurveCase):
                 f"an HTLC of 502 and 2000, as {expiries}: {found[1:]}",
             )
 
-    def test_joined_outputs(self):
+    def test_joined_outputs(self) -> None:
         """A transaction of several leaves out an output that has less than what its input costs there, on both sides
         of that.
         """
@@ -393,7 +400,7 @@ class PenaltiesTest(CurveCase):
                 f"outputs of {values}: together {[it['outputs'] for it in found[:-1]]}",
             )
 
-    def test_missing_key(self):
+    def test_missing_key(self) -> None:
         """With one private key what it takes is taken, and each other output is told with the name of the key that is
         missing.
         """
@@ -422,7 +429,7 @@ class PenaltiesTest(CurveCase):
                 )
                 self.check(penalties.is_left(found[-1]), f"the key of {name} alone: nothing is left")
 
-    def test_dust(self):
+    def test_dust(self) -> None:
         """The least value that is paid, by the kind of destination; and what is no destination."""
         found, table = state_and_table(state(self.told, self.case, self.curve), self.curve)
         takes, _ = penalties.split_outputs(found, table)
@@ -445,7 +452,7 @@ class PenaltiesTest(CurveCase):
                 ),
             )
 
-    def test_numbers(self):
+    def test_numbers(self) -> None:
         """The number of each case's commitment; and what is none."""
         terms = self.told["terms"]
         bases = {
@@ -483,7 +490,7 @@ class PenaltiesTest(CurveCase):
         ):
             self.refuses(f"BadShape {name}", lambda it=given: commitment_number.commitment_numbers(json.dumps(it)))
 
-    def check_second_stages(self, case):
+    def check_second_stages(self, case: dict[str, Any]) -> None:
         """The output of each HTLC transaction is taken by the same call; of its HTLCs, delay and base points it wants
         the delay and two base points.
         """
@@ -499,7 +506,7 @@ class PenaltiesTest(CurveCase):
                 others=[0],
             )
 
-    def check_changes(self, case):
+    def check_changes(self, case: dict[str, Any]) -> None:
         """With one base point, the delay, the secret or a part of an HTLC changed, what no longer matches is named."""
         other = self.curve.public_key(b"\x55" * 32).hex()
         made_of = {
@@ -530,7 +537,7 @@ class PenaltiesTest(CurveCase):
                 f"{case['name']}: {list(changes)}, {found[1]}",
             )
 
-    def test_deadlines(self):
+    def test_deadlines(self) -> None:
         """Both sides of each deadline: the last block that nobody else's transaction can be in, and the next one."""
         at = {it["kind"]: place for place, it in enumerate(self.case["outputs"])}
         rows = [
@@ -559,7 +566,7 @@ class PenaltiesTest(CurveCase):
                 f"{self.case['name']}: the deadline of {kind} with {changes}",
             )
 
-    def check_legacy_key(self, case):
+    def check_legacy_key(self, case: dict[str, Any]) -> None:
         """Before static_remotekey the remote key is derived: the output to the derived key is taken, and the one to
         the base point is named.
         """
@@ -582,7 +589,7 @@ class PenaltiesTest(CurveCase):
             f"{case['name']}: a derived remote key",
         )
 
-    def test_anchors(self):
+    def test_anchors(self) -> None:
         """With anchors each HTLC and to_local is taken by the scripts of such a channel; to_remote and the anchors are
         named by what they are.
         """
@@ -610,7 +617,7 @@ class PenaltiesTest(CurveCase):
         self.check_waits(self.case, outputs)
         self.check_other_type(self.case, outputs)
 
-    def check_waits(self, case, outputs):
+    def check_waits(self, case: dict[str, Any], outputs: list[tuple[str, int, str, int | None]]) -> None:
         """The owner's HTLC transactions wait for a block: both sides of that, before the expiry and after it."""
         mine = places_of(outputs, "to_local", "offered", "received")
         for height, confirmed_height, least in (
@@ -647,7 +654,7 @@ class PenaltiesTest(CurveCase):
                 ),
             )
 
-    def check_other_type(self, case, outputs):
+    def check_other_type(self, case: dict[str, Any], outputs: list[tuple[str, int, str, int | None]]) -> None:
         """A commitment that is told as of the other type: its HTLCs match nothing, and are named. So are anchors with
         another value, and without their keys.
         """
@@ -702,7 +709,7 @@ class PenaltiesTest(CurveCase):
             named={},
         )
 
-    def test_added(self):
+    def test_added(self) -> None:
         """What the owner of a channel with anchors adds to an HTLC transaction is named, and nothing is left; and not
         where its own output matches nothing.
         """
@@ -724,7 +731,7 @@ class PenaltiesTest(CurveCase):
                 f"anchors: an HTLC transaction with {changes}: {found[-1]}",
             )
 
-    def test_spent(self):
+    def test_spent(self) -> None:
         """Outputs that are told to be gone are in no transaction and no other list."""
         given, every = state(self.told, self.case, self.curve), range(len(self.case["outputs"]))
         for gone in ([0], [len(every) - 1, 1], [*every]):
@@ -744,7 +751,7 @@ class PenaltiesTest(CurveCase):
                 lambda it=bad: penalties.read_state(json.dumps({**given, "spent": it})),
             )
 
-    def test_keys(self):
+    def test_keys(self) -> None:
         """A key of neither base point is told, and what the others take is taken all the same; where none is of one,
         the first is refused.
         """
@@ -764,7 +771,7 @@ class PenaltiesTest(CurveCase):
         self.check_last_line("a key that is not used", [*found, last], range(len(self.case["outputs"])))
         self.refuses("UnusedKey 0", lambda: penalties_of(given, self.curve, self.trace, keys[1:2]))
 
-    def test_feerates(self):
+    def test_feerates(self) -> None:
         """The limit of a feerate, and one that the state sets, each on both sides."""
         given = state(self.told, self.case, self.curve)
         for changes, most in (
@@ -788,7 +795,7 @@ class PenaltiesTest(CurveCase):
                 f"BadShape state.{name}", lambda it=name: penalties.read_state(json.dumps({**given, it: 10_000_001}))
             )
 
-    def test_notes(self):
+    def test_notes(self) -> None:
         """Each note is said where it holds, and not on the other side of that."""
         good, outputs = state(self.told, self.case, self.curve), with_anchors(self.told, self.case)
         second = self.case["htlc_transactions"][0]["unsigned_tx_no_witness"]
@@ -799,14 +806,14 @@ class PenaltiesTest(CurveCase):
         at = next(at for at, it in enumerate(self.case["outputs"]) if it["kind"] == "to_local")
         fee = TO_LOCAL_WEIGHT + REST_WEIGHT
 
-        def only_local(value, **changes):
+        def only_local(value: int, **changes: int) -> dict[str, Any]:
             return {
                 **good,
                 "transaction": with_outputs(self.case, [(value, self.case["outputs"][at]["script_pubkey"])]),
                 **changes,
             }
 
-        def many(number):
+        def many(number: int) -> dict[str, Any]:
             return {
                 **good,
                 "transaction": with_outputs(self.case, [(5_000, self.case["outputs"][at]["script_pubkey"])] * number),
@@ -843,7 +850,7 @@ class PenaltiesTest(CurveCase):
             found = notes_of(given, self.curve, self.trace)
             self.check(any(it.startswith(start) for it in found) == holds, f"a note that begins {start!r}: {found}")
 
-    def refuses(self, name, make):
+    def refuses(self, name: str, make: Callable) -> None:
         """Whether a call is refused by this name."""
         try:
             found = make() and "taken"
@@ -851,7 +858,7 @@ class PenaltiesTest(CurveCase):
             found = str(why)
         self.check(found == name, f"a fault that is to be refused as {name}: {found}")
 
-    def test_refusals(self):
+    def test_refusals(self) -> None:
         good = state(self.told, self.case, self.curve)
         rows = [
             ("NoKey", good, []),

@@ -1,6 +1,9 @@
 """Tests of partially signed transactions: each HTLC transaction of BOLT 3's Appendix C is made, signed and finished,
 and faults are refused. Tested, not proved.
 """
+from typing import Any
+from collections.abc import Callable
+from real.lib.psbt import Partial
 import json
 
 from real.lib import assembly, judgement, psbt, scripts
@@ -16,11 +19,11 @@ from real.tests.checks import CurveCase
 ORDER = int("fffffffffffffffffffffffffffffffebaaedce6af48a03bbfd25e8cd0364141", 16)
 
 
-def push_of(key):
+def push_of(key: bytes) -> bytes:
     return bytes([len(key)]) + key
 
 
-def is_refused_as(name, make):
+def is_refused_as(name: str, make: Callable) -> bool:
     try:
         make()
     except Refused as why:
@@ -28,7 +31,7 @@ def is_refused_as(name, make):
     return False
 
 
-def with_signatures(signed, change):
+def with_signatures(signed: str, change: Callable) -> Partial:
     found = psbt.read(psbt.decoded_bytes(signed.encode()))
     for fields in found.inputs:
         for key in [it for it in fields if psbt.kind_of(it)[0] == psbt.PARTIAL_SIG]:
@@ -36,7 +39,7 @@ def with_signatures(signed, change):
     return found
 
 
-def with_high_s(signature):
+def with_high_s(signature: bytes) -> bytes:
     """The same signature with the other s, which is as valid."""
     size = signature[3]
     first, second = signature[: 4 + size], ORDER - int.from_bytes(signature[6 + size : -1], "big")
@@ -48,7 +51,7 @@ def with_high_s(signature):
 class PsbtTest(CurveCase):
     """Each HTLC transaction of the appendix, the hash of a key, and what spend makes."""
 
-    def test_appendix(self):
+    def test_appendix(self) -> None:
         """Each HTLC transaction of the appendix from its plan: made, signed by both keys, finished. The signatures are
         those of the appendix.
         """
@@ -74,7 +77,7 @@ class PsbtTest(CurveCase):
                 self.finish_final_witness(plan, finished.inputs[0].witness)
                 self.tell_preimage(told, it, made)
 
-    def spend_key_hashes(self, privates):
+    def spend_key_hashes(self, privates: list[bytes]) -> None:
         """An output to the hash of a key and one to a script, whose keys are in the witness and in the script, in one
         transaction.
         """
@@ -116,7 +119,7 @@ class PsbtTest(CurveCase):
         found = judgement.judge(assembly.finish(read_plan(plan), signed, self.curve), spent, self.curve, self.trace)
         self.check([it["answer"] for it in found] == ["clean", "clean"], f"the hash of a key, and a script: {found}")
 
-    def test_request(self):
+    def test_request(self) -> None:
         """What the program `spend` makes is signed by the peer's key, finished and judged: an HTLC by its preimage,
         and one after its timeout.
         """
@@ -135,7 +138,7 @@ class PsbtTest(CurveCase):
         weight = 3 * len(finished.stripped_bytes()) + len(finished.bytes())
         self.check(weight <= json.loads(plan)["weight"] < weight + 8, f"a weight of {weight}")
 
-    def finish_final_witness(self, plan, witness):
+    def finish_final_witness(self, plan: str, witness: list[bytes]) -> None:
         """A final witness in another order is put back into the order of the plan; one that lacks a signature is
         refused.
         """
@@ -157,7 +160,7 @@ class PsbtTest(CurveCase):
                     "a final witness without a signature",
                 )
 
-    def tell_preimage(self, told, htlc, made):
+    def tell_preimage(self, told: dict[str, Any], htlc: dict[str, int | str], made: str) -> None:
         """The preimage of an HTLC-success transaction stands beside the hash that the script has: RIPEMD-160 of the
         payment hash.
         """
@@ -166,7 +169,7 @@ class PsbtTest(CurveCase):
         pair = {ripemd160(bytes.fromhex(payment["payment_hash"])): bytes.fromhex(payment["preimage"])}
         self.check(found == (pair if htlc["kind"] == "success" else {}), "a preimage that is told")
 
-    def refuse_faults(self, plan, signed, privates):
+    def refuse_faults(self, plan: str, signed: str, privates: list[bytes]) -> None:
         """Signatures that are missing, changed, of another hash type, or for a key that nobody asked for are refused
         by name.
         """

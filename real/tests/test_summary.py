@@ -12,12 +12,12 @@ CHECKS, CHECK, CHECK_MANY = b"\xac" * 10_000, b"\xac", b"\x52\xae"
 CUT, PUSHED, LONG_PUSHED = b"\x05\xac\xac", b"\x4c\x02\xac\xac", b"\x4d\x02\x00\xac\xac\xae"
 
 
-def transaction(outputs, witness=(b"\x51",), count=1, script=b""):
+def transaction(outputs, witness=(b"\x51",), count: int=1, script: bytes=b""):
     inputs = [Input(bytes([7]) * 32 + it.to_bytes(4, "little"), script, 0, list(witness)) for it in range(count)]
     return Transaction(2, inputs, [Output(value, program) for value, program in outputs], 0)
 
 
-def spent_outputs(it, value=5):
+def spent_outputs(it, value: int=5):
     """Outputs to the scripts at the end of the inputs' witnesses."""
     return [Output(value, b"\x00\x20" + sha256(each.witness[-1])) for each in it.inputs]
 
@@ -38,13 +38,13 @@ def faults(it, spent):
 class SummaryTest(CheckedCase):
     """What is told of whole transactions."""
 
-    def test_weight(self):
+    def test_weight(self) -> None:
         for weight, wanted in ((4_000_000, []), (4_000_001, ["TooHeavy"])):
             it = of_weight(weight)
             self.check(3 * len(it.stripped_bytes()) + len(it.bytes()) == weight, f"a transaction of weight {weight}")
             self.check(faults(it, spent_outputs(it, 100)) == wanted, f"faults of weight {weight}")
 
-    def test_sums(self):
+    def test_sums(self) -> None:
         """Totals above 21 million bitcoins, more outputs than inputs, and what is not known."""
         for outputs, value, wanted in (
             ([(5, b"")], 5, []),
@@ -62,7 +62,7 @@ class SummaryTest(CheckedCase):
         told = summary.summary_of(two, [None, Output(1, KEY_HASH)])
         self.check((told["fee"], told["faults"]) == (None, []), "a spent output that is not known")
 
-    def test_outpoints(self):
+    def test_outpoints(self) -> None:
         for outpoint, wanted in (
             (bytes(32) + b"\xff" * 4, ["NoOutpoint"]),
             (bytes(36), []),
@@ -75,7 +75,7 @@ class SummaryTest(CheckedCase):
         same.inputs[1].outpoint = same.inputs[0].outpoint
         self.check(faults(same, spent_outputs(same)) == ["SameOutpoint"], "one outpoint twice")
 
-    def test_locks(self):
+    def test_locks(self) -> None:
         """What a lock time asks for: nothing where all inputs are final."""
         final = 0xFFFFFFFF
         for lock_time, sequences, wanted in (
@@ -97,7 +97,7 @@ class SummaryTest(CheckedCase):
         told = judge_text.page({**summary.summary_of(transaction([(5, b"")]), [None]), "lock": {"above_time": 9}})
         self.check(told.endswith("  when    once the median time past is above 9, in seconds since 1970\n"), told)
 
-    def test_sigops(self):
+    def test_sigops(self) -> None:
         """What signature checks cost: 4 in a program or an input's script, 1 in a witness."""
         for outputs, script, witness, wanted in (
             ([], b"", b"", 0),
@@ -123,7 +123,7 @@ class SummaryTest(CheckedCase):
             it = transaction([(1, CHECKS), (1, CHECKS), *more])
             self.check(faults(it, spent_outputs(it)) == wanted, "faults of signature checks")
 
-    def test_told_faults(self):
+    def test_told_faults(self) -> None:
         """Each fault is found of some transaction, and told in words."""
         coinbase, same = transaction([(5, b"")]), transaction([(MAX_MONEY, b""), (1, b"")], count=2)
         coinbase.inputs[0].outpoint = summary.NO_OUTPOINT

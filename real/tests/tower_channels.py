@@ -1,6 +1,14 @@
 """Compares what real/revoked answers with what Electrum makes of the same outputs. Tested, not proved. Wants Debian's
 python3-electrum.
 """
+from typing import Any
+from collections.abc import Iterator
+from electrum.transaction import PartialTxOutput
+
+from real.lib.curve import AnyCurve
+from real.lib.transaction import Output
+from real.tests.channels import Channel
+from real.tests.channels import Known
 import dataclasses
 import hashlib
 import json
@@ -32,11 +40,11 @@ CHANGES = {*channels.BASES, "delay", "secret", "no HTLC", "direction", "hash", "
 class Once(Trace):
     """The judge, which is asked about each transaction once: what is changed leaves most of them as they are."""
 
-    def __init__(self):
+    def __init__(self) -> None:
         super().__init__(built_program())
         self.told = {}
 
-    def witness(self, transaction, spent):
+    def witness(self, transaction: Transaction, spent: list[Output]) -> list[dict[str, int | str]]:
         name = transaction.bytes(), *((it.value, it.program) for it in spent)
         if name not in self.told:
             self.told[name] = super().witness(transaction, spent)
@@ -46,22 +54,22 @@ class Once(Trace):
 class Tally:
     """How much was compared, and how much of it differs."""
 
-    def __init__(self, is_quiet=False):
+    def __init__(self, is_quiet: bool=False) -> None:
         self.channels = self.outputs = self.second = self.little = self.changes = self.named = self.differ = 0
         self.seen, self.is_quiet = set(), is_quiet
 
-    def check(self, holds, what):
+    def check(self, holds: bool, what: str) -> None:
         if not holds:
             self.differ += 1
             if not self.is_quiet:
                 print(f"differs: {what}", flush=True)
 
-    def add(self, answers, is_second):
+    def add(self, answers: list[dict[str, Any]], is_second: bool) -> None:
         self.outputs += len(answers)
         self.second += len(answers) * is_second
         self.little += sum(it["answer"] == TOO_LITTLE for it in answers)
 
-    def report(self):
+    def report(self) -> int:
         outputs = (
             f"{self.outputs} outputs ({self.second} of HTLC transactions, {self.little} too little to be passed on)"
         )
@@ -72,7 +80,7 @@ class Tally:
         return int(self.differ > 0)
 
 
-def state_of(channel, raw):
+def state_of(channel: Channel, raw: str) -> dict[str, Any]:
     """What a tower stores of a channel's revoked state, with the transaction that it sees."""
     confirmed_height = channel.confirmed_height()
     return {
@@ -95,11 +103,11 @@ def state_of(channel, raw):
     }
 
 
-def private_keys_of(channel):
+def private_keys_of(channel: Channel) -> list[bytes]:
     return [channel.privates[it] for it in ("payment", "revocation")]
 
 
-def by_program(channel, raw):
+def by_program(channel: Channel, raw: str) -> tuple[list[dict[str, Any]], int]:
     """What the program answers, with its status."""
     lines = [json.dumps(state_of(channel, raw)), *(it.hex() for it in private_keys_of(channel))]
     words = [REVOKED, *(["--legacy"] if channel.is_legacy else [])]
@@ -116,14 +124,14 @@ def by_program(channel, raw):
     return [json.loads(it) for it in ran.stdout.splitlines()], ran.returncode
 
 
-def by_call(channel, raw, curve, trace):
+def by_call(channel: Channel, raw: str, curve: AnyCurve, trace: Trace) -> tuple[list[dict[str, Any]], int]:
     """The same, without a process of its own."""
     state = penalties.read_state(json.dumps(state_of(channel, raw)))
     found = list(penalties.penalties(state, private_keys_of(channel), curve, trace, is_legacy=channel.is_legacy))
     return found, LEFT if penalties.is_left(found[-1]) else 0
 
 
-def is_signed(made, output, known, signature):
+def is_signed(made: Transaction, output: PartialTxOutput, known: Known, signature: bytes) -> bool:
     """Whether the signature is the key's over the digest that Electrum computes (BIP 143)."""
     found = PartialTransaction.from_tx(made)
     spent = found.inputs()[0]
@@ -138,17 +146,17 @@ def is_signed(made, output, known, signature):
     )
 
 
-def items_of(known):
+def items_of(known: Known) -> list[bytes]:
     """What stands between the signature and the end of a penalty's witness (BOLT 3)."""
     return {"to_local": [b"\x01"], "to_remote": []}.get(known.kind, [known.key])
 
 
-def deadline_of(known):
+def deadline_of(known: Known) -> int | None:
     """The number of next blocks before the first one in which somebody else can take the output."""
     return None if known.first_height is None else max(0, known.first_height - (HEIGHT + 1))
 
 
-def faults_of(answer, transaction, at, known):
+def faults_of(answer: dict[str, Any], transaction: PartialTransaction, at: int, known: Known) -> list[Any]:
     """What an answer has otherwise than Electrum has of the output that stands there."""
     output = transaction.outputs()[at]
     left_sat = output.value - answer["fee"]
@@ -171,7 +179,7 @@ def faults_of(answer, transaction, at, known):
     return [name for name, it in faults.items() if it]
 
 
-def compare(tally, name, known, transaction, answered):
+def compare(tally: Tally, name: str, known: dict[bytes, Known], transaction: PartialTransaction, answered: tuple[list[dict[str, Any]], int]) -> tuple[list[dict[str, Any]], list[int]]:
     """Each output whose program Electrum knows is taken as Electrum has it, and each other one is named. The answers,
     and the outputs that are named.
     """
@@ -213,7 +221,7 @@ def spoiled_answers(answer, known):
     yield "signature", {**answer, "transaction": str(later), "txid": later.txid()}
 
 
-def check_itself(tally, answered, transaction, known):
+def check_itself(tally, answered, transaction, known) -> None:
     """The comparison finds each thing that is wrong, so that it can fail."""
     (*answers, last), status = answered
     answer = next(it for it in answers if it["answer"] == "taken")
@@ -236,11 +244,11 @@ def check_itself(tally, answered, transaction, known):
         tally.check(quiet.differ, "the comparison itself")
 
 
-def other_bytes(channel, name):
+def other_bytes(channel: Channel, name: str) -> bytes:
     return hashlib.sha256(f"another {name} of channel {channel.number}".encode()).digest()
 
 
-def changed_parts(channel):
+def changed_parts(channel: Channel) -> Iterator[tuple[str, Channel]]:
     """The channel with one base point, the delay or the secret changed. The private key of a base point is changed
     with it.
     """
@@ -250,7 +258,7 @@ def changed_parts(channel):
     yield "secret", dataclasses.replace(channel, secret=other_bytes(channel, "secret"))
 
 
-def changed_htlc(channel):
+def changed_htlc(channel: Channel) -> Iterator[tuple[str, Channel]]:
     """The channel without one of its HTLCs, and with another direction, hash or expiry of it."""
     seen = channel.untrimmed_htlcs() or channel.htlcs
     if not seen:
@@ -267,7 +275,7 @@ def changed_htlc(channel):
         yield name, dataclasses.replace(channel, htlcs=[*channel.htlcs[:place], *htlcs, *channel.htlcs[place + 1 :]])
 
 
-def watch_changes(tally, name, channel, transaction, raw, curve, trace):
+def watch_changes(tally: Tally, name: str, channel: Channel, transaction: PartialTransaction, raw: str, curve: AnyCurve, trace: Trace) -> None:
     """With one part changed: what of the transaction still has a program that Electrum makes of the rest is taken, and
     what has none is named.
     """
@@ -283,12 +291,12 @@ def watch_changes(tally, name, channel, transaction, raw, curve, trace):
         tally.seen |= {part} if others else set()
 
 
-def hex_of(transaction, number):
+def hex_of(transaction: PartialTransaction, number: int) -> str:
     """Its bytes: in each second four channels without witnesses."""
     return transaction.serialize_to_network(include_sigs=number // 4 % 2 == 0)
 
 
-def check_number(tally, name, channel, raw):
+def check_number(tally: Tally, name: str, channel: Channel, raw: str) -> None:
     """The number that the commitment has is the channel's."""
     opener, other = channels.payment_bases(channel)
     found = commitment_number.commitment_numbers(
@@ -300,7 +308,7 @@ def check_number(tally, name, channel, raw):
     )
 
 
-def watch(tally, number, curve, trace):
+def watch(tally: Tally, number: int, curve: AnyCurve, trace: Trace) -> None:
     """All that is asked of one channel: its commitment by the program, and with each part changed; its number; each of
     its HTLC transactions, and the first with each part changed.
     """

@@ -111,7 +111,7 @@ def spend_of(data):
 class Places:
     """What stands at the places that an answer names: of one input its items, and the opcodes of its script."""
 
-    def __init__(self, program, witness):
+    def __init__(self, program, witness) -> None:
         is_key = scripts.is_key_hash(program)
         self.script, self.items = (scripts.key_script(program), witness) if is_key else (witness[-1], witness[:-1])
         self.opcodes = scripts.operations(self.script)
@@ -210,7 +210,7 @@ def printed_lines(data, curve, trace):
         return [{"refused": str(why)}]
 
 
-def compare(count, rows, recorded, curve, trace):
+def compare(count, rows, recorded, curve, trace) -> None:
     """Each row is the recorded one, and what it wants is said."""
     for name in {**rows, **recorded}:
         row = rows.get(name)
@@ -222,7 +222,7 @@ def compare(count, rows, recorded, curve, trace):
         count.check(is_met(lines, found) and not is_blind(lines, found), f"{name}: wanted {lines}, found {found}")
 
 
-def list_at_once(rows, trace):
+def list_at_once(rows, trace) -> None:
     """Has the scripts of all rows that are not refused listed by one run."""
     found = set()
     for row in rows.values():

@@ -2,6 +2,8 @@
 Debian's python3-electrum. Tested, not proved.
 """
 
+from typing import Any
+from electrum.transaction import PartialTransaction
 import base64
 import hashlib
 
@@ -11,27 +13,27 @@ ORDER = ecc.CURVE_ORDER
 opcodes, ECPubkey = bitcoin.opcodes, ecc.ECPubkey
 
 
-def digest_of(label):
+def digest_of(label: str) -> bytes:
     """32 bytes for a name."""
     return hashlib.sha256(b"written beforehand: " + label.encode()).digest()
 
 
-def secret_of(label):
+def secret_of(label: str) -> bytes:
     """A private key for a name."""
     return (int.from_bytes(digest_of(label), "big") % (ORDER - 1) + 1).to_bytes(32, "big")
 
 
-def public_key(secret):
+def public_key(secret: bytes) -> bytes:
     """Its compressed public key."""
     return ecc.ECPrivkey(secret).get_public_key_bytes(compressed=True)
 
 
-def program_of(script):
+def program_of(script: bytes) -> bytes:
     """P2WSH of a script."""
     return b"\x00\x20" + hashlib.sha256(script).digest()
 
 
-def key_program(key):
+def key_program(key: bytes) -> bytes:
     """P2WPKH of a key."""
     return b"\x00\x14" + crypto.hash_160(key)
 
@@ -41,7 +43,7 @@ class Claim:
     secrets), its sequence.
     """
 
-    def __init__(self, way, outpoint, value, script, shape, secrets, sequence, expiry=0, delay=0, previous=None):
+    def __init__(self, way: str, outpoint: tuple[str, int], value: int, script: bytes | None, shape: list[bytes | None], secrets: list[bytes], sequence: int, expiry: int=0, delay: int=0, previous: None=None) -> None:
         self.way, self.outpoint, self.value, self.script, self.shape = way, outpoint, value, script, shape
         self.secrets, self.sequence, self.expiry, self.delay, self.previous = (
             secrets,
@@ -52,15 +54,15 @@ class Claim:
         )
         self.keys = [public_key(secret) for secret in secrets]
 
-    def is_key_hash(self):
+    def is_key_hash(self) -> bool:
         """P2WPKH."""
         return self.script is None
 
-    def program(self):
+    def program(self) -> bytes:
         """The program of its output."""
         return key_program(self.keys[0]) if self.is_key_hash() else program_of(self.script)
 
-    def changed_copy(self, **members):
+    def changed_copy(self, **members: Any) -> Claim:
         """Another one, with these members."""
         other = Claim(
             self.way,
@@ -83,11 +85,11 @@ class Claim:
 class Spend:
     """A transaction that spends claims."""
 
-    def __init__(self, claims, outputs, version, lock_time, main=0):
+    def __init__(self, claims: list[Claim], outputs: list[tuple[bytes, int]], version: int, lock_time: int, main: int=0) -> None:
         self.claims, self.outputs, self.version, self.lock_time, self.main = claims, outputs, version, lock_time, main
         self.witnesses = None
 
-    def electrum(self):
+    def electrum(self) -> PartialTransaction:
         """Electrum's own transaction, unsigned."""
         inputs = []
         for claim in self.claims:
@@ -107,17 +109,17 @@ class Spend:
             inputs, outputs, locktime=self.lock_time, version=self.version, BIP69_sort=False
         )
 
-    def digest(self, number):
+    def digest(self, number: int) -> bytes:
         """What a signature of an input is over, as Electrum has it."""
         return bitcoin.sha256d(bytes.fromhex(self.electrum().serialize_preimage(number)))
 
-    def signature(self, number, secret, hash_type=1):
+    def signature(self, number: int, secret: bytes, hash_type: int=1) -> bytes:
         """A signature of an input by Electrum, with its hash type."""
         tx = self.electrum()
         tx.inputs()[number].sighash = hash_type
         return bytes.fromhex(tx.sign_txin(number, secret))
 
-    def sign(self):
+    def sign(self) -> Spend:
         """Makes the witnesses."""
         self.witnesses = []
         for number, claim in enumerate(self.claims):
@@ -126,50 +128,50 @@ class Spend:
             self.witnesses.append(items + ([] if claim.is_key_hash() else [claim.script]))
         return self
 
-    def signed_transaction(self):
+    def signed_transaction(self) -> PartialTransaction:
         """Electrum's transaction with these witnesses."""
         tx = self.electrum()
         for txin, items in zip(tx.inputs(), self.witnesses):
             txin.witness = bytes.fromhex(bitcoin.construct_witness(items))
         return tx
 
-    def text(self):
+    def text(self) -> list[str]:
         """What real/judge reads: the transaction, and of each input the value and program that it spends."""
         return [self.signed_transaction().serialize_to_network()] + [
             f"{claim.value} {claim.program().hex()}" for claim in self.claims
         ]
 
-    def partial_base64(self):
+    def partial_base64(self) -> str:
         """The same as a partially signed transaction in base64."""
         tx = self.signed_transaction()
         for txin, claim in zip(tx.inputs(), self.claims):
             txin.witness_utxo = transaction.TxOutput(scriptpubkey=claim.program(), value=claim.value)
         return base64.b64encode(tx.serialize_as_bytes(force_psbt=True)).decode("ascii")
 
-    def changed_copy(self, **members):
+    def changed_copy(self, **members: Any) -> Spend:
         """Another one, with these members, signed anew."""
         other = Spend(list(self.claims), list(self.outputs), self.version, self.lock_time, self.main)
         for name, value in members.items():
             setattr(other, name, value)
         return other.sign()
 
-    def with_main(self, **members):
+    def with_main(self, **members: bytes | int) -> Spend:
         """The same with another claim in the main place, signed anew."""
         claims = list(self.claims)
         claims[self.main] = claims[self.main].changed_copy(**members)
         return self.changed_copy(claims=claims)
 
-    def fee(self):
+    def fee(self) -> int:
         """What it pays."""
         return sum(claim.value for claim in self.claims) - sum(value for _, value in self.outputs)
 
 
-def assembled_script(*items):
+def assembled_script(*items: Any) -> bytes:
     """A script by Electrum."""
     return bytes.fromhex(bitcoin.construct_script(items))
 
 
-def multisig(count, keys):
+def multisig(count: int, keys: list[bytes]) -> bytes:
     """CHECKMULTISIG of these keys in this order, by Electrum."""
     return bytes.fromhex(transaction.multisig_script([key.hex() for key in keys], count))
 
@@ -179,7 +181,7 @@ class Channel:
     commitment's owner.
     """
 
-    def __init__(self, number, delay, expiry):
+    def __init__(self, number: int, delay: int, expiry: int) -> None:
         self.number, self.delay, self.expiry, self.name = number, delay, expiry, f"channel {number}"
         point_secret = secret_of(self.name + " commitment")
         point = public_key(point_secret)
@@ -198,7 +200,7 @@ class Channel:
         self.preimages = {side: digest_of(f"{self.name} preimage {side}") for side in ("offered", "received")}
         self._scripts()
 
-    def _scripts(self):
+    def _scripts(self) -> None:
         keys = [public_key(secret) for secret in (self.revocation, self.remote, self.local)]
         self.to_local = lnutil.make_commitment_output_to_local_witness_script(
             public_key(self.revocation), self.delay, public_key(self.delayed)
@@ -207,7 +209,7 @@ class Channel:
         self.offered = lnutil.make_offered_htlc(*keys, hashes["offered"])
         self.received = lnutil.make_received_htlc(*keys, hashes["received"], self.expiry)
 
-    def commitment(self):
+    def commitment(self) -> Spend:
         """The commitment's spend of the funding output."""
         one, other = public_key(secret_of(self.name + " base")), public_key(self.payment)
         obscured = lnutil.get_obscured_ctn(40 + self.number, one, other)
@@ -228,7 +230,7 @@ class Channel:
         )
         return Spend([claim], outputs, 2, (0x20 << 24) + (obscured & 0xFFFFFF)).sign()
 
-    def close(self):
+    def close(self) -> Spend:
         """A mutual close."""
         claim = self.commitment().claims[0].changed_copy(way="close", sequence=0xFFFFFFFF)
         outputs = [
@@ -237,12 +239,12 @@ class Channel:
         ]
         return Spend([claim], outputs, 2, 0).sign()
 
-    def output(self, index):
+    def output(self, index: int) -> tuple[tuple[str, int], int]:
         """Where an output of the commitment stands, and its value."""
         tx = self.commitment()
         return (tx.signed_transaction().txid(), index), tx.outputs[index][1]
 
-    def claim(self, way, sequence):
+    def claim(self, way: str, sequence: int) -> Claim:
         """The claim of an output of the commitment by a way."""
         revocation = public_key(self.revocation)
         by = {
@@ -265,7 +267,7 @@ class Channel:
         outpoint, value = self.output(index)
         return Claim(way, outpoint, value, script, shape, secrets, sequence, self.expiry, self.delay)
 
-    def htlc_transaction(self, way):
+    def htlc_transaction(self, way: str) -> Spend:
         """HTLC-timeout or HTLC-success (BOLT 3)."""
         claim = self.claim(way, 0)
         _, output = lnutil.make_htlc_tx_output(
@@ -279,7 +281,7 @@ class Channel:
         lock_time = self.expiry if way.endswith("timeout") else 0
         return Spend([claim], [(output.scriptpubkey, output.value)], 2, lock_time).sign()
 
-    def second_stage(self, way, sequence):
+    def second_stage(self, way: str, sequence: int) -> Claim:
         """The claim of an HTLC transaction's output."""
         parent = self.htlc_transaction("offered by timeout" if self.number % 2 else "received by success")
         first = self.claim("to_local" + way[len("second stage") :], sequence)

@@ -5,21 +5,24 @@ A fault is a name, an edit (or a transaction that was signed anew), and the answ
 without the fault. Tested, not proved.
 """
 
+from typing import Any
 from real.tests import written_ways as ways
+from real.tests.written_electrum import Claim
 from real.tests.written_electrum import ORDER, assembled_script, crypto, digest_of, opcodes, public_key, secret_of
+from real.tests.written_electrum import Spend
 from real.tests.written_ways import clean_answer, false_end, stops
 
 KINDS = ("signature", "order", "extra item", "amount", "sequence", "lock time", "forged token", "measured signature")
 
 
-def of_main(spend, answer):
+def of_main(spend: Spend, answer: list[Any]) -> list[list[Any] | None]:
     """The answers where the main input alone is told otherwise."""
     answers = [None] * len(spend.claims)
     answers[spend.main] = answer
     return answers
 
 
-def void_answer(claim, version, lock_time, sequence, keys=None):
+def void_answer(claim: Claim, version: int, lock_time: int, sequence: int, keys: dict[int, str] | None=None) -> list[Any]:
     """An input whose signatures are over another digest (or, with keys, are good): a lock of its script may stop it
     before.
     """
@@ -31,7 +34,7 @@ def void_answer(claim, version, lock_time, sequence, keys=None):
     return false_end(claim.way, keys)
 
 
-def void_answers(spend, lock_time=None, sequence=None):
+def void_answers(spend: Spend, lock_time: int | None=None, sequence: int | None=None) -> list[list[Any]]:
     """The answers where all signatures are over another digest."""
     lock_time = spend.lock_time if lock_time is None else lock_time
     answers = []
@@ -41,12 +44,12 @@ def void_answers(spend, lock_time=None, sequence=None):
     return answers
 
 
-def signature_places(spend):
+def signature_places(spend: Spend) -> list[int]:
     """The items of the main witness that are signatures."""
     return sorted(ways.WAYS[spend.claims[spend.main].way].keys)
 
 
-def der(r, s):
+def der(r: int, s: int) -> bytes:
     """Strict DER of two numbers (BIP 66)."""
     parts = b""
     for number in (r, s):
@@ -55,13 +58,13 @@ def der(r, s):
     return bytes([0x30, len(parts)]) + parts
 
 
-def numbers(signature):
+def numbers(signature: bytes) -> tuple[int, int]:
     """The two numbers of a signature."""
     length = signature[3]
     return int.from_bytes(signature[4 : 4 + length], "big"), int.from_bytes(signature[6 + length : -1], "big")
 
 
-def signature_fault(spend, variant, pick):
+def signature_fault(spend: Spend, variant: int, pick: int) -> tuple[str, list[list[int | str]], list[list[Any] | None]]:
     """A signature that is flipped, another's, empty, of a high s, of another hash type, or not in strict DER in one of
     three ways.
     """
@@ -93,7 +96,7 @@ def signature_fault(spend, variant, pick):
     return name, [["item", main, item, new.hex()]], of_main(spend, answer)
 
 
-def other_script(spend):
+def other_script(spend: Spend) -> tuple[str, list[list[int | str]], list[list[str] | None]] | None:
     """Two keys of the script are exchanged: its hash is another one."""
     claim = spend.claims[spend.main]
     at = {
@@ -120,7 +123,7 @@ def other_script(spend):
     )
 
 
-def order_fault(spend, variant, _pick):
+def order_fault(spend: Spend, variant: int, _pick: int) -> tuple[str, list[list[int | str]], list[list[Any] | None]]:
     """Two items of the witness are exchanged, or two keys of the script."""
     claim = spend.claims[spend.main]
     passes = ways.height_passes(spend.lock_time, claim.sequence, claim.expiry)
@@ -133,7 +136,7 @@ def order_fault(spend, variant, _pick):
     return f"items {one} and {other} are exchanged", [["swap", spend.main, one, other]], of_main(spend, answer)
 
 
-def extra_fault(spend, variant, pick):
+def extra_fault(spend: Spend, variant: int, pick: int) -> tuple[str, list[list[int | str]], list[list[Any] | None]]:
     """An item too many at either end, or an extra item of CHECKMULTISIG that is not empty."""
     main, way = spend.main, spend.claims[spend.main].way
     claim = spend.claims[main]
@@ -156,7 +159,7 @@ def extra_fault(spend, variant, pick):
     return "an item too many, before the script", [["insert", main, len(claim.shape), given]], of_main(spend, answer)
 
 
-def amount_fault(spend, variant, pick):
+def amount_fault(spend: Spend, variant: int, pick: int) -> tuple[str, Any, list[list[Any] | None]]:
     """A spent output has another value than was signed, or a made one; or the outputs exceed what is spent."""
     main = spend.main
     claim = spend.claims[main]
@@ -181,7 +184,7 @@ def amount_fault(spend, variant, pick):
     )
 
 
-def signed_fault(spend, name, keys, **members):
+def signed_fault(spend: Spend, name: str, keys: dict[int, str], **members: int) -> tuple[str, Spend, list[list[Any]]]:
     """A fault that was signed."""
     lock_time, sequence = members.get("lock_time", spend.lock_time), members.get(
         "sequence", spend.claims[spend.main].sequence
@@ -194,7 +197,7 @@ def signed_fault(spend, name, keys, **members):
     return name, changed, answers
 
 
-def delay_fault(spend, variant):
+def delay_fault(spend: Spend, variant: int) -> tuple[str, Any, list[list[Any]]]:
     """A sequence that to_local's delay does not take."""
     main = spend.main
     claim = spend.claims[main]
@@ -219,7 +222,7 @@ def delay_fault(spend, variant):
     return table[variant % len(table)]()
 
 
-def sequence_fault(spend, variant, pick):
+def sequence_fault(spend: Spend, variant: int, pick: int) -> tuple[str, Any, list[list[Any]]]:
     """A sequence is changed once it is signed, or does not do for a lock of the script."""
     main = spend.main
     claim = spend.claims[main]
@@ -232,7 +235,7 @@ def sequence_fault(spend, variant, pick):
     return "changed once it is signed", [["sequence", main, new]], void_answers(spend, sequence=new)
 
 
-def lock_fault(spend, variant, pick):
+def lock_fault(spend: Spend, variant: int, pick: int) -> tuple[str, Any, list[list[Any]]]:
     """A lock time is changed once it is signed, or does not do for a lock of the script."""
     main = spend.main
     claim = spend.claims[main]
@@ -257,7 +260,7 @@ def lock_fault(spend, variant, pick):
     return "changed once it is signed", [["lock", new]], void_answers(spend, new)
 
 
-def forged_fault(spend, variant, pick):
+def forged_fault(spend: Spend, variant: int, pick: int) -> tuple[str, list[list[int | str]], Any]:
     """A token stands in the place of a signature or of another item; or an item that is almost one."""
     main = spend.main
     claim = spend.claims[main]
@@ -286,7 +289,7 @@ def forged_fault(spend, variant, pick):
     return table[variant % len(table)]
 
 
-def pieces(script):
+def pieces(script: bytes) -> list[bytes]:
     """The opcodes of a script with their pushes."""
     found, at = [], 0
     while at < len(script):
@@ -296,7 +299,7 @@ def pieces(script):
     return found
 
 
-def question(variant, pick):
+def question(variant: int, pick: int) -> bytes:
     """What a script asks of the signature that stands on top: its size, its hash or its bytes."""
     if variant == 0:
         return assembled_script(opcodes.OP_SIZE, 71 if pick % 3 else 70, opcodes.OP_EQUALVERIFY)
@@ -307,7 +310,7 @@ def question(variant, pick):
     return assembled_script(opcodes.OP_DUP, digest_of(f"bytes {pick}") * 2 + b"\x30" * 7, opcodes.OP_EQUALVERIFY)
 
 
-def measured_fault(spend, variant, pick):
+def measured_fault(spend: Spend, variant: int, pick: int) -> tuple[str, Spend, list[list[Any]]] | None:
     """The script asks for the size, the hash or the bytes of its signature, on the path that is taken or on another
     one with as many items.
     """

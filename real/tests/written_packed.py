@@ -1,5 +1,8 @@
 """Partially signed transactions (BIP 174) by Electrum, in three forms, and with one field changed. Tested, not proved."""
 
+from typing import Any
+from collections.abc import Iterator
+from real.tests.written_electrum import Spend
 import base64
 
 from real.tests import written_ways as ways
@@ -7,23 +10,23 @@ from real.tests.written_electrum import Channel, digest_of, transaction
 from real.tests.written_spends import channel_spend, wallet_spend
 
 
-def number(value):
+def number(value: int) -> bytes:
     """A count of BIP 144, below 65,536."""
     return bytes([value]) if value < 253 else b"\xfd" + value.to_bytes(2, "little")
 
 
-def field(key, value):
+def field(key: bytes, value: bytes) -> bytes:
     """One field of a map."""
     return number(len(key)) + key + number(len(value)) + value
 
 
-def partial_bytes(unsigned, inputs, outputs):
+def partial_bytes(unsigned: bytes, inputs: list[list[tuple[bytes, bytes]]], outputs: int) -> bytes:
     """A partially signed transaction of these maps."""
     maps = [[(b"\x00", unsigned)]] + inputs + [[]] * outputs
     return b"psbt\xff" + b"".join(b"".join(field(*one) for one in fields) + b"\x00" for fields in maps)
 
 
-def fields_of(spend):
+def fields_of(spend: Spend) -> tuple[bytes, list[list[tuple[bytes, bytes]]]]:
     """The unsigned transaction, and of each input the fields WITNESS_UTXO and FINAL_SCRIPTWITNESS."""
     tx = spend.signed_transaction()
     inputs = []
@@ -33,12 +36,12 @@ def fields_of(spend):
     return bytes.fromhex(tx.serialize_to_network(include_sigs=False)), inputs
 
 
-def row(name, data, form, wanted):
+def row(name: str, data: bytes, form: str, wanted: dict[str, Any]) -> dict[str, Any]:
     """A row with a partially signed transaction."""
     return {"name": name, "psbt": base64.b64encode(data).decode(), "as": form, "wanted": wanted}
 
 
-def clean_rows():
+def clean_rows() -> Iterator[dict[str, Any]]:
     """Electrum's own, in each of the three forms."""
     channels = [Channel(n, 144 + n, 500 + n) for n in (1, 2, 3)]
     made = [
@@ -71,7 +74,7 @@ def clean_rows():
         yield row(name, base64.b64decode(spend.partial_base64()), ("base64", "hex", "bytes")[k % 3], wanted)
 
 
-def changed_rows():
+def changed_rows() -> Iterator[dict[str, Any]]:
     """One field is missing, another, twice, or of a later version."""
     channel = Channel(4, 99, 600)
     spend = channel_spend(channel, "to_local by revocation")
@@ -83,10 +86,10 @@ def changed_rows():
     main = spend.main
     assert main == 0
 
-    def one(first, wanted, name, whole=None, whole_outputs=outputs):
+    def one(first: list[tuple[bytes, bytes]] | None, wanted: dict[str, Any], name: str, whole: bytes | None=None, whole_outputs: int=outputs) -> dict[str, Any]:
         return row(name, whole or partial_bytes(unsigned, [first] + inputs[1:], whole_outputs), "base64", wanted)
 
-    def unjudged_answers(reason, fee):
+    def unjudged_answers(reason: str, fee: int | None) -> dict[str, Any]:
         return {"fee": fee, "faults": [], "inputs": [["not judged", reason]] + answers[1:]}
 
     utxo, witness = inputs[0]
@@ -129,7 +132,7 @@ def changed_rows():
     yield one(None, {"refused": "SignedTransaction"}, "a signed transaction", partial_bytes(signed, inputs, outputs))
 
 
-def packed_rows():
+def packed_rows() -> Iterator[dict[str, Any]]:
     """All of them."""
     yield from clean_rows()
     yield from changed_rows()

@@ -4,15 +4,16 @@ what is wanted of real/judge.
 The answers follow from the sheet of written_ways.py, which is worked by hand from the pages and the standards: nothing
 here runs a script or asks a judge. Tested, not proved.
 """
-from real.tests import written_faults as faults
-from real.tests import written_specials, written_spends
-from real.tests import written_ways as ways
+from typing import Any
+from collections.abc import Iterator
+from real.tests import written_faults as faults, written_specials, written_spends, written_ways as ways
+from real.tests.written_electrum import Spend
 from real.tests.written_ways import corrected_row
 
 LOCKED = ("to_local by delay", "received by timeout")  # these have faults of locks in more variants
 
 
-def row_of(name, spend, answers, of=None):
+def row_of(name: str, spend: Spend, answers: list[list[Any]], of: str | None=None) -> dict[str, Any]:
     """A row with a transaction of its own."""
     wanted = {"fee": spend.fee(), "faults": ["OutputsExceed"] if spend.fee() < 0 else [], "inputs": answers}
     if of:
@@ -20,7 +21,7 @@ def row_of(name, spend, answers, of=None):
     return {"name": name, "text": spend.text(), "wanted": wanted}
 
 
-def fee_of(spend, edit):
+def fee_of(spend: Spend, edit: list[list[int | str]]) -> int:
     """What an edited transaction pays."""
     fee = spend.fee()
     for change in edit:
@@ -31,7 +32,7 @@ def fee_of(spend, edit):
     return fee
 
 
-def fault_row(name, spend, kind, variant, pick):
+def fault_row(name: str, spend: Spend, kind: int, variant: int, pick: int) -> dict[str, Any] | None:
     """The row of a fault; None where it has no meaning for this way to spend."""
     fault = faults.FAULTS[kind](spend, variant, pick)
     if fault is None:
@@ -61,7 +62,7 @@ def fault_row(name, spend, kind, variant, pick):
     }
 
 
-def rows():
+def rows() -> Iterator[dict[str, Any]]:
     """All rows: each transaction, three of the eight faults planted in it in turn, five where a script has a lock, and
     the single ones.
     """

@@ -2,6 +2,8 @@
 Tested, not proved.
 """
 
+from typing import Any
+from collections.abc import Iterator
 from real.tests import written_ways as ways
 from real.tests.written_electrum import (
     Claim,
@@ -26,28 +28,28 @@ from real.tests.written_packed import packed_rows
 PAID = b"\x00\x14" + digest_of("paid")[:20]
 
 
-def single_spend(name, script, shape, secrets, sequence=0xFFFFFFFD, value=50_000, way=None, version=2, lock_time=0):
+def single_spend(name: str, script: bytes | None, shape: list[bytes | None], secrets: list[bytes], sequence: int=0xFFFFFFFD, value: int=50_000, way: str | None=None, version: int=2, lock_time: int=0) -> Spend:
     """The spend of one output by a script of its own."""
     claim = Claim(way, (digest_of(name).hex(), 1), value, script, shape, secrets, sequence)
     return Spend([claim], [(PAID, value - 400)], version, lock_time).sign()
 
 
-def row(name, text, answers, fee=400, faults=()):
+def row(name: str, text: list[str], answers: list[list[Any]], fee: int=400, faults: Any=()) -> dict[str, Any]:
     """A row that is told input by input."""
     return {"name": name, "text": text, "wanted": {"fee": fee, "faults": list(faults), "inputs": answers}}
 
 
-def spend_row(name, spend, answer, **more):
+def spend_row(name: str, spend: Spend, answer: list[Any], **more: Any) -> dict[str, Any]:
     """A row of one input."""
     return row(name, spend.text(), [answer], spend.fee(), **more)
 
 
-def unjudged_answer(reason):
+def unjudged_answer(reason: str) -> list[str]:
     """An input about which nothing is said."""
     return ["not judged", reason]
 
 
-def local_script(revocation, delay, delayed):
+def local_script(revocation: bytes, delay: bytes, delayed: bytes) -> bytes:
     """BOLT 3's to_local by Electrum, with the delay as these bytes."""
     return (
         assembled_script(opcodes.OP_IF, revocation, opcodes.OP_ELSE)
@@ -58,7 +60,7 @@ def local_script(revocation, delay, delayed):
     )
 
 
-def to_local(name, item, delay=b"\x02\x90\x00", sequence=144):
+def to_local(name: str, item: bytes, delay: bytes=b"\x02\x90\x00", sequence: int=144) -> Spend:
     """A spend of to_local with this item on top: by the revocation key where it is true."""
     revocation, delayed = secret_of(name + " revocation"), secret_of(name + " delayed")
     by_revocation = any(item[:-1]) or item[-1:] not in (b"", b"\x00", b"\x80")
@@ -66,7 +68,7 @@ def to_local(name, item, delay=b"\x02\x90\x00", sequence=144):
     return single_spend(name, script, [None, item], [revocation if by_revocation else delayed], sequence)
 
 
-def ambiguous_items():
+def ambiguous_items() -> Iterator[dict[str, Any]]:
     """Items in the form of a signature that are none."""
     preimage = b"\x30\x1d\x02\x0d" + b"\x11" * 13 + b"\x02\x0c" + b"\x22" * 12 + b"\x01"
     secrets = [secret_of(f"ambiguous {k}") for k in range(3)]
@@ -102,7 +104,7 @@ def ambiguous_items():
     )
 
 
-def two_keys():
+def two_keys() -> Iterator[dict[str, Any]]:
     """A second key for which the signature is valid, as an item too many."""
     name = "a second key of the signature as an item too many"
     spend = to_local(name, b"\x01")
@@ -119,7 +121,7 @@ def two_keys():
     yield spend_row(name, spend, unjudged_answer("TwoKeys"))
 
 
-def opcodes_of_others():
+def opcodes_of_others() -> Iterator[dict[str, Any]]:
     """Scripts with opcodes that the machine does not know, and HTLCs of anchors, which have none."""
     secrets = [secret_of(f"anchors {k}") for k in range(3)]
     keys = [public_key(secret) for secret in secrets]
@@ -160,7 +162,7 @@ def opcodes_of_others():
     )
 
 
-def pushed_tokens():
+def pushed_tokens() -> Iterator[dict[str, Any]]:
     """A script that pushes a token, and a script whose paths can't be listed."""
     secret = secret_of("pushed")
     script = assembled_script(
@@ -191,7 +193,7 @@ def pushed_tokens():
     )
 
 
-def repeated_signatures():
+def repeated_signatures() -> Iterator[dict[str, Any]]:
     """A signature twice: the second is dropped, or measured."""
     secret = secret_of("twice")
     script = assembled_script(opcodes.OP_DROP, public_key(secret), opcodes.OP_CHECKSIG)
@@ -205,7 +207,7 @@ def repeated_signatures():
     yield spend_row("a signature twice, one measured", spend, unjudged_answer("MeasuredSignature"))
 
 
-def stricter_rules():
+def stricter_rules() -> Iterator[dict[str, Any]]:
     """What consensus takes and the machine does not."""
     secret = secret_of("uncompressed")
     key = ecc.ECPrivkey(secret).get_public_key_bytes(compressed=False)
@@ -227,7 +229,7 @@ def stricter_rules():
     yield spend_row("a delay that is not minimally encoded", spend, answer)
 
 
-def relay():
+def relay() -> Iterator[dict[str, Any]]:
     """What consensus takes and nodes do not pass on, and what is just within the rules of relay."""
     by_key, by_delay = "to_local by revocation", "to_local by delay"
     yield spend_row("true is 02", to_local("true is 02", b"\x02"), ways.clean_answer(by_key, ["MINIMALIF"]))
@@ -263,7 +265,7 @@ def relay():
         yield spend_row(f"a script of {len(script)} bytes", spend, ["clean", 0, 48, 2, {0: "push 94"}, rules])
 
 
-def timeout(size):
+def timeout(size: int) -> Spend:
     """A received HTLC by its timeout, with this number of bytes where BOLT 3 has the empty item."""
     name = f"timeout {size}"
     secrets = [secret_of(f"{name} {k}") for k in range(3)]
@@ -271,7 +273,7 @@ def timeout(size):
     return single_spend(name, script, [None, b"\x44" * size], secrets[1:2], lock_time=4321)
 
 
-def of_wallets():
+def of_wallets() -> Iterator[dict[str, Any]]:
     """One transaction over all kinds of a wallet's outputs, signed by Electrum itself."""
     secrets = [secret_of(f"wallet {k}") for k in range(8)]
     keys = [public_key(secret) for secret in secrets]
@@ -305,7 +307,7 @@ def of_wallets():
     yield row("all kinds of a wallet", text, answers, 1_000)
 
 
-def neighbour_row(name, witness, program, answer, faults=(), outpoint=None, value=20_000, script=b""):
+def neighbour_row(name: str, witness: list[bytes] | None, program: bytes | None, answer: list[Any], faults: Any=(), outpoint: tuple[str, int] | None=None, value: int=20_000, script: bytes=b"") -> dict[str, Any]:
     """A key's hash that is clean, and another input with this witness and program."""
     good = Claim(
         "wallet key",
@@ -334,7 +336,7 @@ def neighbour_row(name, witness, program, answer, faults=(), outpoint=None, valu
     return row(name, text, [ways.clean_answer("wallet key"), answer], value, faults)
 
 
-def neighbours():
+def neighbours() -> Iterator[dict[str, Any]]:
     """A clean input stands beside one that is not judged."""
     yield neighbour_row(
         "taproot", [digest_of("x") * 2], b"\x51\x20" + digest_of("taproot"), unjudged_answer("Taproot")
@@ -372,12 +374,12 @@ def neighbours():
     yield row("no outputs", good.sign().text(), [ways.clean_answer("wallet key")], 50_000, ["NoOutputs"])
 
 
-def wallet(name):
+def wallet(name: str) -> Spend:
     """The spend of one key's hash."""
     return single_spend(name, None, [None, public_key(secret_of(name))], [secret_of(name)], way="wallet key")
 
 
-def refused_texts():
+def refused_texts() -> Iterator[dict[str, Any]]:
     """Texts that are refused, each by the first fault from the left."""
     tx, line = wallet("refused").text()
     table = [
@@ -402,7 +404,7 @@ def refused_texts():
     yield row("without witnesses", [bare, line], [unjudged_answer("NoWitness")])
 
 
-def rows():
+def rows() -> Iterator[dict[str, Any]]:
     """All of them."""
     for part in (
         ambiguous_items,

@@ -2,6 +2,7 @@
 and neighbours that differ. Tested, not proved.
 """
 
+from collections.abc import Iterator
 from real.tests import written_ways as ways
 from real.tests.written_electrum import (
     Channel,
@@ -30,7 +31,7 @@ OUTPUT_OF = {"offered": 0, "received": 1, "to_remote": 2, "to_local": 3, "second
 THREE = ("first and second of three", "first and third of three", "second and third of three")
 
 
-def programs(name):
+def programs(name: str) -> list[bytes]:
     """Programs that are paid: a key's hash, a script's, the older forms of both, taproot, and a note."""
     h20, h32 = digest_of(name)[:20], digest_of(name + " paid")
     return [
@@ -43,7 +44,7 @@ def programs(name):
     ]
 
 
-def outputs_for(name, number, total):
+def outputs_for(name: str, number: int, total: int) -> list[tuple[bytes, int]]:
     """One to three outputs, with a fee of some hundred satoshis."""
     choice, count = programs(name), 1 + number % 3
     left = total - 300 - 11 * number
@@ -52,7 +53,7 @@ def outputs_for(name, number, total):
     return [(choice[(number + 2 * k) % 5 if k < 2 else 5], value if k < 2 else 0) for k, value in enumerate(values)]
 
 
-def neighbours(channel, way):
+def neighbours(channel: Channel, way: str) -> list[Claim]:
     """Up to two more claims of the same commitment, of other outputs."""
     taken, found = {OUTPUT_OF[way.split(" ")[0]]}, []
     start = channel.number + len(way)
@@ -65,7 +66,7 @@ def neighbours(channel, way):
     return found
 
 
-def channel_spend(channel, way):
+def channel_spend(channel: Channel, way: str) -> Spend:
     """The spend of an output of a commitment or of an HTLC transaction."""
     n = channel.number
     sequence, lock_time = SEQUENCES[n % 4], (0, 650000 + n)[n % 2] if way.startswith(("to_", "second")) else 0
@@ -85,7 +86,7 @@ def channel_spend(channel, way):
     ).sign()
 
 
-def wallet_claim(way, name, sequence, value):
+def wallet_claim(way: str, name: str, sequence: int, value: int) -> Claim:
     """A claim of a wallet: a key's hash in either form, or two of three keys."""
     outpoint = (digest_of(name + " outpoint").hex(), len(name) % 4)
     secrets = [secret_of(f"{name} {k}") for k in range(3)]
@@ -105,7 +106,7 @@ def wallet_claim(way, name, sequence, value):
     return Claim(way, outpoint, value, multisig(2, keys), [b"", None, None], [secrets[k] for k in signing], sequence)
 
 
-def wallet_spend(way, n):
+def wallet_spend(way: str, n: int) -> Spend:
     """The spend of some outputs of wallets: the main one, and up to three more of the other ways."""
     main = wallet_claim(way, f"{way} {n}", SEQUENCES[n % 4], 40_000 + 137 * n)
     others = [
@@ -125,7 +126,7 @@ def wallet_spend(way, n):
     ).sign()
 
 
-def spends():
+def spends() -> Iterator[tuple[str, Spend]]:
     """Each way with its name and its transaction."""
     for n in range(13):
         channel = Channel(n, DELAYS[n], EXPIRIES[(n * 5) % 13])

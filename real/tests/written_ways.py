@@ -1,6 +1,7 @@
 """The ways to spend whose answers are written down beforehand: what the pages and the standards say of each.
 
 Places are opcodes of the script, counted from 0. 'push K' is what opcode K pushes, 'item J' the item J of the witness,
+from typing import Any
 from the first, 'hash J' its HASH160, and '-' the empty item. Tested, not proved.
 """
 
@@ -83,12 +84,12 @@ OTHER_QUESTIONS = {
 }
 
 
-def corrected_row(row, was, why):
+def corrected_row(row: dict[str, Any], was: Any, why: str) -> dict[str, Any]:
     """A row whose answer was another one at first, and why that was wrong."""
     return {**row, "was": was, "why": why}
 
 
-def clean_answer(way, relay=()):
+def clean_answer(way: str, relay: Any=()) -> list[Any]:
     """A clean input. Its answer: path, counted opcodes, height, of each signature its key, and the rules of relay that
     it breaks.
     """
@@ -96,48 +97,48 @@ def clean_answer(way, relay=()):
     return ["clean", of.path, of.counted, of.height, dict(of.keys), list(relay)]
 
 
-def stops(reason, opcode, stack, keys):
+def stops(reason: str, opcode: int, stack: list[str], keys: dict[int, str | None]) -> list[Any]:
     """An input whose script stops."""
     return ["stops", reason, opcode, stack, keys]
 
 
-def false_end(way, keys=None):
+def false_end(way: str, keys: dict[int, str | None] | None=None) -> list[Any]:
     """A signature is of no key, or empty: the run ends with false."""
     return stops("FalseEnd", WAYS[way].end, ["-"], void_keys(way) if keys is None else keys)
 
 
-def void_keys(way):
+def void_keys(way: str) -> dict[int, None]:
     """Signatures over another digest are of no key."""
     return {item: None for item in WAYS[way].keys}
 
 
-def bad_form(way, item):
+def bad_form(way: str, item: int) -> list[Any]:
     """One item in a signature's place is neither empty nor a signature."""
     keys = {k: v for k, v in WAYS[way].keys.items() if k != item}
     return stops("FailedCheck TokenForm", WAYS[way].check, WAYS[way].stack, keys)
 
 
-def sequence_stop(keys):
+def sequence_stop(keys: dict[int, str | None]) -> list[Any]:
     """CHECKSEQUENCEVERIFY of to_local."""
     return stops("FailedCheck Sequence", 4, ["push 3", "item 0"], keys)
 
 
-def lock_time_stop(keys, rest=("item 0",)):
+def lock_time_stop(keys: dict[int, str | None], rest: Any=("item 0",)) -> list[Any]:
     """CHECKLOCKTIMEVERIFY of a received HTLC."""
     return stops("FailedCheck LockTime", 24, ["push 23", "push 7"] + list(rest), keys)
 
 
-def age_passes(version, sequence, delay_blocks):
+def age_passes(version: int, sequence: int, delay_blocks: int) -> bool:
     """BIP 112, for a delay in blocks."""
     return version >= 2 and not sequence & 0x80400000 and sequence & 0xFFFF >= delay_blocks
 
 
-def height_passes(lock_time, sequence, expiry_height):
+def height_passes(lock_time: int, sequence: int, expiry_height: int) -> bool:
     """BIP 65, for a height."""
     return lock_time < 500000000 and expiry_height <= lock_time and sequence != 0xFFFFFFFF
 
 
-def shifted_keys(keys):
+def shifted_keys(keys: dict[int, str]) -> dict[int, str]:
     """The keys where one more item stands before all others."""
     moved = {}
     for item, key in keys.items():
@@ -146,7 +147,7 @@ def shifted_keys(keys):
     return moved
 
 
-def exchange_answers(way, lock_passes):
+def exchange_answers(way: str, lock_passes: bool) -> list[tuple[int, int, list[dict[int, str] | int | list[str] | str]]]:
     """Of each way: two items of the witness, and the answer where they are exchanged."""
     keys = WAYS[way].keys
     table = {
@@ -189,14 +190,14 @@ def exchange_answers(way, lock_passes):
     ]
 
 
-def bottom_item_answer(way):
+def bottom_item_answer(way: str) -> list[Any]:
     """The answer where one more item stands before all others."""
     if FAMILY[way] == "to_remote":
         return ["stops", "NotTwoItems"]
     return stops("NotOneValue", WAYS[way].end, ["01", "item 0"], shifted_keys(WAYS[way].keys))
 
 
-def top_item_answers(way, lock_passes):
+def top_item_answers(way: str, lock_passes: bool) -> list[tuple[str, list[Any]]]:
     """Of each way: one more item right before the script, and the answer. The 20 and the 32 bytes are unlike all
     hashes.
     """
