@@ -4,12 +4,9 @@ Tested, not proved.
 from real.lib import psbt, scripts, signatures
 from real.lib.curve import AnyCurve
 from real.lib.errors import Refused
-from real.lib.plan import Plan
-from real.lib.plan import Spent
-from real.lib.plan import Wanted
+from real.lib.plan import Plan, Spent, Wanted
 from real.lib.psbt import Partial, key_of
-from real.lib.transaction import Transaction
-from real.lib.transaction import hash160, read_transaction
+from real.lib.transaction import Transaction, hash160, read_transaction
 
 # signatures of final witnesses times those that are wanted of their input, in all
 MAX_CHECKS = 100_000

@@ -4,10 +4,10 @@ are asked is tested, not proved.
 ENFORCE_LIBRARY names the shared library. Without it the one of out/library is taken, where `./enforce
 --install-library out/library` put it.
 """
-from types import ModuleType
-from typing import Any
 import os
 import sys
+from types import ModuleType
+from typing import Any
 
 TOP = os.path.dirname(os.path.dirname(os.path.dirname(os.path.abspath(__file__))))
 INSTALLED = os.path.join(TOP, "out", "library", "lib", "libenforce.so")

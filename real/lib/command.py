@@ -1,14 +1,10 @@
 """How a tool of this folder begins and ends: its input, its words, and its status. Tested, not proved."""
-from typing import Literal
-from collections.abc import Iterable
-from typing import Any
-from collections.abc import Iterator
-from collections.abc import Callable
-from real.lib.curve import AnyCurve
 import os
 import sys
+from collections.abc import Callable, Iterable
+from typing import Literal
 
-from real.lib.curve import Curve, Recorded
+from real.lib.curve import AnyCurve, Curve, Recorded
 from real.lib.errors import NotRun, Refused
 
 REFUSED, WRONG_WORDS, NOT_RUN, LEFT = 1, 2, 3, 4

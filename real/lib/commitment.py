@@ -2,10 +2,10 @@
 Outputs"). Tested, not proved.
 """
 from collections.abc import Iterator
-from real.lib.curve import AnyCurve
 from dataclasses import dataclass
 
 from real.lib import derivation, scripts
+from real.lib.curve import AnyCurve
 from real.lib.errors import Refused
 from real.lib.ripemd160 import ripemd160
 from real.lib.transaction import hash160, sha256

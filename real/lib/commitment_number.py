@@ -1,13 +1,12 @@
 """The number of a commitment, which its lock time and sequence have (BOLT 3, "Commitment Transaction"). Tested, not
 proved.
 """
-from typing import Any
 from collections.abc import Iterator
+from typing import Any
+
 from real.lib.errors import Refused
-from real.lib.plan import Shape
-from real.lib.plan import read_object
-from real.lib.transaction import Transaction
-from real.lib.transaction import read_transaction, sha256
+from real.lib.plan import Shape, read_object
+from real.lib.transaction import Transaction, read_transaction, sha256
 
 # the first bytes of lock time and sequence; their other three have the lower and the upper half of the number
 LOCK_TIME_MARK, SEQUENCE_MARK, HALF, NUMBER_SIZE = 0x20, 0x80, 24, 6

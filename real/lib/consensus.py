@@ -5,16 +5,14 @@ It decides nothing that the machine decides. It tells two things beside: whether
 consensus too, or a rule that is stricter there; and which rules of relay a run breaks (BIP 146, and the policy that
 Bitcoin Core names by these words).
 """
-from typing import Any
-from real.lib.curve import Verifier
-from real.lib.transaction import Transaction
 from dataclasses import dataclass
 
 from real.lib import scripts
+from real.lib.curve import Verifier
 from real.lib.errors import Refused
 from real.lib.scripts import operations
 from real.lib.signatures import ALL, KEY_SIZE, is_strict_der, is_token, token
-from real.lib.transaction import hash160
+from real.lib.transaction import Transaction, hash160
 
 MAX_OPS, MAX_STACK, MAX_ITEM, MAX_SCRIPT, MAX_KEYS = 201, 1000, 520, 10_000, 20
 LOCKTIME_THRESHOLD, FINAL = 500_000_000, 0xFFFFFFFF

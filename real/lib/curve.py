@@ -1,11 +1,10 @@
 """Signatures of secp256k1 by the system's libsecp256k1, or as they were recorded. Tested, not proved."""
-from typing import Any
 import ctypes
 import ctypes.util
 import functools
 import json
 import os
-from typing import Protocol
+from typing import Any, Protocol
 
 from real.lib.errors import NotRun
 from real.lib.transaction import sha256

@@ -1,13 +1,13 @@
 """Reads what real/judge is given: a transaction with the outputs that it spends, as lines or partially signed. Tested,
 not proved.
 """
-from real.lib.curve import Verifier
-from real.lib.trace_program import Trace
-from real.lib.transaction import Transaction
 from typing import Any
+
 from real.lib import hints, judgement, psbt, scripts, summary
+from real.lib.curve import Verifier
 from real.lib.errors import Refused, bytes_of
-from real.lib.transaction import MAX_MONEY, Output, read_transaction
+from real.lib.trace_program import Trace
+from real.lib.transaction import MAX_MONEY, Output, Transaction, read_transaction
 
 # a transaction, what it spends (None where that is not known), and what settles some of its inputs
 Given = tuple[Transaction, list[Output | None], dict[int, judgement.Settled]]

@@ -4,19 +4,15 @@ judge is proved; what is done here is tested, not proved.
 A token names a key and a digest, so it may stand where the library says that a signature is this key's over this
 digest. Where that would change more than the signature, the input is not judged, and is told why.
 """
-from collections.abc import Sequence
-from typing import Any
-from collections.abc import Callable
-from real.lib.consensus import End
-from real.lib.consensus import Spend
-from real.lib.curve import AnyCurve
-from real.lib.curve import Verifier
-from real.lib.trace_program import Trace
+from collections.abc import Callable, Sequence
 from dataclasses import dataclass, field
+from typing import Any
 
 from real.lib import consensus, locks, scripts, signatures
-from real.lib.curve import Once
+from real.lib.consensus import End, Spend
+from real.lib.curve import Once, Verifier
 from real.lib.errors import Refused
+from real.lib.trace_program import Trace
 from real.lib.transaction import Digests, Input, Output, Transaction, hash160
 
 MAX_INPUTS, MAX_OUTPUTS, MAX_ITEMS, MAX_TEXT = 4_000, 4_000, 1_001, 10_000
@@ -448,8 +444,8 @@ def false_end_of(case: Case) -> str | None:
     keys = [it for it in found if it]
     if None in found:
         return (
-            f"item {case.signed[found.index(None)].item} is valid for no key that stands here: compare the value of the"
-            " spent output first"
+            f"item {case.signed[found.index(None)].item} is valid for no key that stands here: compare the value of"
+            " the spent output first"
         )
     if len(set(keys)) < len(keys):
         return f"but two signatures are of one key, {next(it for it in keys if keys.count(it) > 1).hex()}"

@@ -1,19 +1,16 @@
 """Penalties on a revoked commitment's outputs: built, signed, and judged before they are told (BOLT 5, "Revoked
 Transaction Close Handling"). Tested, not proved.
 """
-from collections.abc import Iterable
-from typing import Any
-from collections.abc import Iterator
-from real.lib.commitment import Htlc
-from real.lib.commitment import Keys
-from real.lib.commitment import Known
-from real.lib.curve import AnyCurve
-from real.lib.trace_program import Trace
+from collections.abc import Iterable, Iterator
 from dataclasses import dataclass
+from typing import Any
 
 from real.lib import commitment, commitment_number, hints, judgement, scripts, signatures, summary
+from real.lib.commitment import Keys, Known
+from real.lib.curve import AnyCurve
 from real.lib.errors import Refused
 from real.lib.plan import Shape, read_object
+from real.lib.trace_program import Trace
 from real.lib.transaction import MAX_MONEY, Digests, Input, Output, Transaction, compact_size, read_transaction, text
 
 VERSION, SEQUENCE = 2, 0

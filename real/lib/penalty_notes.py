@@ -1,6 +1,7 @@
 """What real/revoked says beside its answers, in words on standard error. Tested, not proved."""
-from typing import Any
 from collections.abc import Iterator
+from typing import Any
+
 from real.lib import commitment, commitment_number, penalties
 from real.lib.penalties import State
 

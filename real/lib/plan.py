@@ -1,12 +1,11 @@
 """Plans of unsigned spends, each one JSON object: the transaction, and of each input what it spends, its witness and
 the signatures that are wanted. Tested, not proved.
 """
-from typing import Any
-from collections.abc import Callable
 import json
 import math
 import re
 from dataclasses import dataclass, field
+from typing import Any
 
 from real.lib import scripts
 from real.lib.errors import Refused, bytes_of

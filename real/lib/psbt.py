@@ -1,8 +1,8 @@
 """Partially signed transactions of version 0 (BIP 174). Tested, not proved."""
-from typing import TypeVar
 import base64
 import binascii
 from dataclasses import dataclass
+from typing import TypeVar
 
 from real.lib.errors import Refused, bytes_of
 from real.lib.transaction import Output, Reader, Transaction, compact_size, read_output, read_transaction, text

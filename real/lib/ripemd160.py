@@ -1,6 +1,6 @@
 """RIPEMD-160, for a Python whose OpenSSL does not have it. Tested, not proved."""
-from collections.abc import Sequence
 import struct
+from collections.abc import Sequence
 
 MASK = 0xFFFFFFFF
 START = 0x67452301, 0xEFCDAB89, 0x98BADCFE, 0x10325476, 0xC3D2E1F0

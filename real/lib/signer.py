@@ -2,10 +2,8 @@
 from real.lib import psbt, scripts, signatures
 from real.lib.curve import AnyCurve
 from real.lib.errors import Refused
-from real.lib.psbt import Partial
-from real.lib.psbt import key_of
-from real.lib.transaction import Digests, hash160
-from real.lib.transaction import Output
+from real.lib.psbt import Partial, key_of
+from real.lib.transaction import Digests, Output, hash160
 
 
 def script_of(fields: dict[bytes, bytes], output: Output, index: int) -> bytes | None:

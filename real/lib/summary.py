@@ -1,10 +1,9 @@
 """What consensus refuses of a transaction as a whole, whatever its inputs' scripts say. Tested, not proved."""
 from collections.abc import Sequence
 from typing import Any
+
 from real.lib import locks, scripts
-from real.lib.transaction import MAX_MONEY
-from real.lib.transaction import Output
-from real.lib.transaction import Transaction
+from real.lib.transaction import MAX_MONEY, Output, Transaction
 
 # limits of a block, and so of each transaction in it (BIP 141)
 MAX_WEIGHT, MAX_SIGOPS, SCALE = 4_000_000, 80_000, 4

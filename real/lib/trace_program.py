@@ -1,19 +1,17 @@
 """Asks the proved judge about scripts and transactions: the program `trace`, and of the paths of scripts the library
 for C, where it is built. How they are asked is tested, not proved.
 """
-from collections.abc import Sequence
-from types import ModuleType
-from typing import TextIO
-from typing import Any
-from real.lib.transaction import Output
-from real.lib.transaction import Transaction
 import json
 import os
 import subprocess
 import sys
+from collections.abc import Sequence
+from types import ModuleType
+from typing import Any, TextIO
 
 from real.lib import c_library
 from real.lib.errors import NotRun, Refused
+from real.lib.transaction import Output, Transaction
 
 TOP = os.path.dirname(os.path.dirname(os.path.dirname(os.path.abspath(__file__))))
 SECONDS = 900

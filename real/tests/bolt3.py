@@ -3,13 +3,12 @@ the answer that is wanted. Tested, not proved.
 
 bolt3.json has the cases; its members say where they come from.
 """
-from typing import Any
-from collections.abc import Iterator
-from real.lib.transaction import Transaction
 import json
 import os
+from collections.abc import Iterator
+from typing import Any
 
-from real.lib.transaction import Output, read_transaction, sha256
+from real.lib.transaction import Output, Transaction, read_transaction, sha256
 
 HERE = os.path.dirname(os.path.abspath(__file__))
 FUNDING_SCRIPT_END, OFFERED_END, RECEIVED_END = 5, 26, 29
@@ -79,7 +78,9 @@ def changed_rows(name: str, transaction: Transaction, spent: Output, end: int) -
     yield row(f"{name} / order", transaction, [items[0], items[2], items[1], *items[3:]], spent, answer)
 
 
-def row(name: str, transaction: Transaction, items: list[bytes], spent: Output, answers: list[dict[str, Any]]) -> dict[str, Any]:
+def row(
+    name: str, transaction: Transaction, items: list[bytes], spent: Output, answers: list[dict[str, Any]]
+) -> dict[str, Any]:
     transaction.inputs[0].witness = items
     return {
         "name": name,

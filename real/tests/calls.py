@@ -1,10 +1,10 @@
 """Calls of real/judge, real/psbt, real/sign and real/revoked with hostile or wrong input: what each prints and its
 status, worked by hand from docs/REAL.md. Tested, not proved.
 """
-from typing import Any
 import base64
 import json
 import os
+from typing import Any
 
 from real.lib.psbt import (
     FINAL_SCRIPTWITNESS,
@@ -55,7 +55,9 @@ def bare_transaction() -> Transaction:
     return Transaction(2, [Input(OUTPOINT, b"", 0)], [Output(4, b"\x51")], 0)
 
 
-def partial_base64(fields: dict[bytes, bytes] | None=None, whole: dict[bytes, bytes] | None=None, before: bytes=b"") -> str:
+def partial_base64(
+    fields: dict[bytes, bytes] | None = None, whole: dict[bytes, bytes] | None = None, before: bytes = b""
+) -> str:
     """A partially signed transaction of one input with these fields, in base64."""
     own = {key_of(0): before or bare_transaction().stripped_bytes(), **(whole or {})}
     return Partial(bare_transaction(), own, [fields or {}], [{}]).base64()
@@ -429,7 +431,14 @@ def without(transaction: Transaction, name: str) -> str:
     return json.dumps(given)
 
 
-def answer_lines(transaction: Transaction, *answers: dict[str, Any], taken: tuple[()]=(), too_little: Any=(), no_key: Any=(), others: Any=()) -> str:
+def answer_lines(
+    transaction: Transaction,
+    *answers: dict[str, Any],
+    taken: tuple[()] = (),
+    too_little: Any = (),
+    no_key: Any = (),
+    others: Any = (),
+) -> str:
     """What real/revoked prints where it makes no transaction."""
     last = {
         "transaction": transaction.txid(),

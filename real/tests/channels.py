@@ -5,15 +5,17 @@ The owner is who published the commitment; the peer is whose tower takes its out
 SHA-256 of the channel's number, so they are the same everywhere. Nothing here was made from the answers of a program
 of this repository.
 """
-from typing import Any
-from collections.abc import Iterator
-from electrum.lnutil import UpdateAddHtlc
-from electrum.transaction import PartialTransaction
+from __future__ import annotations
+
 import functools
 import hashlib
+from collections.abc import Iterator
 from dataclasses import dataclass
+from typing import Any
 
 from electrum import bitcoin, ecc, lnutil
+from electrum.lnutil import UpdateAddHtlc
+from electrum.transaction import PartialTransaction
 
 from real.tests.claims import Key, transaction_hex
 
@@ -45,7 +47,7 @@ class Draws:
     def number_between(self, least: int, most: int) -> int:
         return least + self.number_below(most - least + 1)
 
-    def choice(self, values: Any) -> Htlc | int:
+    def choice(self, values: Any) -> Any:
         return values[self.number_below(len(values))]
 
 

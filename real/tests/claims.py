@@ -5,8 +5,8 @@ of the script's branches, and how many opcodes its script has. Nothing here was 
 this repository.
 """
 import hashlib
+from collections.abc import Callable
 from dataclasses import dataclass, field
-from typing import Callable
 
 from electrum import bitcoin, ecc, lnutil
 from electrum.transaction import (
@@ -228,7 +228,9 @@ def sign(transaction: PartialTransaction, claims: list[Claim]) -> None:
         claim.signatures = [bytes.fromhex(transaction.sign_txin(place, it.secret)) for it in claim.signers]
 
 
-def transaction_hex(transaction: PartialTransaction, witnesses: list[list[bytes]], scripts: list[bytes] | None=None) -> str:
+def transaction_hex(
+    transaction: PartialTransaction, witnesses: list[list[bytes]], scripts: list[bytes] | None = None
+) -> str:
     """The transaction with these witnesses, as Electrum writes it."""
     for place, (it, items) in enumerate(zip(transaction.inputs(), witnesses)):
         it.script_sig = scripts[place] if scripts else b""

@@ -1,14 +1,14 @@
 """Partially signed transactions between Electrum and this folder, both ways. Tested, not proved. Wants Debian's
 python3-electrum.
 """
-from typing import Any
 from collections.abc import Iterator
+from typing import Any
+
 from electrum.crypto import sha256d
 from electrum.transaction import PartialTransaction
 
-from real.tests.claims import Claim
-
 from real.tests import claims as built
+from real.tests.claims import Claim
 
 FINGERPRINT, PATH = "0badcafe", "m/1017h/0'/7"
 

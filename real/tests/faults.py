@@ -4,14 +4,14 @@ proved.
 The answers are worked by hand from BOLT 3's scripts and BIPs 65, 66, 112, 141, 143 and 147, and from the words that
 docs/REAL.md and docs/TRACE.md have for a stop. No program of this repository was asked.
 """
-from typing import Any
-from collections.abc import Iterator
-from real.tests.claims import Claim
 import hashlib
+from collections.abc import Iterator
+from typing import Any
 
 from electrum.crypto import sha256d
 
 from real.tests import claims as built
+from real.tests.claims import Claim
 
 # an opcode's number in BOLT 3's scripts, counted from 0
 CHECKSIG_OF_TO_LOCAL, DELAY_OF_TO_LOCAL = 8, 4

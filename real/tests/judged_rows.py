@@ -1,18 +1,18 @@
 """Transactions with the answers that are wanted of the judge: rows.jsonl, and what real/tests/cases prints. Tested,
 not proved.
 """
-from typing import Any
-from real.lib.curve import AnyCurve
-from real.lib.trace_program import Trace
-from real.tests.test_judgement import JudgementTest
 import itertools
 import json
 import os
 import subprocess
+from typing import Any
 
 from real.lib import judgement
+from real.lib.curve import AnyCurve
 from real.lib.errors import NotRun, Refused
+from real.lib.trace_program import Trace
 from real.lib.transaction import Output, read_transaction
+from real.tests.test_judgement import JudgementTest
 
 HERE = os.path.dirname(os.path.abspath(__file__))
 ROWS = os.path.join(HERE, "rows.jsonl")

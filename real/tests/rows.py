@@ -4,10 +4,9 @@ proved.
 Each function gives the name of a row, a transaction and the answer for each input, worked by hand from BIPs 16, 62,
 65, 66, 112, 141, 143, 146 and 341. No program of this repository was asked.
 """
-from typing import Any
-from collections.abc import Iterator
-from collections.abc import Callable
 import hashlib
+from collections.abc import Callable, Iterator
+from typing import Any
 
 from electrum import ecc, lnutil
 from electrum.crypto import hash_160, sha256d
@@ -62,7 +61,15 @@ def invalid_signature(seed: str) -> bytes:
 class Spend:
     """A transaction of one input with a script of the row's own."""
 
-    def __init__(self, script: bytes, signers: list[Key], items: Callable, sequence: int=built.FINAL - 1, lock_time: int=0, version: int=2) -> None:
+    def __init__(
+        self,
+        script: bytes,
+        signers: list[Key],
+        items: Callable,
+        sequence: int = built.FINAL - 1,
+        lock_time: int = 0,
+        version: int = 2,
+    ) -> None:
         self.claim = Claim(
             "row",
             script,
@@ -429,7 +436,7 @@ def keys_of_scripts() -> Iterator[dict[str, Any]]:
 def relative_locks() -> Iterator[dict[str, Any]]:
     """BIPs 68 and 112: blocks and units of 512 seconds, what is off, and bits that nobody looks at."""
 
-    def clean(age: dict[str, int] | None=None) -> dict[str, Any]:
+    def clean(age: dict[str, int] | None = None) -> dict[str, Any]:
         return {**clean_answer(0), "age": age}
 
     def stop(wanted: str, found: str) -> dict[str, int | str]:

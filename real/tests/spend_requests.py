@@ -1,11 +1,11 @@
 """Requests for the program `spend`, and the plans that it has to print, worked out anew from BIPs 68, 141 and 143.
 Tested, not proved.
 """
-from typing import Any
-from collections.abc import Iterator
 import json
 import os
 import subprocess
+from collections.abc import Iterator
+from typing import Any
 
 from real.lib.errors import NotRun
 from real.lib.transaction import Input, Output, Transaction, sha256, shown_id
@@ -53,14 +53,18 @@ def preimage_slot(told: dict[str, Any], htlc: int) -> list[str]:
     return ["preimage", next(it["payment_hash"] for it in told["htlcs"] if it["id"] == htlc)]
 
 
-def request(told: dict[str, Any], outputs: list[dict[str, Any]], htlcs: list[int], feerate_per_kw: int) -> dict[str, Any]:
+def request(
+    told: dict[str, Any], outputs: list[dict[str, Any]], htlcs: list[int], feerate_per_kw: int
+) -> dict[str, Any]:
     """What is asked of `spend`: these outputs pay the peer, by the preimages of these HTLCs."""
     to_remote = next(it["outputs"] for it in told["cases"] if it["name"].startswith(CASE))[5]["script_pubkey"]
     preimages = [it["preimage"] for it in told["htlcs"] if it["id"] in htlcs]
     return {"outputs": outputs, "preimages": preimages, "destination": to_remote, "feerate_per_kw": feerate_per_kw}
 
 
-def requests(told: dict[str, Any]) -> Iterator[tuple[dict[str, int | list[dict[str, Any | None | int | str]] | list[str] | str], list[int], int]]:
+def requests(
+    told: dict[str, Any]
+) -> Iterator[tuple[dict[str, int | list[dict[str, Any | None | int | str]] | list[str] | str], list[int], int]]:
     """Of each request the sequence of each input and the lock time that BOLT 3 has for it: what the peer takes of a
     commitment, by a preimage and after a timeout; an output to the hash of a key; one after its delay; and what both
     keys sign.
@@ -78,7 +82,7 @@ def requests(told: dict[str, Any]) -> Iterator[tuple[dict[str, int | list[dict[s
     yield request(told, [after_timeout, by_both], [0, 1, 2], 0), [0, 0], 501
 
 
-def witness_of(it, preimages):
+def witness_of(it: dict[str, Any], preimages: dict[str, str]) -> list[str | None]:
     """The witness of a claim, with None in the place of each signature."""
     found = []
     for kind, given in reversed(it["slots"]):
@@ -86,7 +90,7 @@ def witness_of(it, preimages):
     return found + ([] if it["program"].startswith("0014") else [it["script"]])
 
 
-def weight_of(transaction, witnesses):
+def weight_of(transaction: Transaction, witnesses: list[list[str | None]]) -> int:
     """The weight with signatures of 73 bytes."""
     signed = Transaction(
         transaction.version,
@@ -99,7 +103,7 @@ def weight_of(transaction, witnesses):
     return 3 * len(signed.stripped_bytes()) + len(signed.bytes())
 
 
-def wanted_plan(told, asked, sequences, lock_time):
+def wanted_plan(told: dict[str, Any], asked: dict[str, Any], sequences: list[int], lock_time: int) -> dict[str, Any]:
     """The plan that `spend` has to print."""
     preimages = {it["payment_hash"]: it["preimage"] for it in told["htlcs"]}
     witnesses = [witness_of(it, preimages) for it in asked["outputs"]]
@@ -135,7 +139,7 @@ def wanted_plan(told, asked, sequences, lock_time):
     }
 
 
-def shown_request(asked):
+def shown_request(asked: dict[str, Any]) -> dict[str, Any]:
     """The same request, with each outpoint as explorers show it."""
     outputs = []
     for it in asked["outputs"]:
@@ -154,7 +158,7 @@ def spend_answer(text: str) -> tuple[str, int]:
     return spend_answers(text)[:2]
 
 
-def spend_answers(text: str) -> tuple[str, int, list[?]]:
+def spend_answers(text: str) -> tuple[str, int, list[Any]]:
     """What `spend` prints, its status, and its notes."""
     try:
         ran = subprocess.run([os.path.join(TOP, "spend")], input=text.encode(), capture_output=True, timeout=SECONDS)
@@ -169,11 +173,11 @@ def spend_answers(text: str) -> tuple[str, int, list[?]]:
     )
 
 
-def changed_request(asked, **members: Any):
+def changed_request(asked: dict[str, Any], **members: Any) -> str:
     return line({**asked, **members})
 
 
-def keyed_claim(told, prefix, value):
+def keyed_claim(told: dict[str, Any], prefix: str, value: int) -> dict[str, Any]:
     """A claim on an output whose script has this before a key's check."""
     key = told["terms"]["keys"]["remote_htlcpubkey"]
     script = f"{prefix}21{key}ac"
@@ -186,7 +190,7 @@ def keyed_claim(told, prefix, value):
     return {**output, "shell": None, "slots": [["sig", key]], "value": value}
 
 
-def bounds(told):
+def bounds(told: dict[str, Any]) -> Iterator[tuple[dict[str, Any], list[int], int, list[dict[str, Any]], str, int]]:
     """Requests at a bound, each with the refusal of the one beyond it: all the bitcoins there are, and for each kind
     of destination the least that is no dust.
     """
@@ -202,7 +206,7 @@ def bounds(told):
         ], "Dust", 10
 
 
-def givens(told):
+def givens(told: dict[str, Any]) -> Iterator[tuple[dict[str, Any], tuple[str, int] | None, list[str]]]:
     """Destinations and feerates that are taken, and those that are refused, each with its notes: both sides of each
     bound.
     """
@@ -257,11 +261,11 @@ def givens(told):
     yield {**paying, "destination": "", "outputs": [{**late, "value": 400}]}, ("Dust", 10), []
 
 
-def without(it, name):
+def without(it: dict[str, Any], name: str) -> dict[str, Any]:
     return {member: value for member, value in it.items() if member != name}
 
 
-def bad_shapes(told):
+def bad_shapes(told: dict[str, Any]) -> Iterator[tuple[str, str]]:
     """What has another shape, and the note that names it: each member of a request and of an output."""
     asked, _, _ = next(requests(told))
     both = asked["outputs"]
@@ -335,7 +339,7 @@ def bad_shapes(told):
         yield changed_request(asked, outputs=[both[0], it]), either
 
 
-def bad_claims(told):
+def bad_claims(told: dict[str, Any]) -> Iterator[tuple[str, str]]:
     """Claims that are not accepted, each in the second output, and the note that says why: the fact is the first that
     `enforce paths` lists of the path and that the slots do not show.
     """
@@ -364,7 +368,7 @@ def bad_claims(told):
         yield changed_request(asked, outputs=[first, {**good, **members}]), f"outputs[1].{note}"
 
 
-def faults(told):
+def faults(told: dict[str, Any]) -> Iterator[tuple[str, str, int, list[str]]]:
     """Requests with a part at fault, each with its refusal and the note that names the part."""
     for text, note in bad_shapes(told):
         yield text, "BadShape", 2, [note]
@@ -372,7 +376,7 @@ def faults(told):
         yield text, "BadClaim", 3, [note]
 
 
-def refusals(told):
+def refusals(told: dict[str, Any]) -> Iterator[tuple[str, str, int]]:
     """Requests that `spend` refuses, and how: each refusal, and before the next one where both hold."""
     asked, _, _ = next(requests(told))
     both = asked["outputs"]

@@ -3,6 +3,7 @@ random are judged as consensus has them. Tested, not proved.
 """
 import json
 import random
+from collections.abc import Callable
 
 from real.lib import assembly, commitment_number, consensus, judgement, penalties, psbt, signatures
 from real.lib.errors import Refused
@@ -19,7 +20,7 @@ NEGATED = b"\x64\x51\x67\x00\x68"
 PREIMAGE, DELAY, LOCK_TIME = b"\x09" * 32, 7, 600
 
 
-def read_all_fields(given) -> None:
+def read_all_fields(given: bytes) -> None:
     """Reads a partially signed transaction as far as any tool does."""
     found = psbt.read(given)
     for index, fields in enumerate(found.inputs):
@@ -28,14 +29,14 @@ def read_all_fields(given) -> None:
         psbt.taproot_fields(fields)
 
 
-def encoded_numbers(r, s):
+def encoded_numbers(r: int, s: int) -> bytes:
     """Two numbers that are not negative in DER, with a hash type of ALL, by an encoder."""
     parts = [number.to_bytes(number.bit_length() // 8 + 1, "big") for number in (r, s)]
     body = b"".join(b"\x02" + bytes([len(it)]) + it for it in parts)
     return b"\x30" + bytes([len(body)]) + body + b"\x01"
 
 
-def item_numbers(item):
+def item_numbers(item: bytes | bytearray) -> tuple[int, int] | None:
     """The two numbers that stand where a signature in DER has them, whatever else stands there; None where they are
     cut.
     """
@@ -50,18 +51,18 @@ def item_numbers(item):
 class Drawn:
     """A curve on which a signature says by its first byte whose it is, so that runs at random need no real one."""
 
-    def verify(self, key, _digest, der):
+    def verify(self, key: bytes, _digest: bytes, der: bytes) -> bool:
         return len(key) == signatures.KEY_SIZE and der[4] == key[1]
 
-    def has_low_s(self, der):
+    def has_low_s(self, der: bytes) -> bool:
         return der[-1] != 1
 
 
-def push(data):
+def push(data: bytes) -> bytes:
     return bytes([len(data)]) + data
 
 
-def drawn_part(chance, depth):
+def drawn_part(chance: random.Random, depth: int) -> bytes:
     """A part of a script at random: what wallets write, and single opcodes of the machine."""
     key = push(chance.choice(KEYS))
     if depth and chance.random() < 0.35:
@@ -86,18 +87,18 @@ def drawn_part(chance, depth):
     )
 
 
-def drawn_script(chance, depth):
+def drawn_script(chance: random.Random, depth: int) -> bytes:
     return b"".join(drawn_part(chance, depth) for _ in range(chance.choice((0, 1, 1, 1, 2, 3))))
 
 
-def drawn_item(chance):
+def drawn_item(chance: random.Random) -> bytes:
     signature = encoded_numbers(chance.choice(KEYS)[1] << 240 | chance.getrandbits(200), 1 + chance.getrandbits(3))
     return chance.choice(
         (b"", b"", b"\x01", signature, signature, signature, PREIMAGE, chance.choice(KEYS), b"\x00", b"\x30\x06")
     )
 
 
-def drawn_witness(chance, script):
+def drawn_witness(chance: random.Random, script: bytes) -> list[bytes]:
     """Items at random: where some of a few tries are valid by consensus, these."""
     blank = Transaction(2, [Input(bytes(36), b"", DELAY)], [], LOCK_TIME)
     for _ in range(TRIES):
@@ -107,7 +108,7 @@ def drawn_witness(chance, script):
     return [*items, script]
 
 
-def drawn_case(chance):
+def drawn_case(chance: random.Random) -> tuple[Transaction, list[Output]]:
     """A transaction with scripts and witnesses at random, and what it spends."""
     scripts = [drawn_script(chance, 2) for _ in range(INPUTS)]
     inputs = [
@@ -122,7 +123,7 @@ def drawn_case(chance):
 class HostileTest(JudgeCase):
     """Hostile bytes, encodings and scripts at random."""
 
-    def survives(self, name, read, given) -> None:
+    def survives(self, name: str, read: Callable[[bytes], object], given: bytes) -> None:
         """Whether a reader of changed bytes returns, or refuses by name, and nothing else."""
         chance = random.Random(name)
         for number in range(MUTATIONS):

@@ -1,12 +1,12 @@
 """Tests of the judge with real signatures: the recorded rows, the signed transactions of BOLT 3's Appendix C, and both
 sides of each limit. Tested, not proved.
 """
-from typing import Any
-from collections.abc import Callable
-from real.lib.trace_program import Trace
 import os
+from collections.abc import Callable
+from typing import Any
 
 from real.lib import judge_text, judgement
+from real.lib.trace_program import Trace
 from real.lib.transaction import Output, Transaction, read_transaction
 from real.tests import bolt3, calls
 from real.tests.checks import CurveCase

@@ -1,17 +1,16 @@
 """Tests of penalties with real keys: BOLT 3's Appendix E, and the commitments and HTLC transactions of Appendix C as
 revoked ones. Tested, not proved.
 """
-from typing import Any
-from collections.abc import Callable
-from real.lib.commitment import Keys
-from real.lib.commitment import Known
-from real.lib.curve import AnyCurve
-from real.lib.penalties import State
-from real.lib.trace_program import Trace
 import json
+from collections.abc import Callable
+from typing import Any
 
 from real.lib import commitment, commitment_number, derivation, penalties, penalty_notes
+from real.lib.commitment import Keys, Known
+from real.lib.curve import AnyCurve
 from real.lib.errors import Refused
+from real.lib.penalties import State
+from real.lib.trace_program import Trace
 from real.lib.transaction import Input, Output, hash160, read_transaction, sha256
 from real.tests import bolt3
 from real.tests.checks import CurveCase
@@ -125,7 +124,7 @@ def state(told: dict[str, Any], case: dict[str, Any], curve: AnyCurve, **changes
     return {**found, **changes}
 
 
-def dearest(values: Any, places: list[int] | None=None) -> list[int]:
+def dearest(values: Any, places: list[int] | None = None) -> list[int]:
     """Places of outputs in the order in which they are told: the greatest value first."""
     return sorted(range(len(values)) if places is None else places, key=lambda it: -values[it])
 
@@ -134,7 +133,9 @@ def values_of(case: dict[str, Any]) -> list[int]:
     return [it["value_sat"] for it in case["outputs"]]
 
 
-def penalties_of(given: dict[str, Any], curve: AnyCurve, trace: Trace, privates: list[bytes] | None=None, **options: bool) -> list[dict[str, Any]] | None:
+def penalties_of(
+    given: dict[str, Any], curve: AnyCurve, trace: Trace, privates: list[bytes] | None = None, **options: bool
+) -> list[dict[str, Any]] | None:
     keys = [private_key("revocation"), private_key("payment")] if privates is None else privates
     return list(penalties.penalties(penalties.read_state(json.dumps(given)), keys, curve, trace, **options))
 
@@ -181,7 +182,13 @@ def with_anchors(told: dict[str, Any], case: dict[str, Any]) -> list[tuple[str, 
     return found
 
 
-def anchored_state(told: dict[str, Any], case: dict[str, Any], curve: AnyCurve, outputs: list[tuple[str, int, str, int | None]], **changes: int | str) -> dict[str, Any]:
+def anchored_state(
+    told: dict[str, Any],
+    case: dict[str, Any],
+    curve: AnyCurve,
+    outputs: list[tuple[str, int, str, int | None]],
+    **changes: int | str,
+) -> dict[str, Any]:
     """The state of a case's commitment with these outputs, in a channel with anchors."""
     transaction = with_outputs(
         case, [(value, "0020" + sha256(bytes.fromhex(script)).hex()) for _, value, script, _ in outputs]
@@ -276,7 +283,16 @@ class PenaltiesTest(CurveCase):
             self.check(made.inputs[0].witness[-1].hex() == script, f"{where}: its script")
             self.check(it["deadline_blocks"] == deadline_of(output), f"{where}: its deadline")
 
-    def check_last_line(self, name: str, found: list[dict[str, Any]], taken: Any=(), too_little: Any=(), no_key: Any=(), others: Any=(), named: dict[str, list[int]] | None=None) -> None:
+    def check_last_line(
+        self,
+        name: str,
+        found: list[dict[str, Any]],
+        taken: Any = (),
+        too_little: Any = (),
+        no_key: Any = (),
+        others: Any = (),
+        named: dict[str, list[int]] | None = None,
+    ) -> None:
         """What the last line says of all outputs, and that each of the lines before it has an answer that fits."""
         wanted = {
             "taken": [*taken],

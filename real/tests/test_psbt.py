@@ -1,14 +1,14 @@
 """Tests of partially signed transactions: each HTLC transaction of BOLT 3's Appendix C is made, signed and finished,
 and faults are refused. Tested, not proved.
 """
-from typing import Any
-from collections.abc import Callable
-from real.lib.psbt import Partial
 import json
+from collections.abc import Callable
+from typing import Any
 
 from real.lib import assembly, judgement, psbt, scripts
 from real.lib.errors import Refused
 from real.lib.plan import read_plan
+from real.lib.psbt import Partial
 from real.lib.ripemd160 import ripemd160
 from real.lib.signer import sign
 from real.lib.transaction import Input, Output, Transaction, compact_size, hash160, sha256, text

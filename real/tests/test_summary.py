@@ -1,6 +1,8 @@
 """Tests of what is told of a whole transaction, on both sides of each limit, worked by hand from BIP 141 and from what
 Bitcoin calls a transaction. Tested, not proved.
 """
+from collections.abc import Sequence
+
 from real.lib import judge_text, summary
 from real.lib.transaction import MAX_MONEY, Input, Output, Transaction, hash160, sha256
 from real.tests.checks import CheckedCase
@@ -12,17 +14,19 @@ CHECKS, CHECK, CHECK_MANY = b"\xac" * 10_000, b"\xac", b"\x52\xae"
 CUT, PUSHED, LONG_PUSHED = b"\x05\xac\xac", b"\x4c\x02\xac\xac", b"\x4d\x02\x00\xac\xac\xae"
 
 
-def transaction(outputs, witness=(b"\x51",), count: int=1, script: bytes=b""):
+def transaction(
+    outputs: list[tuple[int, bytes]], witness: tuple[bytes, ...] = (b"\x51",), count: int = 1, script: bytes = b""
+) -> Transaction:
     inputs = [Input(bytes([7]) * 32 + it.to_bytes(4, "little"), script, 0, list(witness)) for it in range(count)]
     return Transaction(2, inputs, [Output(value, program) for value, program in outputs], 0)
 
 
-def spent_outputs(it, value: int=5):
+def spent_outputs(it: Transaction, value: int = 5) -> list[Output]:
     """Outputs to the scripts at the end of the inputs' witnesses."""
     return [Output(value, b"\x00\x20" + sha256(each.witness[-1])) for each in it.inputs]
 
 
-def of_weight(weight):
+def of_weight(weight: int) -> Transaction:
     """A transaction of this weight: its outputs' programs have the bytes that are missing, and its witness the units."""
     plain = transaction([(1, bytes(9_999))] * 99 + [(1, bytes(1_000))])
     missing = weight - 3 * len(plain.stripped_bytes()) - len(plain.bytes())
@@ -31,7 +35,7 @@ def of_weight(weight):
     )
 
 
-def faults(it, spent):
+def faults(it: Transaction, spent: Sequence[Output | None]) -> list[str]:
     return summary.summary_of(it, spent)["faults"]
 
 

@@ -1,30 +1,26 @@
 """Compares what real/revoked answers with what Electrum makes of the same outputs. Tested, not proved. Wants Debian's
 python3-electrum.
 """
-from typing import Any
-from collections.abc import Iterator
-from electrum.transaction import PartialTxOutput
-
-from real.lib.curve import AnyCurve
-from real.lib.transaction import Output
-from real.tests.channels import Channel
-from real.tests.channels import Known
 import dataclasses
 import hashlib
 import json
 import os
 import subprocess
+from collections.abc import Iterator
+from typing import Any
 
 from electrum import ecc
 from electrum.crypto import sha256d
-from electrum.transaction import PartialTransaction, Transaction, TxOutput
+from electrum.transaction import PartialTransaction, PartialTxOutput, Transaction, TxOutput
 
 from real.lib import commitment_number, penalties
 from real.lib.command import LEFT
+from real.lib.curve import AnyCurve
 from real.lib.errors import NotRun
 from real.lib.trace_program import Trace, built_program
+from real.lib.transaction import Output
 from real.tests import channels
-from real.tests.channels import HEIGHT
+from real.tests.channels import HEIGHT, Channel, Known
 
 REVOKED = os.path.join(os.path.dirname(os.path.dirname(os.path.abspath(__file__))), "revoked")
 SECONDS = 900
@@ -54,7 +50,7 @@ class Once(Trace):
 class Tally:
     """How much was compared, and how much of it differs."""
 
-    def __init__(self, is_quiet: bool=False) -> None:
+    def __init__(self, is_quiet: bool = False) -> None:
         self.channels = self.outputs = self.second = self.little = self.changes = self.named = self.differ = 0
         self.seen, self.is_quiet = set(), is_quiet
 
@@ -179,7 +175,13 @@ def faults_of(answer: dict[str, Any], transaction: PartialTransaction, at: int, 
     return [name for name, it in faults.items() if it]
 
 
-def compare(tally: Tally, name: str, known: dict[bytes, Known], transaction: PartialTransaction, answered: tuple[list[dict[str, Any]], int]) -> tuple[list[dict[str, Any]], list[int]]:
+def compare(
+    tally: Tally,
+    name: str,
+    known: dict[bytes, Known],
+    transaction: PartialTransaction,
+    answered: tuple[list[dict[str, Any]], int],
+) -> tuple[list[dict[str, Any]], list[int]]:
     """Each output whose program Electrum knows is taken as Electrum has it, and each other one is named. The answers,
     and the outputs that are named.
     """
@@ -205,7 +207,7 @@ def compare(tally: Tally, name: str, known: dict[bytes, Known], transaction: Par
     return answers, others
 
 
-def spoiled_answers(answer, known):
+def spoiled_answers(answer: dict[str, Any], known: Any) -> Iterator[Any]:
     """The answer for an output that is taken, with one thing wrong each, and which."""
     yield "outputs", {**answer, "outputs": [answer["outputs"][0] + 1]}
     yield "kinds", {**answer, "kinds": ["another"]}
@@ -221,7 +223,7 @@ def spoiled_answers(answer, known):
     yield "signature", {**answer, "transaction": str(later), "txid": later.txid()}
 
 
-def check_itself(tally, answered, transaction, known) -> None:
+def check_itself(tally: Tally, answered: Any, transaction: Any, known: Any) -> None:
     """The comparison finds each thing that is wrong, so that it can fail."""
     (*answers, last), status = answered
     answer = next(it for it in answers if it["answer"] == "taken")
@@ -275,7 +277,9 @@ def changed_htlc(channel: Channel) -> Iterator[tuple[str, Channel]]:
         yield name, dataclasses.replace(channel, htlcs=[*channel.htlcs[:place], *htlcs, *channel.htlcs[place + 1 :]])
 
 
-def watch_changes(tally: Tally, name: str, channel: Channel, transaction: PartialTransaction, raw: str, curve: AnyCurve, trace: Trace) -> None:
+def watch_changes(
+    tally: Tally, name: str, channel: Channel, transaction: PartialTransaction, raw: str, curve: AnyCurve, trace: Trace
+) -> None:
     """With one part changed: what of the transaction still has a program that Electrum makes of the rest is taken, and
     what has none is named.
     """

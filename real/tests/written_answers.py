@@ -7,11 +7,16 @@ row. Places in an answer are told in written_ways.py.
 """
 import base64
 import json
+from collections.abc import Iterable
+from typing import Any
 from unittest import mock
 
 from real.lib import consensus, judge_input, judgement, psbt, scripts, signatures
+from real.lib.curve import Verifier
 from real.lib.errors import Refused
-from real.lib.transaction import Output, hash160, read_transaction
+from real.lib.trace_program import Trace
+from real.lib.transaction import Output, Transaction, hash160, read_transaction
+from real.tests.checks import Checks
 
 STOPPED = {
     0x63: "IF",
@@ -58,12 +63,12 @@ PLANTS = (
 )
 
 
-def rows_of(lines):
+def rows_of(lines: Iterable[str]) -> dict[str, Any]:
     """The rows by their names."""
     return {row["name"]: row for row in map(json.loads, lines)}
 
 
-def edited_text(text, edit):
+def edited_text(text: list[str], edit: list[list[Any]]) -> list[str]:
     """A text with changes to its transaction and its lines."""
     transaction, lines = read_transaction(bytes.fromhex(text[0])), [it.split(" ") for it in text[1:]]
     for kind, *places, last in edit:
@@ -85,7 +90,7 @@ def edited_text(text, edit):
     return [transaction.bytes().hex(), *map(" ".join, lines)]
 
 
-def input_of(row, rows):
+def input_of(row: dict[str, Any], rows: dict[str, Any]) -> bytes:
     """Standard input, as real/judge reads it."""
     if "psbt" in row:
         data = base64.b64decode(row["psbt"])
@@ -94,7 +99,7 @@ def input_of(row, rows):
     return "".join(f"{it}\n" for it in text).encode()
 
 
-def spend_of(data):
+def spend_of(data: bytes) -> tuple[Transaction, list[Output | None]]:
     """The transaction with the outputs that it spends, as one reads them who knows that they are there."""
     if not psbt.is_partial(data):
         first, *lines = data.decode().splitlines()
@@ -111,12 +116,12 @@ def spend_of(data):
 class Places:
     """What stands at the places that an answer names: of one input its items, and the opcodes of its script."""
 
-    def __init__(self, program, witness) -> None:
+    def __init__(self, program: bytes, witness: list[bytes]) -> None:
         is_key = scripts.is_key_hash(program)
         self.script, self.items = (scripts.key_script(program), witness) if is_key else (witness[-1], witness[:-1])
         self.opcodes = scripts.operations(self.script)
 
-    def bytes_at(self, place):
+    def bytes_at(self, place: str) -> bytes:
         """The bytes of a place."""
         kind, _, number = place.partition(" ")
         if kind == "push":
@@ -126,20 +131,20 @@ class Places:
             return hash160(item) if kind == "hash" else item
         return bytes.fromhex(place.replace("-", ""))
 
-    def stop(self, opcode):
+    def stop(self, opcode: int) -> dict[str, Any]:
         """Where a script stops: the opcode's number, name and byte."""
         if opcode == len(self.opcodes):
             return {"opcode": opcode, "op": None, "byte": len(self.script)}
         byte, code, pushed = self.opcodes[opcode]
         return {"opcode": opcode, "op": "PUSH" if pushed is not None else STOPPED[code], "byte": byte}
 
-    def signatures(self, keys):
+    def signatures(self, keys: dict[str, str | None]) -> list[dict[str, Any]]:
         """The items that are signatures, with their keys."""
         pairs = sorted((int(item), key) for item, key in keys.items())
         return [{"item": item, "key": key and self.bytes_at(key).hex()} for item, key in pairs]
 
 
-def answer_of(answer, transaction, index, spent):
+def answer_of(answer: list[Any], transaction: Transaction, index: int, spent: Output) -> dict[str, Any]:
     """The members that are wanted of an input. A stop without an opcode, and what is not judged, have a reason alone."""
     found = {"input": index, "outpoint": transaction.inputs[index].shown_outpoint(), "answer": answer[0]}
     if answer[0] != "clean" and len(answer) == 2:
@@ -166,7 +171,7 @@ def answer_of(answer, transaction, index, spent):
     return {**found, "relay": sorted(relay[0])} if relay else found
 
 
-def wanted_lines(row, rows, data):
+def wanted_lines(row: dict[str, Any], rows: dict[str, Any], data: bytes) -> list[dict[str, Any]]:
     """The lines that are wanted: of each the members that are."""
     if "refused" in row["wanted"]:
         return [row["wanted"]]
@@ -185,14 +190,14 @@ def wanted_lines(row, rows, data):
     return [whole, *(answer_of(it, transaction, index, spent[index]) for index, it in enumerate(answers))]
 
 
-def is_met(lines, found):
+def is_met(lines: list[dict[str, Any]], found: list[dict[str, Any]]) -> bool:
     """Whether each line is there with each member that is wanted."""
     return len(lines) == len(found) and all(
         name in it and it[name] == value for line, it in zip(lines, found) for name, value in line.items()
     )
 
 
-def is_blind(lines, found):
+def is_blind(lines: list[dict[str, Any]], found: list[dict[str, Any]]) -> bool:
     """Whether a wanted member may be another one, and is met all the same."""
     changed = (
         [*lines[:place], {**line, name: "another"}, *lines[place + 1 :]]
@@ -202,7 +207,7 @@ def is_blind(lines, found):
     return any(is_met(it, found) for it in changed)
 
 
-def printed_lines(data, curve, trace):
+def printed_lines(data: bytes, curve: Verifier, trace: Trace) -> list[dict[str, Any]]:
     """The lines that real/judge prints."""
     try:
         return judge_input.answers_of(*judge_input.read(data), curve, trace)
@@ -210,7 +215,7 @@ def printed_lines(data, curve, trace):
         return [{"refused": str(why)}]
 
 
-def compare(count, rows, recorded, curve, trace) -> None:
+def compare(count: Checks, rows: dict[str, Any], recorded: dict[str, Any], curve: Verifier, trace: Trace) -> None:
     """Each row is the recorded one, and what it wants is said."""
     for name in {**rows, **recorded}:
         row = rows.get(name)
@@ -222,7 +227,7 @@ def compare(count, rows, recorded, curve, trace) -> None:
         count.check(is_met(lines, found) and not is_blind(lines, found), f"{name}: wanted {lines}, found {found}")
 
 
-def list_at_once(rows, trace) -> None:
+def list_at_once(rows: dict[str, Any], trace: Trace) -> None:
     """Has the scripts of all rows that are not refused listed by one run."""
     found = set()
     for row in rows.values():
@@ -237,7 +242,7 @@ def list_at_once(rows, trace) -> None:
     trace.paths(sorted(found))
 
 
-def plant(rows, curve, trace):
+def plant(rows: dict[str, Any], curve: Verifier, trace: Trace) -> list[str]:
     """The changes of the judge that no row sees."""
     unseen = []
     for name, (place, member, change), seen_by in PLANTS:

@@ -1,13 +1,14 @@
 """Transactions by Electrum, each signed by keys that follow from a name: what the written answers are about. Needs
 Debian's python3-electrum. Tested, not proved.
 """
+from __future__ import annotations
 
-from typing import Any
-from electrum.transaction import PartialTransaction
 import base64
 import hashlib
+from typing import Any
 
 from electrum import bitcoin, crypto, ecc, lnutil, transaction
+from electrum.transaction import PartialTransaction
 
 ORDER = ecc.CURVE_ORDER
 opcodes, ECPubkey = bitcoin.opcodes, ecc.ECPubkey
@@ -43,7 +44,19 @@ class Claim:
     secrets), its sequence.
     """
 
-    def __init__(self, way: str, outpoint: tuple[str, int], value: int, script: bytes | None, shape: list[bytes | None], secrets: list[bytes], sequence: int, expiry: int=0, delay: int=0, previous: None=None) -> None:
+    def __init__(
+        self,
+        way: str,
+        outpoint: tuple[str, int],
+        value: int,
+        script: bytes | None,
+        shape: list[bytes | None],
+        secrets: list[bytes],
+        sequence: int,
+        expiry: int = 0,
+        delay: int = 0,
+        previous: None = None,
+    ) -> None:
         self.way, self.outpoint, self.value, self.script, self.shape = way, outpoint, value, script, shape
         self.secrets, self.sequence, self.expiry, self.delay, self.previous = (
             secrets,
@@ -85,7 +98,9 @@ class Claim:
 class Spend:
     """A transaction that spends claims."""
 
-    def __init__(self, claims: list[Claim], outputs: list[tuple[bytes, int]], version: int, lock_time: int, main: int=0) -> None:
+    def __init__(
+        self, claims: list[Claim], outputs: list[tuple[bytes, int]], version: int, lock_time: int, main: int = 0
+    ) -> None:
         self.claims, self.outputs, self.version, self.lock_time, self.main = claims, outputs, version, lock_time, main
         self.witnesses = None
 
@@ -113,7 +128,7 @@ class Spend:
         """What a signature of an input is over, as Electrum has it."""
         return bitcoin.sha256d(bytes.fromhex(self.electrum().serialize_preimage(number)))
 
-    def signature(self, number: int, secret: bytes, hash_type: int=1) -> bytes:
+    def signature(self, number: int, secret: bytes, hash_type: int = 1) -> bytes:
         """A signature of an input by Electrum, with its hash type."""
         tx = self.electrum()
         tx.inputs()[number].sighash = hash_type

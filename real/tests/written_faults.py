@@ -4,12 +4,20 @@ several variants.
 A fault is a name, an edit (or a transaction that was signed anew), and the answers: None is that of the transaction
 without the fault. Tested, not proved.
 """
-
 from typing import Any
+
 from real.tests import written_ways as ways
-from real.tests.written_electrum import Claim
-from real.tests.written_electrum import ORDER, assembled_script, crypto, digest_of, opcodes, public_key, secret_of
-from real.tests.written_electrum import Spend
+from real.tests.written_electrum import (
+    ORDER,
+    Claim,
+    Spend,
+    assembled_script,
+    crypto,
+    digest_of,
+    opcodes,
+    public_key,
+    secret_of,
+)
 from real.tests.written_ways import clean_answer, false_end, stops
 
 KINDS = ("signature", "order", "extra item", "amount", "sequence", "lock time", "forged token", "measured signature")
@@ -22,7 +30,9 @@ def of_main(spend: Spend, answer: list[Any]) -> list[list[Any] | None]:
     return answers
 
 
-def void_answer(claim: Claim, version: int, lock_time: int, sequence: int, keys: dict[int, str] | None=None) -> list[Any]:
+def void_answer(
+    claim: Claim, version: int, lock_time: int, sequence: int, keys: dict[int, str] | None = None
+) -> list[Any]:
     """An input whose signatures are over another digest (or, with keys, are good): a lock of its script may stop it
     before.
     """
@@ -34,7 +44,7 @@ def void_answer(claim: Claim, version: int, lock_time: int, sequence: int, keys:
     return false_end(claim.way, keys)
 
 
-def void_answers(spend: Spend, lock_time: int | None=None, sequence: int | None=None) -> list[list[Any]]:
+def void_answers(spend: Spend, lock_time: int | None = None, sequence: int | None = None) -> list[list[Any]]:
     """The answers where all signatures are over another digest."""
     lock_time = spend.lock_time if lock_time is None else lock_time
     answers = []
@@ -64,7 +74,9 @@ def numbers(signature: bytes) -> tuple[int, int]:
     return int.from_bytes(signature[4 : 4 + length], "big"), int.from_bytes(signature[6 + length : -1], "big")
 
 
-def signature_fault(spend: Spend, variant: int, pick: int) -> tuple[str, list[list[int | str]], list[list[Any] | None]]:
+def signature_fault(
+    spend: Spend, variant: int, pick: int
+) -> tuple[str, list[list[int | str]], list[list[Any] | None]]:
     """A signature that is flipped, another's, empty, of a high s, of another hash type, or not in strict DER in one of
     three ways.
     """

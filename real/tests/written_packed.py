@@ -1,12 +1,10 @@
 """Partially signed transactions (BIP 174) by Electrum, in three forms, and with one field changed. Tested, not proved."""
-
-from typing import Any
-from collections.abc import Iterator
-from real.tests.written_electrum import Spend
 import base64
+from collections.abc import Iterator
+from typing import Any
 
 from real.tests import written_ways as ways
-from real.tests.written_electrum import Channel, digest_of, transaction
+from real.tests.written_electrum import Channel, Spend, digest_of, transaction
 from real.tests.written_spends import channel_spend, wallet_spend
 
 
@@ -86,7 +84,13 @@ def changed_rows() -> Iterator[dict[str, Any]]:
     main = spend.main
     assert main == 0
 
-    def one(first: list[tuple[bytes, bytes]] | None, wanted: dict[str, Any], name: str, whole: bytes | None=None, whole_outputs: int=outputs) -> dict[str, Any]:
+    def one(
+        first: list[tuple[bytes, bytes]] | None,
+        wanted: dict[str, Any],
+        name: str,
+        whole: bytes | None = None,
+        whole_outputs: int = outputs,
+    ) -> dict[str, Any]:
         return row(name, whole or partial_bytes(unsigned, [first] + inputs[1:], whole_outputs), "base64", wanted)
 
     def unjudged_answers(reason: str, fee: int | None) -> dict[str, Any]:

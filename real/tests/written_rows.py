@@ -4,16 +4,19 @@ what is wanted of real/judge.
 The answers follow from the sheet of written_ways.py, which is worked by hand from the pages and the standards: nothing
 here runs a script or asks a judge. Tested, not proved.
 """
-from typing import Any
 from collections.abc import Iterator
-from real.tests import written_faults as faults, written_specials, written_spends, written_ways as ways
+from typing import Any
+
+from real.tests import written_specials, written_spends
+from real.tests import written_faults as faults
+from real.tests import written_ways as ways
 from real.tests.written_electrum import Spend
 from real.tests.written_ways import corrected_row
 
 LOCKED = ("to_local by delay", "received by timeout")  # these have faults of locks in more variants
 
 
-def row_of(name: str, spend: Spend, answers: list[list[Any]], of: str | None=None) -> dict[str, Any]:
+def row_of(name: str, spend: Spend, answers: list[list[Any]], of: str | None = None) -> dict[str, Any]:
     """A row with a transaction of its own."""
     wanted = {"fee": spend.fee(), "faults": ["OutputsExceed"] if spend.fee() < 0 else [], "inputs": answers}
     if of:

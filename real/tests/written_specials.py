@@ -1,9 +1,9 @@
 """Single transactions, each with the answer that is written down for it: what the eight kinds of fault do not meet.
 Tested, not proved.
 """
-
-from typing import Any
 from collections.abc import Iterator
+from typing import Any
+
 from real.tests import written_ways as ways
 from real.tests.written_electrum import (
     Claim,
@@ -28,13 +28,23 @@ from real.tests.written_packed import packed_rows
 PAID = b"\x00\x14" + digest_of("paid")[:20]
 
 
-def single_spend(name: str, script: bytes | None, shape: list[bytes | None], secrets: list[bytes], sequence: int=0xFFFFFFFD, value: int=50_000, way: str | None=None, version: int=2, lock_time: int=0) -> Spend:
+def single_spend(
+    name: str,
+    script: bytes | None,
+    shape: list[bytes | None],
+    secrets: list[bytes],
+    sequence: int = 0xFFFFFFFD,
+    value: int = 50_000,
+    way: str | None = None,
+    version: int = 2,
+    lock_time: int = 0,
+) -> Spend:
     """The spend of one output by a script of its own."""
     claim = Claim(way, (digest_of(name).hex(), 1), value, script, shape, secrets, sequence)
     return Spend([claim], [(PAID, value - 400)], version, lock_time).sign()
 
 
-def row(name: str, text: list[str], answers: list[list[Any]], fee: int=400, faults: Any=()) -> dict[str, Any]:
+def row(name: str, text: list[str], answers: list[list[Any]], fee: int = 400, faults: Any = ()) -> dict[str, Any]:
     """A row that is told input by input."""
     return {"name": name, "text": text, "wanted": {"fee": fee, "faults": list(faults), "inputs": answers}}
 
@@ -60,7 +70,7 @@ def local_script(revocation: bytes, delay: bytes, delayed: bytes) -> bytes:
     )
 
 
-def to_local(name: str, item: bytes, delay: bytes=b"\x02\x90\x00", sequence: int=144) -> Spend:
+def to_local(name: str, item: bytes, delay: bytes = b"\x02\x90\x00", sequence: int = 144) -> Spend:
     """A spend of to_local with this item on top: by the revocation key where it is true."""
     revocation, delayed = secret_of(name + " revocation"), secret_of(name + " delayed")
     by_revocation = any(item[:-1]) or item[-1:] not in (b"", b"\x00", b"\x80")
@@ -307,7 +317,16 @@ def of_wallets() -> Iterator[dict[str, Any]]:
     yield row("all kinds of a wallet", text, answers, 1_000)
 
 
-def neighbour_row(name: str, witness: list[bytes] | None, program: bytes | None, answer: list[Any], faults: Any=(), outpoint: tuple[str, int] | None=None, value: int=20_000, script: bytes=b"") -> dict[str, Any]:
+def neighbour_row(
+    name: str,
+    witness: list[bytes] | None,
+    program: bytes | None,
+    answer: list[Any],
+    faults: Any = (),
+    outpoint: tuple[str, int] | None = None,
+    value: int = 20_000,
+    script: bytes = b"",
+) -> dict[str, Any]:
     """A key's hash that is clean, and another input with this witness and program."""
     good = Claim(
         "wallet key",

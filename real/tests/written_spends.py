@@ -1,8 +1,8 @@
 """The 208 transactions without a fault: thirteen of each way to spend, over delays, expiries, sequences, lock times
 and neighbours that differ. Tested, not proved.
 """
-
 from collections.abc import Iterator
+
 from real.tests import written_ways as ways
 from real.tests.written_electrum import (
     Channel,

@@ -1,11 +1,10 @@
 """The ways to spend whose answers are written down beforehand: what the pages and the standards say of each.
 
 Places are opcodes of the script, counted from 0. 'push K' is what opcode K pushes, 'item J' the item J of the witness,
-from typing import Any
 from the first, 'hash J' its HASH160, and '-' the empty item. Tested, not proved.
 """
-
 from collections import namedtuple
+from typing import Any
 
 # path, counted, height: of a clean input. check: the opcode that takes the signatures. stack: what stands there, the
 # top first.
@@ -89,7 +88,7 @@ def corrected_row(row: dict[str, Any], was: Any, why: str) -> dict[str, Any]:
     return {**row, "was": was, "why": why}
 
 
-def clean_answer(way: str, relay: Any=()) -> list[Any]:
+def clean_answer(way: str, relay: Any = ()) -> list[Any]:
     """A clean input. Its answer: path, counted opcodes, height, of each signature its key, and the rules of relay that
     it breaks.
     """
@@ -102,7 +101,7 @@ def stops(reason: str, opcode: int, stack: list[str], keys: dict[int, str | None
     return ["stops", reason, opcode, stack, keys]
 
 
-def false_end(way: str, keys: dict[int, str | None] | None=None) -> list[Any]:
+def false_end(way: str, keys: dict[int, str | None] | None = None) -> list[Any]:
     """A signature is of no key, or empty: the run ends with false."""
     return stops("FalseEnd", WAYS[way].end, ["-"], void_keys(way) if keys is None else keys)
 
@@ -123,7 +122,7 @@ def sequence_stop(keys: dict[int, str | None]) -> list[Any]:
     return stops("FailedCheck Sequence", 4, ["push 3", "item 0"], keys)
 
 
-def lock_time_stop(keys: dict[int, str | None], rest: Any=("item 0",)) -> list[Any]:
+def lock_time_stop(keys: dict[int, str | None], rest: Any = ("item 0",)) -> list[Any]:
     """CHECKLOCKTIMEVERIFY of a received HTLC."""
     return stops("FailedCheck LockTime", 24, ["push 23", "push 7"] + list(rest), keys)
 
@@ -147,7 +146,9 @@ def shifted_keys(keys: dict[int, str]) -> dict[int, str]:
     return moved
 
 
-def exchange_answers(way: str, lock_passes: bool) -> list[tuple[int, int, list[dict[int, str] | int | list[str] | str]]]:
+def exchange_answers(
+    way: str, lock_passes: bool
+) -> list[tuple[int, int, list[dict[int, str] | int | list[str] | str]]]:
     """Of each way: two items of the witness, and the answer where they are exchanged."""
     keys = WAYS[way].keys
     table = {
