@@ -12,7 +12,7 @@ from real.lib.curve import AnyCurve
 from real.lib.errors import NotRun, Refused
 from real.lib.trace_program import Trace
 from real.lib.transaction import Output, read_transaction
-from real.tests.test_judgement import JudgementTest
+from real.tests.checks import Checks
 
 HERE = os.path.dirname(os.path.abspath(__file__))
 ROWS = os.path.join(HERE, "rows.jsonl")
@@ -43,7 +43,7 @@ def is_wanted(row: dict[str, Any], found: dict[str, Any]) -> bool:
     )
 
 
-def judge_rows(count: JudgementTest, rows: list[dict[str, Any]], curve: AnyCurve, trace: Trace) -> None:
+def judge_rows(count: Checks, rows: list[dict[str, Any]], curve: AnyCurve, trace: Trace) -> None:
     for row in rows:
         found = row_answer(row, curve, trace)
         count.check(
