@@ -1,7 +1,7 @@
 """What callers of the library for C ask of claims and of spends, and what the answers have to be. It is worked out here from what others signed, and no program of this repository is asked.
 
 The HTLC transactions of BOLT 3's appendix C and the transactions of real/tests/rows.jsonl, which Electrum built and signed, are taken apart: each input is a claim by the path that its witness takes, with a
-signature's slot for each item that the record has as a valid signature. The transaction is then made again by real/transaction.py, with the sequences and the lock time that BOLT 3 has for the claims, with the
+signature's slot for each item that the record has as a valid signature. The transaction is then made again by real/lib/transaction.py, with the sequences and the lock time that BOLT 3 has for the claims, with the
 empty item in the place of each signature, and with the digests of BIP 143. Where the claims ask for the sequence and the lock time that the signed one has, it is the signed transaction, whose signatures are over
 these digests.
 
@@ -15,13 +15,12 @@ import sys
 
 sys.dont_write_bytecode = True
 TOP = os.path.dirname(os.path.dirname(os.path.dirname(os.path.abspath(__file__))))
-sys.path.insert(0, f"{TOP}/real")
-import bolt3
-import plan as plans
-import scripts
-import signatures
-from curve import Recorded
-from transaction import Digests, Input, Output, Transaction, read_transaction, sha256
+sys.path.insert(0, TOP)
+from real.lib import plan as plans
+from real.lib import scripts, signatures
+from real.lib.curve import Recorded
+from real.lib.transaction import Digests, Input, Output, Transaction, read_transaction, sha256
+from real.tests import bolt3
 
 ROWS, RECORD = f"{TOP}/real/tests/rows.jsonl", f"{TOP}/real/tests/record.json"
 PAGES, DUMPS = f"{TOP}/docs/*.md", f"{TOP}/examples/dumps/*.json"

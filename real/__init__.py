@@ -1,0 +1,1 @@
+"""Real transactions: the tools of docs/REAL.md. Tested, not proved."""

@@ -1,0 +1,402 @@
+"""Penalties on a revoked commitment's outputs: built, signed, and judged before they are told (BOLT 5, "Revoked
+Transaction Close Handling"). Tested, not proved.
+"""
+from collections.abc import Iterable, Iterator
+from dataclasses import dataclass
+from typing import Any
+
+from real.lib import commitment, commitment_number, hints, judgement, scripts, signatures, summary
+from real.lib.commitment import Keys, Known
+from real.lib.curve import AnyCurve
+from real.lib.errors import Refused
+from real.lib.plan import Shape, read_object
+from real.lib.trace_program import Trace
+from real.lib.transaction import MAX_MONEY, Digests, Input, Output, Transaction, compact_size, read_transaction, text
+
+VERSION, SEQUENCE = 2, 0
+# the longest signature that is made: DER with a low s, and the hash type
+SIGNATURE_SIZE = 72
+BASE_SIZE, MARKER_SIZE, INPUT_SIZE = 8, 2, 41
+# Bitcoin Core's default feerate for dust, and the sizes that it takes for the input that spends an output
+# (GetDustThreshold)
+DUST_FEERATE_PER_KVB, PLAIN_INPUT_SIZE, WITNESS_INPUT_SIZE = 3_000, 148, 67
+MAX_FEERATE, MAX_HEIGHT, MAX_DELAY = 10_000_000, commitment.LOCKTIME_THRESHOLD - 1, 65_535
+# the greatest feerate that is taken where a state has no other limit: 1,000 satoshis for a virtual byte
+MOST_FEERATE = 250_000
+MEMBERS = (
+    *(
+        "channel_type",
+        "transaction",
+        "secret",
+        "delay_blocks",
+        "htlcs",
+        "bases",
+        "funding_keys",
+        "spent",
+        "destination",
+    ),
+    *("feerate_per_kw", "most_feerate_per_kw", "height", "confirmed_height"),
+)
+BASES = ("revocation", "payment", "htlc", "owner_delayed", "owner_htlc")
+# more HTLCs than two sides of a channel may have (BOLT 2)
+MAX_HTLCS = 966
+# the shortest program by which a transaction of one input has the 65 bytes, without witnesses, that nodes pass on
+SHORTEST_PROGRAM = 5
+# what is answered of outputs
+TAKEN, TOO_LITTLE, NO_KEY = "taken", "too little to be passed on", "no key"
+
+
+@dataclass
+class State:
+    """A revoked state as it is stored, with the transaction that was seen, and how its outputs are to be taken."""
+
+    channel_type: str
+    transaction: Transaction
+    secret: bytes
+    delay_blocks: int
+    htlcs: list[commitment.Htlc]
+    bases: dict[str, bytes]
+    # both keys of the funding output, if they are told: the keys of the anchors
+    funding_keys: list[bytes]
+    # the outputs that are told to be gone
+    spent: list[int]
+    destination: bytes
+    feerate_per_kw: int
+    height: int
+    # the height of the block that has the transaction, if one has it
+    confirmed_height: int | None
+
+
+# what is known of an output whose program is another
+NOTHING = commitment.Known("", b"", b"", [], b"")
+
+
+@dataclass
+class Take:
+    """An output that is taken."""
+
+    index: int
+    output: Output
+    known: commitment.Known
+
+
+def read_htlc(shape: Shape) -> commitment.Htlc:
+    direction = shape.check_names("direction", "hash", "expiry_height").member("direction", str)
+    if direction not in ("offered", "received"):
+        raise shape.refusal("direction")
+    return commitment.Htlc(direction == "offered", shape.bytes("hash", 32), shape.number("expiry_height", MAX_HEIGHT))
+
+
+def read_channel_type(shape: Shape) -> str:
+    found = shape.member("channel_type", str, optional=True)
+    if found is None:
+        return commitment.STATIC_REMOTEKEY
+    if found not in commitment.CHANNEL_TYPES:
+        raise shape.refusal("channel_type")
+    return found
+
+
+def read_funding_keys(shape: Shape) -> list[bytes]:
+    """Both keys, or none."""
+    found = shape.member("funding_keys", list, optional=True) or []
+    if len(found) not in (0, 2):
+        raise shape.refusal("funding_keys")
+    return [Shape({"key": it}, f"{shape.place}.funding_keys[{at}]").bytes("key", 33) for at, it in enumerate(found)]
+
+
+def read_spent(shape: Shape, transaction: Transaction) -> list[int]:
+    """The outputs that are gone, each once, in their order."""
+    found = shape.member("spent", list, optional=True) or []
+    for at, it in enumerate(found):
+        if type(it) is not int or not 0 <= it < len(transaction.outputs) or it in found[:at]:
+            raise shape.refusal(f"spent[{at}]")
+    return sorted(found)
+
+
+def read_destination(shape: Shape) -> bytes:
+    """A program that wallets have an address for. One of four bytes is none: a transaction of one input that pays to
+    it is shorter than nodes pass on.
+    """
+    try:
+        found = shape.bytes("destination")
+    except Refused as why:
+        raise Refused(str(why), hints.hex_hint(shape.member("destination", str))) from None
+    if not scripts.is_address(found) or len(found) < SHORTEST_PROGRAM:
+        raise shape.refusal("destination")
+    return found
+
+
+def read_feerate(shape: Shape) -> int:
+    """The feerate, within the limit that the state has for it."""
+    found, most = shape.number("feerate_per_kw", MAX_FEERATE), shape.number(
+        "most_feerate_per_kw", MAX_FEERATE, optional=True
+    )
+    most = MOST_FEERATE if most is None else most
+    if found > most:
+        raise Refused(
+            f"TooHighFeerate {most}",
+            (
+                f"{found} satoshis for 1,000 units of weight are {found // 250} for a virtual byte;"
+                " most_feerate_per_kw raises the limit"
+            ),
+        )
+    return found
+
+
+def read_confirmed_height(shape: Shape, height: int) -> int | None:
+    """The height of the block that has the transaction, or null where none has it. It is always asked for: without it
+    a deadline would be too late.
+    """
+    if "confirmed_height" not in shape.value:
+        raise Refused(
+            str(shape.refusal("confirmed_height")),
+            "the height of the block that has the transaction is missing; null says that no block has it yet",
+        )
+    found = shape.number("confirmed_height", MAX_HEIGHT, optional=True)
+    if found is not None and found > height:
+        raise shape.refusal("confirmed_height")
+    return found
+
+
+def read_state(given: str | bytes) -> State:
+    """The state that a JSON text tells."""
+    shape = read_object(given, "state").check_names(*MEMBERS)
+    transaction = read_transaction(shape.line("transaction"))
+    bases = Shape(shape.member("bases", dict), "state.bases").check_names(*BASES)
+    htlcs = [read_htlc(it) for it in shape.objects("htlcs")]
+    if len(htlcs) > MAX_HTLCS:
+        raise Refused("TooManyHtlcs")
+    height = shape.number("height", MAX_HEIGHT)
+    return State(
+        read_channel_type(shape),
+        transaction,
+        shape.bytes("secret", 32),
+        shape.number("delay_blocks", MAX_DELAY),
+        htlcs,
+        {name: bases.bytes(name, 33) for name in BASES},
+        read_funding_keys(shape),
+        read_spent(shape, transaction),
+        read_destination(shape),
+        read_feerate(shape),
+        height,
+        read_confirmed_height(shape, height),
+    )
+
+
+def deadline_of(known: Known, state: State) -> int | None:
+    """The number of next blocks in which nobody else can take an output; None where nobody else ever can. The owner
+    takes to_local in the block that is the delay above the transaction's (BIP 68); HTLC-timeout is in a block above
+    the expiry (BIP 65); HTLC-success may be in any. With anchors either is in a block above the transaction's.
+    """
+    if known.kind == "to_remote":
+        return None
+    confirmed_height = state.height + 1 if state.confirmed_height is None else state.confirmed_height
+    waits = state.delay_blocks if known.kind == "to_local" else int(state.channel_type == commitment.ANCHORS)
+    first = confirmed_height + waits
+    if known.htlc is not None and known.htlc.is_offered:
+        first = max(first, known.htlc.expiry_height + 1)
+    return max(0, first - 1 - state.height)
+
+
+def least_deadline(found: Iterable[int | None]) -> int | None:
+    """The least of deadlines; None where there is none."""
+    return min((it for it in found if it is not None), default=None)
+
+
+def split_outputs(state: State, table: dict[bytes, Known]) -> tuple[list[Take], list[int]]:
+    """The outputs that are the commitment's, and the indices of the others; without those that are told to be gone."""
+    takes, others, gone = [], [], set(state.spent)
+    for index, output in enumerate(state.transaction.outputs):
+        known = table.get(output.program)
+        if index in gone:
+            continue
+        if known is None:
+            others.append(index)
+        else:
+            takes.append(Take(index, output, known))
+    return takes, others
+
+
+def is_htlc_transaction(state: State, table: dict[bytes, Known]) -> bool:
+    """Whether the transaction is one that spends HTLCs of the commitment: it has an output with the script of
+    to_local, and not the form of a commitment.
+    """
+    is_delayed = any(table.get(it.program, NOTHING).kind == "to_local" for it in state.transaction.outputs)
+    return is_delayed and not commitment_number.has_form(state.transaction)
+
+
+def names_of(state: State, keys: Keys, table: dict[bytes, Known], others: list[int]) -> dict[str, Any]:
+    """What other outputs of a channel with anchors are, which are not taken here: to_remote and the anchors, and what
+    its owner added to an HTLC transaction, all of whose own outputs have one script.
+    """
+    if state.channel_type != commitment.ANCHORS:
+        return {}
+    found: dict[str, list[int]] = {}
+    outputs = commitment.named_outputs(keys, state.funding_keys)
+    named: dict[bytes, tuple[str | None, int | None]] = {program: (kind, value) for program, kind, value in outputs}
+    added = ("added" if is_htlc_transaction(state, table) else None), None
+    for index in others:
+        output = state.transaction.outputs[index]
+        kind, value = named.get(output.program, added)
+        if kind is not None and value in (None, output.value):
+            found.setdefault(kind, []).append(index)
+    return {"named": found}
+
+
+def witness_of(known: Known, signature: bytes) -> list[bytes]:
+    ends = [known.key] if known.kind == "to_remote" else [*known.items, known.script]
+    return [signature, *ends]
+
+
+def input_weight(known: Known) -> int:
+    """The greatest weight of the input that takes an output (BIP 141)."""
+    items = witness_of(known, bytes(SIGNATURE_SIZE))
+    return 4 * INPUT_SIZE + len(compact_size(len(items))) + sum(len(text(it)) for it in items)
+
+
+def weight_of(takes: list[Take], destination: bytes) -> int:
+    """The greatest weight of a transaction that takes outputs."""
+    plain = BASE_SIZE + len(compact_size(len(takes))) + len(compact_size(1) + Output(0, destination).bytes())
+    return 4 * plain + MARKER_SIZE + sum(input_weight(it.known) for it in takes)
+
+
+def dust_sat(program: bytes) -> int:
+    """The least value of an output with this program that Bitcoin Core passes on by default."""
+    spending = WITNESS_INPUT_SIZE if scripts.is_witness_program(program) else PLAIN_INPUT_SIZE
+    return DUST_FEERATE_PER_KVB * (len(Output(0, program).bytes()) + spending) // 1000
+
+
+def unsigned_transaction(state: State, takes: list[Take]) -> tuple[Transaction | None, int]:
+    """The transaction that takes outputs, and its fee; None where too little is left to be passed on."""
+    value = sum(it.output.value for it in takes)
+    fee = -(-weight_of(takes, state.destination) * state.feerate_per_kw // 1000)
+    if value > MAX_MONEY or value - fee < dust_sat(state.destination):
+        return None, fee
+    txid = bytes.fromhex(state.transaction.txid())[::-1]
+    inputs = [Input(txid + it.index.to_bytes(4, "little"), b"", SEQUENCE) for it in takes]
+    return Transaction(VERSION, inputs, [Output(value - fee, state.destination)], 0), fee
+
+
+def is_joined(it: Take, state: State, signing: dict[bytes, bytes]) -> bool:
+    """Whether an output goes into the transaction of several: its key is there, nobody else can take it yet, and it
+    has no less than what its input costs.
+    """
+    is_safe = it.known.key in signing and deadline_of(it.known, state) != 0
+    return is_safe and input_weight(it.known) * state.feerate_per_kw <= 1000 * it.output.value
+
+
+def batches(takes: list[Take], state: State, signing: dict[bytes, bytes], is_one: bool) -> list[list[Take]]:
+    """One transaction for each output. Or one for all that can be joined, unless they have too little together, and
+    one for each other output. The dearest stands first.
+    """
+    joined = [it for it in takes if is_one and is_joined(it, state, signing)]
+    if unsigned_transaction(state, joined)[0] is None:
+        joined = []
+    places = {it.index for it in joined}
+    found = ([joined] if joined else []) + [[it] for it in takes if it.index not in places]
+    return sorted(found, key=lambda it: -sum(each.output.value for each in it))
+
+
+def signed_transaction(
+    transaction: Transaction, takes: list[Take], signing: dict[bytes, bytes], curve: AnyCurve
+) -> Transaction:
+    """The same with a signature in each input, each verified."""
+    digests = Digests(transaction)
+    for index, it in enumerate(takes):
+        digest = digests.digest_of(index, it.known.script, it.output.value)
+        der = curve.sign(signing[it.known.key], digest)
+        if not curve.verify(it.known.key, digest, der):
+            raise Refused(f"BadSignature {it.index}")
+        transaction.inputs[index].witness = witness_of(it.known, der + bytes([signatures.ALL]))
+    return transaction
+
+
+def judge_transaction(transaction: Transaction, takes: list[Take], curve: AnyCurve, trace: Trace) -> None:
+    """Refuses a transaction that the judge does not find clean, or that consensus refuses as a whole."""
+    spent = [it.output for it in takes]
+    faults = summary.summary_of(transaction, spent)["faults"]
+    if faults:
+        raise Refused(f"NotClean {takes[0].index} {faults[0]}")
+    for it, found in zip(takes, judgement.judge(transaction, spent, curve, trace)):
+        if found["answer"] != "clean" or found["path"] != 0 or found["relay"]:
+            raise Refused(f"NotClean {it.index} {found.get('reason', 'another path')}")
+
+
+def answer_of(
+    takes: list[Take], state: State, signing: dict[bytes, bytes], curve: AnyCurve, trace: Trace
+) -> dict[str, Any]:
+    """What is said of outputs: the transaction that takes them, after the judge found each of its inputs clean; or why
+    there is none.
+    """
+    transaction, fee = unsigned_transaction(state, takes)
+    value, deadline = sum(it.output.value for it in takes), least_deadline(
+        deadline_of(it.known, state) for it in takes
+    )
+    answer = {
+        "outputs": [it.index for it in takes],
+        "kinds": [it.known.kind for it in takes],
+        "value": value,
+        "fee": fee,
+    }
+    missing = [
+        "payment" if it.known.kind == "to_remote" else "revocation" for it in takes if it.known.key not in signing
+    ]
+    if missing:
+        return {**answer, "answer": NO_KEY, "deadline_blocks": deadline, "key": missing[0]}
+    if transaction is None:
+        return {**answer, "answer": TOO_LITTLE}
+    judge_transaction(signed_transaction(transaction, takes, signing, curve), takes, curve, trace)
+    return {
+        **answer,
+        "answer": TAKEN,
+        "deadline_blocks": deadline,
+        "txid": transaction.txid(),
+        "transaction": transaction.bytes().hex(),
+    }
+
+
+def penalties(
+    state: State, privates: list[bytes], curve: AnyCurve, trace: Trace, is_one: bool = False, is_legacy: bool = False
+) -> Iterator[dict[str, Any]]:
+    """All that is said: of each transaction of penalties, and of each output that none takes; and last of all outputs."""
+    if not curve.is_private(state.secret):
+        raise Refused("BadSecret")
+    for name, base in state.bases.items():
+        if not curve.is_point(base):
+            raise Refused(f"BadShape state.bases.{name}")
+    for at, key in enumerate(state.funding_keys):
+        if not curve.is_point(key):
+            raise Refused(f"BadShape state.funding_keys[{at}]")
+    if is_legacy and state.channel_type == commitment.ANCHORS:
+        raise Refused("BadShape state.channel_type")
+    point = curve.public_key(state.secret)
+    keys = commitment.keys_of(curve, state.bases, point, is_legacy)
+    signing, unused = commitment.private_keys_of(curve, state.bases, privates, state.secret, point, is_legacy)
+    table = commitment.table_of(keys, state.delay_blocks, state.htlcs, state.channel_type)
+    takes, others = split_outputs(state, table)
+    # the judge lists all scripts by one call
+    trace.paths([it.known.script for it in takes])
+    found: dict[str, list[int]] = {TAKEN: [], TOO_LITTLE: [], NO_KEY: []}
+    for batch in batches(takes, state, signing, is_one):
+        answer = answer_of(batch, state, signing, curve, trace)
+        found[answer["answer"]] += answer["outputs"]
+        yield answer
+    taken, too_little, no_key = (sorted(it) for it in found.values())
+    last = {
+        "transaction": state.transaction.txid(),
+        "taken": taken,
+        "too_little": too_little,
+        "no_key": no_key,
+        "others": others,
+        **names_of(state, keys, table, others),
+    }
+    optional = {"spent": state.spent, "unused_keys": unused}
+    yield {**last, **{name: it for name, it in optional.items() if it}}
+
+
+def is_left(last: dict[str, Any]) -> bool:
+    """Whether the last line says that something is left: an output that matches nothing and is not named, one whose
+    key is missing, or a key that is that of neither base point.
+    """
+    named = [at for it in last.get("named", {}).values() for at in it]
+    return bool(set(last["others"]) - set(named) or last["no_key"] or last.get("unused_keys"))

@@ -1,0 +1,55 @@
+"""What real/revoked says beside its answers, in words on standard error. Tested, not proved."""
+from collections.abc import Iterator
+from typing import Any
+
+from real.lib import commitment, commitment_number, penalties
+from real.lib.penalties import State
+
+# the least feerate that nodes pass on by default, one satoshi for a virtual byte; and how many transactions nodes are
+# sure to take that spend one which no block has
+RELAYED_FEERATE, CHILDREN = 253, 24
+# a fee that is above this part of what it is paid from
+DEAR = 10
+
+
+def is_kept(state: State, found: list[dict[str, Any]]) -> bool:
+    """Whether a penalty may be made invalid by another id of what it spends: an HTLC transaction of a channel with
+    anchors, to which its owner may add inputs, that no block has.
+    """
+    is_open = state.channel_type == commitment.ANCHORS and state.confirmed_height is None
+    return (
+        is_open
+        and not commitment_number.has_form(state.transaction)
+        and any("to_local" in it["kinds"] for it in found[:-1])
+    )
+
+
+def notes_of(state: State, found: list[dict[str, Any]]) -> Iterator[str]:
+    """The notes, in their order."""
+    sent = [it for it in found[:-1] if it["answer"] == penalties.TAKEN]
+    if is_kept(state, found):
+        yield (
+            "with anchors the owner may add inputs to this HTLC transaction, which gives it another id and makes this"
+            " penalty worthless: make it of the transaction that a block has"
+        )
+    if state.feerate_per_kw < RELAYED_FEERATE:
+        yield f"nodes pass on no transaction below a feerate_per_kw of {RELAYED_FEERATE} by default"
+    dear = [it["outputs"] for it in sent if it["fee"] * DEAR > it["value"]]
+    if dear:
+        yield f"the fee is above a tenth of the value: of outputs {places_of(dear)}"
+    little = [
+        it["outputs"]
+        for it in found[:-1]
+        if it["answer"] == penalties.TOO_LITTLE and it["value"] >= penalties.dust_sat(state.destination)
+    ]
+    if little:
+        yield f"at this feerate too little is left to be passed on: of outputs {places_of(little)}"
+    if state.confirmed_height is None and len(sent) > CHILDREN:
+        yield (
+            f"of {len(sent)} transactions nodes are sure to take {CHILDREN} before a block has what they spend: send"
+            " them again after each block"
+        )
+
+
+def places_of(outputs: list[list[int]]) -> str:
+    return ", ".join(str(at) for at in sorted(at for it in outputs for at in it))

@@ -1,0 +1,300 @@
+"""Channels with a revoked commitment each, built and signed by Electrum's lnutil. Tested, not proved. Wants Debian's
+python3-electrum.
+
+The owner is who published the commitment; the peer is whose tower takes its outputs. All numbers are drawn from
+SHA-256 of the channel's number, so they are the same everywhere. Nothing here was made from the answers of a program
+of this repository.
+"""
+from __future__ import annotations
+
+import functools
+import hashlib
+from collections.abc import Iterator
+from dataclasses import dataclass
+from typing import Any
+
+from electrum import bitcoin, ecc, lnutil
+from electrum.lnutil import UpdateAddHtlc
+from electrum.transaction import PartialTransaction
+
+from real.tests.claims import Key, transaction_hex
+
+BASES = ("revocation", "payment", "htlc", "owner_delayed", "owner_htlc")
+# both sides of each length in which a number is pushed, and delays that nodes choose
+DELAYS = (0, 1, 6, 16, 17, 127, 128, 144, 255, 256, 720, 1_008, 2_016, 32_767, 32_768, 65_535)
+EXPIRIES = (1, 16, 17, 127, 128, 32_767, 32_768, 8_388_607, 8_388_608, 499_999_999)
+FEERATES_PER_KW, DUST_LIMITS_SAT = (253, 500, 1_000, 2_500, 7_500, 15_000), (354, 546, 573, 1_000)
+MOST_HTLCS, COMMITMENTS = 20, 2**48
+# the height of the chain, and that of the block which has what a tower sees: in turn none has it yet, the newest has
+# it, and older ones
+HEIGHT = 700_000
+CONFIRMED_HEIGHTS = (None, HEIGHT, HEIGHT - 1, HEIGHT - 143, HEIGHT - 1_008)
+
+
+class Draws:
+    """Numbers that a name determines."""
+
+    def __init__(self, name: str) -> None:
+        self.name, self.count = name, 0
+
+    def bytes(self) -> bytes:
+        self.count += 1
+        return hashlib.sha256(f"{self.name} {self.count}".encode()).digest()
+
+    def number_below(self, bound: int) -> int:
+        return int.from_bytes(self.bytes(), "big") % bound
+
+    def number_between(self, least: int, most: int) -> int:
+        return least + self.number_below(most - least + 1)
+
+    def choice(self, values: Any) -> Any:
+        return values[self.number_below(len(values))]
+
+
+@dataclass
+class Htlc:
+    """An HTLC as the commitment's owner sees it."""
+
+    is_received: bool
+    amount_msat: int
+    payment_hash: bytes
+    expiry_height: int
+
+    def of_electrum(self) -> UpdateAddHtlc:
+        return lnutil.UpdateAddHtlc(
+            amount_msat=self.amount_msat, payment_hash=self.payment_hash, cltv_expiry=self.expiry_height, timestamp=0
+        )
+
+
+@dataclass
+class Channel:
+    """A channel at its revoked commitment."""
+
+    number: int
+    is_legacy: bool
+    is_owner_opener: bool
+    delay_blocks: int
+    dust_limit_sat: int
+    feerate_per_kw: int
+    commitment_number: int
+    privates: dict[str, bytes]
+    secret: bytes
+    htlcs: list[Htlc]
+    owner_msat: int
+    peer_msat: int
+
+    def confirmed_height(self) -> int | None:
+        """The height of the block that has what is seen; None where none has it yet."""
+        return CONFIRMED_HEIGHTS[self.number % len(CONFIRMED_HEIGHTS)]
+
+    def capacity_sat(self) -> int:
+        return -(-(self.owner_msat + self.peer_msat + sum(it.amount_msat for it in self.htlcs)) // 1000)
+
+    def least_sat(self, is_received: bool) -> int:
+        """The least value of an HTLC that is not trimmed."""
+        threshold = lnutil.received_htlc_trim_threshold_sat if is_received else lnutil.offered_htlc_trim_threshold_sat
+        return threshold(dust_limit_sat=self.dust_limit_sat, feerate=self.feerate_per_kw)
+
+    def untrimmed_htlcs(self) -> list[Htlc]:
+        return [it for it in self.htlcs if it.amount_msat // 1000 >= self.least_sat(it.is_received)]
+
+
+@dataclass
+class Keys:
+    """The keys of a commitment, as Electrum derives them."""
+
+    revocation: bytes
+    delayed: bytes
+    owner_htlc: bytes
+    peer_htlc: bytes
+    payment: bytes
+
+
+@dataclass
+class Known:
+    """What Electrum makes of an output: its kind, its program, the script or key that its witness ends with, and the
+    key that takes it. With it the first block in which somebody else's transaction can take it, None where none can.
+    """
+
+    kind: str
+    program: bytes
+    last: bytes
+    key: bytes
+    first_height: int | None
+
+
+def drawn_htlc(draws: Draws, channel: Channel) -> Htlc:
+    """An HTLC. One in eight has the hash of an earlier one, as the parts of a payment have; half stand near the bound
+    below which an HTLC is trimmed.
+    """
+    earlier = draws.choice(channel.htlcs) if channel.htlcs and draws.number_below(8) == 0 else None
+    is_received = earlier.is_received if earlier else draws.number_below(2) == 0
+    payment_hash = earlier.payment_hash if earlier else hashlib.sha256(draws.bytes()).digest()
+    expiry_height = draws.choice(EXPIRIES) if draws.number_below(5) == 0 else draws.number_between(500_000, 900_000)
+    least = channel.least_sat(is_received)
+    near = draws.choice(
+        (draws.number_between(1, least - 1), least - 1, least, least + 1, least + draws.number_below(5_000))
+    )
+    amount_sat = near if draws.number_below(2) else least + draws.number_below(200_000)
+    return Htlc(is_received, 1000 * amount_sat + draws.number_below(1000), payment_hash, expiry_height)
+
+
+def drawn_channel(number: int) -> Channel:
+    """The channel of a number: of two one is older than static_remotekey, of two more one was opened by the owner, and
+    there are 0 to 20 HTLCs in turn.
+    """
+    draws = Draws(f"a channel that everybody knows: {number}")
+    # of two in three one side has so little that its output is trimmed, or that it does not pay the fee
+    balances_msat = [draws.number_between(100_000_000, 2_000_000_000) for _ in range(2)]
+    if draws.number_below(3) < 2:
+        balances_msat[draws.number_below(2)] = draws.number_below(1_000_000)
+    found = Channel(
+        number=number,
+        is_legacy=number % 2 == 1,
+        is_owner_opener=number // 2 % 2 == 1,
+        delay_blocks=draws.choice(DELAYS),
+        dust_limit_sat=draws.choice(DUST_LIMITS_SAT),
+        feerate_per_kw=draws.choice(FEERATES_PER_KW),
+        commitment_number=draws.number_below(COMMITMENTS),
+        privates={name: Key(f"{name} base of channel {number}").secret for name in BASES},
+        secret=draws.bytes(),
+        htlcs=[],
+        owner_msat=balances_msat[0],
+        peer_msat=balances_msat[1],
+    )
+    for _ in range(number % (MOST_HTLCS + 1)):
+        found.htlcs.append(drawn_htlc(draws, found))
+    return found
+
+
+def public_key(private: bytes) -> bytes:
+    return ecc.ECPrivkey(private).get_public_key_bytes(compressed=True)
+
+
+def keys_of(channel: Channel) -> Keys:
+    point, base = public_key(channel.secret), {name: public_key(it) for name, it in channel.privates.items()}
+    return Keys(
+        revocation=lnutil.derive_blinded_pubkey(base["revocation"], point),
+        delayed=lnutil.derive_pubkey(base["owner_delayed"], point),
+        owner_htlc=lnutil.derive_pubkey(base["owner_htlc"], point),
+        peer_htlc=lnutil.derive_pubkey(base["htlc"], point),
+        payment=lnutil.derive_pubkey(base["payment"], point) if channel.is_legacy else base["payment"],
+    )
+
+
+def program_at(address: str) -> bytes:
+    return bytes.fromhex(bitcoin.address_to_script(address))
+
+
+@functools.cache
+def script_program(script: bytes) -> bytes:
+    return program_at(bitcoin.redeem_script_to_address("p2wsh", script.hex()))
+
+
+def htlc_script(keys: Keys, htlc: Htlc) -> bytes:
+    """The witness script of an HTLC's output."""
+    return lnutil.make_htlc_output_witness_script(
+        htlc.is_received, keys.revocation, keys.peer_htlc, keys.owner_htlc, htlc.payment_hash, htlc.expiry_height
+    )
+
+
+def known_outputs(channel: Channel) -> Iterator[Known]:
+    """What Electrum makes of each output that the commitment may have."""
+    keys = keys_of(channel)
+    script = lnutil.make_commitment_output_to_local_witness_script(keys.revocation, channel.delay_blocks, keys.delayed)
+    # a sequence of n blocks is met n blocks above the output's (BIP 68)
+    in_block = HEIGHT + 1 if channel.confirmed_height() is None else channel.confirmed_height()
+    yield Known("to_local", script_program(script), script, keys.revocation, in_block + channel.delay_blocks)
+    yield Known(
+        "to_remote",
+        program_at(lnutil.make_commitment_output_to_remote_address(keys.payment)),
+        keys.payment,
+        keys.payment,
+        None,
+    )
+    for it in channel.htlcs:
+        script = htlc_script(keys, it)
+        # whoever knows the preimage may come in the next block; a lock time is below the height of its block (BIP 65)
+        first_height = HEIGHT + 1 if it.is_received else it.expiry_height + 1
+        yield Known(
+            "received" if it.is_received else "offered", script_program(script), script, keys.revocation, first_height
+        )
+
+
+def outputs_by_program(channel: Channel) -> dict[bytes, Known]:
+    """The same by programs. Several HTLCs may have one: then the first height of all of them counts."""
+    found = {}
+    for it in known_outputs(channel):
+        other = found.get(it.program)
+        if other is None or it.first_height < other.first_height:
+            found[it.program] = it
+    return found
+
+
+def payment_bases(channel: Channel) -> list[bytes]:
+    """The payment base points, first that of the side that opened the channel."""
+    found = [
+        Key(f"payment base of the owner of channel {channel.number}").public,
+        public_key(channel.privates["payment"]),
+    ]
+    return found if channel.is_owner_opener else found[::-1]
+
+
+def commitment_of(channel: Channel) -> PartialTransaction:
+    """The commitment's transaction, by lnutil, signed by both funding keys."""
+    keys, funding = keys_of(channel), [Key(f"funding {side} of channel {channel.number}") for side in range(2)]
+    opener, other = payment_bases(channel)
+    htlcs = channel.untrimmed_htlcs()
+    found = lnutil.make_commitment(
+        ctn=channel.commitment_number,
+        local_funding_pubkey=funding[0].public,
+        remote_funding_pubkey=funding[1].public,
+        remote_payment_pubkey=keys.payment,
+        funder_payment_basepoint=opener,
+        fundee_payment_basepoint=other,
+        revocation_pubkey=keys.revocation,
+        delayed_pubkey=keys.delayed,
+        to_self_delay=channel.delay_blocks,
+        funding_txid=hashlib.sha256(f"funding of channel {channel.number}".encode()).hexdigest(),
+        funding_pos=channel.number % 3,
+        funding_sat=channel.capacity_sat(),
+        local_amount=channel.owner_msat,
+        remote_amount=channel.peer_msat,
+        dust_limit_sat=channel.dust_limit_sat,
+        fees_per_participant=lnutil.calc_fees_for_commitment_tx(
+            num_htlcs=len(htlcs), feerate=channel.feerate_per_kw, is_local_initiator=channel.is_owner_opener
+        ),
+        htlcs=[lnutil.ScriptHtlc(htlc_script(keys, it), it.of_electrum()) for it in htlcs],
+    )
+    found.sign({it.public.hex(): (it.secret, True) for it in funding})
+    return found
+
+
+def htlc_private_key(channel: Channel, name: str) -> bytes:
+    """The private HTLC key of a side at this commitment."""
+    return lnutil.derive_privkey(int.from_bytes(channel.privates[name], "big"), public_key(channel.secret)).to_bytes(
+        32, "big"
+    )
+
+
+def second_stage_of(channel: Channel, commitment: PartialTransaction, htlc: Htlc) -> PartialTransaction:
+    """The HTLC transaction of an HTLC, by lnutil, signed by both sides. The preimage of a received one is any, since
+    nobody runs that script here.
+    """
+    keys = keys_of(channel)
+    script, value = htlc_script(keys, htlc), htlc.amount_msat // 1000
+    at = next(
+        at
+        for at, it in enumerate(commitment.outputs())
+        if (it.scriptpubkey, it.value) == (script_program(script), value)
+    )
+    _, output = lnutil.make_htlc_tx_output(
+        htlc.amount_msat, channel.feerate_per_kw, keys.revocation, keys.delayed, htlc.is_received, channel.delay_blocks
+    )
+    inputs = lnutil.make_htlc_tx_inputs(commitment.txid(), at, htlc.amount_msat, script.hex())
+    found = lnutil.make_htlc_tx(
+        cltv_expiry=0 if htlc.is_received else htlc.expiry_height, inputs=inputs, output=output
+    )
+    peers, owners = (bytes.fromhex(found.sign_txin(0, htlc_private_key(channel, it))) for it in ("htlc", "owner_htlc"))
+    transaction_hex(found, [[b"", peers, owners, bytes(32) if htlc.is_received else b"", script]])
+    return found

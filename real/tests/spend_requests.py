@@ -1,0 +1,521 @@
+"""Requests for the program `spend`, and the plans that it has to print, worked out anew from BIPs 68, 141 and 143.
+Tested, not proved.
+"""
+import json
+import os
+import subprocess
+from collections.abc import Iterator
+from typing import Any
+
+from real.lib.errors import NotRun
+from real.lib.transaction import Input, Output, Transaction, sha256, shown_id
+from real.tests import bolt3
+
+TOP = os.path.dirname(os.path.dirname(os.path.dirname(os.path.abspath(__file__))))
+SECONDS, SIGNATURE = 900, bytes(73)
+CASE = "commitment tx with seven outputs"
+MAX_MONEY = 2_100_000_000_000_000
+PAID = (
+    "destination: a program that is paid is P2PKH, P2SH, or a witness program of version 0 with 20 or 32 bytes, or of"
+    " versions 1 to 16 with 3 to 40"
+)
+# BOLT 3, "Dust Limits": the hash of a key and of a script, before version 0 and in it, and the longest program of a
+# later version. Taproot's is as long as the hash of a script
+DUST = (
+    ("76a914" + "11" * 20 + "88ac", 546),
+    ("a914" + "11" * 20 + "87", 540),
+    ("0014" + "11" * 20, 294),
+    ("0020" + "11" * 32, 330),
+    ("5120" + "11" * 32, 330),
+    ("6028" + "11" * 40, 354),
+)
+
+
+def line(value: dict[str, Any]) -> str:
+    return json.dumps(value, separators=(",", ":")) + "\n"
+
+
+def claim(told: dict[str, Any], index: int, path: int, slots: list[list[str]]) -> dict[str, Any]:
+    """A claim on an output of the case's commitment."""
+    case = next(it for it in told["cases"] if it["name"].startswith(CASE))
+    output = case["outputs"][index]
+    script = output.get("witness_script") or f"76a914{output['script_pubkey'][4:]}88ac"
+    place = {
+        "outpoint": f"{case['txid_hash_order']}:{index}",
+        "path": path,
+        "program": output["script_pubkey"],
+        "script": script,
+    }
+    return {**place, "shell": None, "slots": slots, "value": output["value_sat"]}
+
+
+def preimage_slot(told: dict[str, Any], htlc: int) -> list[str]:
+    return ["preimage", next(it["payment_hash"] for it in told["htlcs"] if it["id"] == htlc)]
+
+
+def request(
+    told: dict[str, Any], outputs: list[dict[str, Any]], htlcs: list[int], feerate_per_kw: int
+) -> dict[str, Any]:
+    """What is asked of `spend`: these outputs pay the peer, by the preimages of these HTLCs."""
+    to_remote = next(it["outputs"] for it in told["cases"] if it["name"].startswith(CASE))[5]["script_pubkey"]
+    preimages = [it["preimage"] for it in told["htlcs"] if it["id"] in htlcs]
+    return {"outputs": outputs, "preimages": preimages, "destination": to_remote, "feerate_per_kw": feerate_per_kw}
+
+
+def requests(
+    told: dict[str, Any]
+) -> Iterator[tuple[dict[str, int | list[dict[str, Any | None | int | str]] | list[str] | str], list[int], int]]:
+    """Of each request the sequence of each input and the lock time that BOLT 3 has for it: what the peer takes of a
+    commitment, by a preimage and after a timeout; an output to the hash of a key; one after its delay; and what both
+    keys sign.
+    """
+    keys = told["terms"]["keys"]
+    peer, own, empty = ["sig", keys["remote_htlcpubkey"]], ["sig", keys["local_htlcpubkey"]], ["exact", ""]
+    by_preimage, after_timeout = claim(told, 1, 2, [preimage_slot(told, 2), peer]), claim(told, 2, 2, [empty, peer])
+    payment = keys["remote_payment_basepoint"]
+    to_remote = claim(told, 5, 0, [["exact", payment], ["sig", payment]])
+    delayed = claim(told, 6, 1, [empty, ["sig", keys["local_delayedpubkey"]]])
+    by_both = claim(told, 0, 1, [preimage_slot(told, 0), own, peer, empty])
+    yield request(told, [by_preimage, after_timeout], [2], 253), [0, 0], 501
+    yield request(told, [to_remote], [], 1000), [0], 0
+    yield request(told, [delayed, to_remote, by_both], [0], 5000), [144, 0, 0], 0
+    yield request(told, [after_timeout, by_both], [0, 1, 2], 0), [0, 0], 501
+
+
+def witness_of(it: dict[str, Any], preimages: dict[str, str]) -> list[str | None]:
+    """The witness of a claim, with None in the place of each signature."""
+    found = []
+    for kind, given in reversed(it["slots"]):
+        found.append(None if kind == "sig" else preimages[given] if kind == "preimage" else given)
+    return found + ([] if it["program"].startswith("0014") else [it["script"]])
+
+
+def weight_of(transaction: Transaction, witnesses: list[list[str | None]]) -> int:
+    """The weight with signatures of 73 bytes."""
+    signed = Transaction(
+        transaction.version,
+        [Input(it.outpoint, b"", it.sequence) for it in transaction.inputs],
+        transaction.outputs,
+        transaction.lock_time,
+    )
+    for it, witness in zip(signed.inputs, witnesses):
+        it.witness = [SIGNATURE if item is None else bytes.fromhex(item) for item in witness]
+    return 3 * len(signed.stripped_bytes()) + len(signed.bytes())
+
+
+def wanted_plan(told: dict[str, Any], asked: dict[str, Any], sequences: list[int], lock_time: int) -> dict[str, Any]:
+    """The plan that `spend` has to print."""
+    preimages = {it["payment_hash"]: it["preimage"] for it in told["htlcs"]}
+    witnesses = [witness_of(it, preimages) for it in asked["outputs"]]
+    inputs = []
+    for it, sequence in zip(asked["outputs"], sequences):
+        txid, index = it["outpoint"].split(":")
+        inputs.append(Input(bytes.fromhex(txid) + int(index).to_bytes(4, "little"), b"", sequence))
+    transaction = Transaction(2, inputs, [Output(0, bytes.fromhex(asked["destination"]))], lock_time)
+    weight = weight_of(transaction, witnesses)
+    fee = -(-asked["feerate_per_kw"] * weight // 1000)
+    transaction.outputs[0].value = sum(it["value"] for it in asked["outputs"]) - fee
+    told_inputs = []
+    for number, (it, witness) in enumerate(zip(asked["outputs"], witnesses)):
+        digest = transaction.digest(number, bytes.fromhex(it["script"]), it["value"]).hex()
+        keys = [given for kind, given in it["slots"] if kind == "sig"]
+        places = [place for place, item in enumerate(witness) if item is None]
+        wanted = [{"item": place, "key": key, "digest": digest} for place, key in zip(reversed(places), keys)]
+        shown = {"explorer": transaction.inputs[number].shown_outpoint()}
+        told_inputs.append(
+            {
+                **shown,
+                **{name: it[name] for name in ("value", "program", "script", "path")},
+                "witness": witness,
+                "signatures": wanted,
+            }
+        )
+    return {
+        "transaction": transaction.stripped_bytes().hex(),
+        "explorer": transaction.txid(),
+        "fee": fee,
+        "weight": weight,
+        "inputs": told_inputs,
+    }
+
+
+def shown_request(asked: dict[str, Any]) -> dict[str, Any]:
+    """The same request, with each outpoint as explorers show it."""
+    outputs = []
+    for it in asked["outputs"]:
+        txid, index = it["outpoint"].split(":")
+        outputs.append(
+            {
+                "explorer": f"{shown_id(bytes.fromhex(txid))}:{index}",
+                **{name: value for name, value in it.items() if name != "outpoint"},
+            }
+        )
+    return {**asked, "outputs": outputs}
+
+
+def spend_answer(text: str) -> tuple[str, int]:
+    """What `spend` prints, and its status."""
+    return spend_answers(text)[:2]
+
+
+def spend_answers(text: str) -> tuple[str, int, list[Any]]:
+    """What `spend` prints, its status, and its notes."""
+    try:
+        ran = subprocess.run([os.path.join(TOP, "spend")], input=text.encode(), capture_output=True, timeout=SECONDS)
+    except (OSError, subprocess.TimeoutExpired):
+        raise NotRun("spend does not run here") from None
+    if ran.returncode not in (0, 1):
+        raise NotRun(f"spend answers with status {ran.returncode}")
+    return (
+        ran.stdout.decode(),
+        ran.returncode,
+        [it[len("note: ") :] for it in ran.stderr.decode().splitlines() if it.startswith("note: ")],
+    )
+
+
+def changed_request(asked: dict[str, Any], **members: Any) -> str:
+    return line({**asked, **members})
+
+
+def keyed_claim(told: dict[str, Any], prefix: str, value: int) -> dict[str, Any]:
+    """A claim on an output whose script has this before a key's check."""
+    key = told["terms"]["keys"]["remote_htlcpubkey"]
+    script = f"{prefix}21{key}ac"
+    output = {
+        "outpoint": "07" * 32 + ":0",
+        "path": 0,
+        "program": "0020" + sha256(bytes.fromhex(script)).hex(),
+        "script": script,
+    }
+    return {**output, "shell": None, "slots": [["sig", key]], "value": value}
+
+
+def bounds(told: dict[str, Any]) -> Iterator[tuple[dict[str, Any], list[int], int, list[dict[str, Any]], str, int]]:
+    """Requests at a bound, each with the refusal of the one beyond it: all the bitcoins there are, and for each kind
+    of destination the least that is no dust.
+    """
+    asked, _, _ = next(requests(told))
+    late = asked["outputs"][1]
+    whole = {**asked, "outputs": [{**late, "value": MAX_MONEY - 1}, keyed_claim(told, "", 1)], "feerate_per_kw": 0}
+    yield whole, [0, 0], 501, [whole["outputs"][0], keyed_claim(told, "", 2)], "ValueTooLarge", 8
+    for destination, dust in DUST:
+        paying = {**asked, "outputs": [late], "preimages": [], "destination": destination, "feerate_per_kw": 1000}
+        fee = wanted_plan(told, paying, [0], 501)["fee"]
+        yield {**paying, "outputs": [{**late, "value": fee + dust}]}, [0], 501, [
+            {**late, "value": fee + dust - 1}
+        ], "Dust", 10
+
+
+def givens(told: dict[str, Any]) -> Iterator[tuple[dict[str, Any], tuple[str, int] | None, list[str]]]:
+    """Destinations and feerates that are taken, and those that are refused, each with its notes: both sides of each
+    bound.
+    """
+    asked, _, _ = next(requests(told))
+    late = {**asked["outputs"][1], "value": 1_000_000_000}
+    paying = {**asked, "outputs": [late], "preimages": []}
+    for most, limit in (
+        ({}, 250_000),
+        ({"most_feerate_per_kw": 300}, 300),
+        ({"most_feerate_per_kw": 1_000_000}, 1_000_000),
+    ):
+        raised = (
+            f"the feerate is {limit // 250} satoshis for a virtual byte, and above the limit that holds without"
+            " most_feerate_per_kw"
+        )
+        yield {**paying, **most, "feerate_per_kw": limit}, None, [raised] * (limit > 250_000)
+        over = (
+            f"{limit + 1} satoshis for 1,000 units of weight are {(limit + 1) // 250} for a virtual byte;"
+            f" most_feerate_per_kw raises the limit of {limit}"
+        )
+        yield {**paying, **most, "feerate_per_kw": limit + 1}, ("TooHighFeerate", 14), [over]
+    for feerate, notes in (
+        (253, []),
+        (252, ["nodes pass on no transaction below a feerate_per_kw of 253 by default"]),
+    ):
+        yield {**paying, "feerate_per_kw": feerate}, None, notes
+    fee = wanted_plan(told, {**paying, "feerate_per_kw": 1000}, [0], 501)["fee"]
+    for value, notes in (
+        (10 * fee, []),
+        (10 * fee - 1, [f"the fee is above a tenth of the value: {fee} of {10 * fee - 1} satoshis"]),
+    ):
+        yield {**paying, "outputs": [{**late, "value": value}], "feerate_per_kw": 1000}, None, notes
+    key = told["terms"]["keys"]["remote_htlcpubkey"]
+    for destination in ("5103" + "11" * 3, "6003" + "11" * 3, "5220" + "11" * 32, *(it for it, _ in DUST)):
+        yield {**paying, "destination": destination}, None, destination_notes(destination)
+    cut = [it[:-2] for it, _ in DUST] + [
+        "0014" + "11" * 19,
+        "0015" + "11" * 21,
+        "001f" + "11" * 31,
+        "0021" + "11" * 33,
+    ]
+    other = [
+        "5102" + "11" * 2,
+        "6029" + "11" * 41,
+        "5020" + "11" * 32,
+        "6120" + "11" * 32,
+        "",
+        "6a0400010203",
+        key,
+        f"21{key}ac",
+        late["script"],
+    ]
+    for destination in (*cut, *other):
+        yield {**paying, "destination": destination}, ("BadDestination", 13), [PAID]
+    yield {**paying, "destination": "", "feerate_per_kw": 250_001}, ("BadDestination", 13), [PAID]
+    poor = {**paying, "destination": "", "outputs": [{**late, "value": 400}]}
+    # an output without a program has 9 bytes, and an input that spends it 148 (BIP 141)
+    yield poor, ("Dust", 10), [dust_note(wanted_plan(told, poor, [0], 501)["fee"], 400, 3 * (9 + 148))]
+
+
+def dust_note(fee: int, total: int, least: int) -> str:
+    return (
+        f"the fee is {fee} of {total} satoshis, and nodes relay no less than {least} to this destination:"
+        f" {total - fee} are left"
+    )
+
+
+def destination_notes(destination: str) -> list[str]:
+    """What is noted of a program that is paid: no rule stands for later versions, nor for taproot with another length
+    (BIP 341).
+    """
+    code, size = int(destination[:2], 16), int(destination[2:4], 16)
+    if not 0x51 <= code <= 0x60:
+        return []
+    if (code, size) == (0x51, 32):
+        return [
+            "destination: it is not tested whether its 32 bytes are a key of the curve: if they are none, nobody can"
+            " spend from it (BIP 341)"
+        ]
+    return [
+        "destination: anyone can spend from it today: no rule stands yet for witness version"
+        f" {code - 0x50} with {size} bytes"
+    ]
+
+
+def named(told: dict[str, Any]) -> Iterator[tuple[dict[str, Any], tuple[str, int], list[str]]]:
+    """Requests that are refused, with the note that names the output, the slot or the amounts."""
+    asked, _, _ = next(requests(told))
+    first, late = asked["outputs"]
+    wanted, key = first["slots"][0][1], told["terms"]["keys"]["remote_htlcpubkey"]
+    fee = wanted_plan(told, {**asked, "outputs": [late], "preimages": [], "feerate_per_kw": 1000}, [0], 501)["fee"]
+    shell = "02000000" + "01" + late["outpoint"][:64] + "02000000" + "00" + "00000000" + "00" + "00000000"
+    fixed = {**late, "shell": shell}
+    measured = keyed_claim(told, "82014288", 2000)
+    time = "no claim waits for a time: here lock times are heights, and ages are blocks"
+    kept = "preimages has none whose SHA-256 is"
+    rich, worth = {**late, "value": MAX_MONEY}, MAX_MONEY + first["value"]
+    poor = {**asked, "feerate_per_kw": 1000}
+    at_a_time, after_a_time = keyed_claim(told, "040065cd1db175", 2000), keyed_claim(told, "03010040b275", 2000)
+    more = "outputs[1].slots[0]: the path asks for more of this signature than that it is valid: size 0 66 yes"
+    yield {**asked, "outputs": [first, late, late]}, ("SameOutpoint", 5), ["outputs[2]: outputs[1] is the same one"]
+    yield {**asked, "outputs": [first, fixed]}, ("FixedTransaction", 4), ["outputs[1].shell: wanted: null"]
+    yield {**asked, "outputs": [first, measured]}, ("MeasuredSignature", 6), [more]
+    yield (
+        {**asked, "outputs": [late, first], "preimages": ["01" * 32]},
+        ("NoPreimage", 7),
+        [f"outputs[1].slots[0]: {kept} {wanted}"],
+    )
+    yield (
+        {**asked, "outputs": [first, rich]},
+        ("ValueTooLarge", 8),
+        [f"the outputs have {worth} satoshis together, and there are at most {MAX_MONEY}"],
+    )
+    yield (
+        {**poor, "outputs": [{**late, "value": fee}]},
+        ("NothingLeft", 9),
+        [f"the fee is {fee} satoshis, and the outputs have {fee} together"],
+    )
+    yield {**poor, "outputs": [{**late, "value": fee + 293}]}, ("Dust", 10), [dust_note(fee, fee + 293, 294)]
+    yield (
+        {**asked, "outputs": [first, at_a_time]},
+        ("BadClaim", 3),
+        [f"outputs[1].path: Unmet lock 500000000: {time}"],
+    )
+    yield (
+        {**asked, "outputs": [first, after_a_time]},
+        ("BadClaim", 3),
+        [f"outputs[1].path: Unmet age 4194305: {time}"],
+    )
+
+
+def conditions(told: dict[str, Any]) -> Iterator[tuple[dict[str, Any], list[str]]]:
+    """Plans by the first of two ways, and what is noted of the item that IF takes."""
+    asked, _, _ = next(requests(told))
+    key = told["terms"]["keys"]["remote_htlcpubkey"]
+    script = f"6321{key}ac675168"
+    output = {
+        "outpoint": "07" * 32 + ":0",
+        "path": 0,
+        "program": "0020" + sha256(bytes.fromhex(script)).hex(),
+        "script": script,
+        "shell": None,
+        "value": 1_000_000,
+    }
+    minimal = "outputs[0].slots[0]: nodes pass on no IF or NOTIF of anything but the empty item and 01 (minimal IF)"
+    for item, notes in (("01", []), ("02", [minimal]), ("0100", [minimal])):
+        yield {**asked, "outputs": [{**output, "slots": [["exact", item], ["sig", key]]}], "preimages": []}, notes
+
+
+def without(it: dict[str, Any], name: str) -> dict[str, Any]:
+    return {member: value for member, value in it.items() if member != name}
+
+
+def bad_shapes(told: dict[str, Any]) -> Iterator[tuple[str, str]]:
+    """What has another shape, and the note that names it: each member of a request and of an output."""
+    asked, _, _ = next(requests(told))
+    both = asked["outputs"]
+    address, feerate = (
+        "bc1qw508d6qejxtdg4y5r3zarvary0c5xw7kv8f3t4",
+        "satoshis for 1,000 units of weight, as an integer of at most 32 bits without quotes",
+    )
+    slot = (
+        '["sig",KEY], ["preimage",SHA256] or ["exact",BYTES], with a compressed key, a hash of 32 bytes or at most 520'
+        " bytes in hexadecimal"
+    )
+    yield "[]", "the request: wanted: an object"
+    for members, note in (
+        ({"fee": 1}, "fee: no member of this name belongs here"),
+        ({"a\nb": 1}, "?: no member of this name belongs here"),
+        (
+            {"destination": address},
+            (
+                "destination: wanted: bytes in hexadecimal, in quotes; of an address, those that bitcoin-cli"
+                " validateaddress ADDRESS has as scriptPubKey"
+            ),
+        ),
+        ({"destination": "0x0014"}, "destination: wanted: bytes in hexadecimal, in quotes; without 0x"),
+        ({"destination": "001"}, "destination: wanted: bytes in hexadecimal, in quotes; two digits for each byte"),
+        ({"destination": 5}, "destination: wanted: bytes in hexadecimal, in quotes"),
+        ({"destination": "51" * 10_001}, "destination: wanted: at most 10000 bytes"),
+        ({"feerate_per_kw": "253"}, f"feerate_per_kw: wanted: {feerate}"),
+        ({"feerate_per_kw": 1 << 32}, f"feerate_per_kw: wanted: {feerate}"),
+        ({"most_feerate_per_kw": None}, f"most_feerate_per_kw: wanted: {feerate}"),
+        ({"preimages": ["02" * 32, "02" * 31]}, "preimages[1]: wanted: 32 bytes in hexadecimal"),
+        ({"preimages": {}}, "preimages: wanted: an array"),
+        ({"outputs": []}, "outputs: wanted: 1 to 4000 of them"),
+        ({"outputs": [both[0], 5]}, "outputs[1]: wanted: an object"),
+    ):
+        yield changed_request(asked, **members), note
+    yield line(without(asked, "feerate_per_kw")), "feerate_per_kw: it is missing"
+    yield line(asked).replace('"feerate_per_kw":253', '"feerate_per_kw":500,"feerate_per_kw":253'), "feerate_per_kw: a member of this name stands twice in one object"
+    yield line(asked).replace('"path":2', '"path":1,"path":2', 1), "outputs[0].path: a member of this name stands twice in one object"
+    yield line({**asked, "outputs": [both[0], both[1]]}).replace('"path":2', '"path":1,"path":2').replace('"path":1,"path":2', '"path":2', 1), "outputs[1].path: a member of this name stands twice in one object"
+    for members, note in (
+        ({"value": 0.001}, "value: wanted: satoshis, as an integer without point, sign and quotes"),
+        ({"value": "100000"}, "value: wanted: satoshis, as an integer without point, sign and quotes"),
+        ({"value": -100_000}, "value: wanted: satoshis, as an integer without point, sign and quotes"),
+        ({"path": "1"}, "path: wanted: the number of a path from 0, without quotes"),
+        (
+            {"program": address},
+            (
+                "program: wanted: bytes in hexadecimal, in quotes; of an address, those that bitcoin-cli"
+                " validateaddress ADDRESS has as scriptPubKey"
+            ),
+        ),
+        ({"script": "0g"}, "script: wanted: bytes in hexadecimal, in quotes"),
+        ({"shell": ""}, "shell: wanted: null"),
+        (
+            {"outpoint": "07" * 32},
+            'outpoint: wanted: "TXID:INDEX", with 64 hexadecimal digits and an index below 2^32',
+        ),
+        ({"slots": [both[1]["slots"][0], ["sig", "04" + "11" * 64]]}, f"slots[1]: wanted: {slot}"),
+        ({"slots": [["preimage", "11" * 20]]}, f"slots[0]: wanted: {slot}"),
+        ({"txid": "07" * 32}, "txid: no member of this name belongs here"),
+    ):
+        yield changed_request(asked, outputs=[both[0], {**both[1], **members}]), f"outputs[1].{note}"
+    either = (
+        "outputs[1]: wanted: either outpoint, with the id in the hash's own byte order, or explorer, with the id as"
+        " explorers show it"
+    )
+    for it in (without(both[1], "outpoint"), {**both[1], "explorer": both[1]["outpoint"]}):
+        yield changed_request(asked, outputs=[both[0], it]), either
+
+
+def bad_claims(told: dict[str, Any]) -> Iterator[tuple[str, str]]:
+    """Claims that are not accepted, each in the second output, and the note that says why: the fact is the first that
+    `enforce paths` lists of the path and that the slots do not show.
+    """
+    asked, _, _ = next(requests(told))
+    first, good = asked["outputs"]
+    keys = told["terms"]["keys"]
+    empty, peer = good["slots"]
+    shows = (
+        "they do not show this fact; slot 0 is the top of the stack, so the last item of the witness before the script"
+    )
+    for members, note in (
+        ({"script": "50"}, "script: BadOpcode 0"),
+        ({"script": "5102aa"}, "script: Truncated 1"),
+        ({"script": "63"}, "script: OpenBranch"),
+        ({"path": 3}, "path: NoSuchPath: the number of the script's paths is 3, numbered from 0"),
+        ({"slots": [peer]}, "slots: WrongArity: the number of the path's slots is 2, and 1 stand here"),
+        (
+            {"slots": [empty, ["sig", keys["local_htlcpubkey"]]]},
+            f"slots: Unmet token 1 {keys['remote_htlcpubkey']} yes: {shows}",
+        ),
+        (
+            {"program": first["program"]},
+            "program: WrongProgram: it is not P2WSH of the script, nor P2WPKH with the script of BIP 143",
+        ),
+    ):
+        yield changed_request(asked, outputs=[first, {**good, **members}]), f"outputs[1].{note}"
+
+
+def faults(told: dict[str, Any]) -> Iterator[tuple[str, str, int, list[str]]]:
+    """Requests with a part at fault, each with its refusal and the note that names the part."""
+    for text, note in bad_shapes(told):
+        yield text, "BadShape", 2, [note]
+    for text, note in bad_claims(told):
+        yield text, "BadClaim", 3, [note]
+
+
+def refusals(told: dict[str, Any]) -> Iterator[tuple[str, str, int]]:
+    """Requests that `spend` refuses, and how: each refusal, and before the next one where both hold."""
+    asked, _, _ = next(requests(told))
+    both = asked["outputs"]
+    fee = wanted_plan(told, {**asked, "outputs": both[1:], "preimages": [], "feerate_per_kw": 1000}, [0], 501)["fee"]
+    fixed = {
+        **both[0],
+        "shell": "02000000" + "01" + both[0]["outpoint"][:64] + "01000000" + "00" + "00000000" + "00" + "00000000",
+    }
+    # SIZE, 66, EQUALVERIFY: a token has 66 bytes, and no signature in DER has to
+    measured = keyed_claim(told, "82014288", 2000)
+    # CHECKLOCKTIMEVERIFY for height 1, and for the first second of 1985-11-05, which is 500,000,000;
+    # CHECKSEQUENCEVERIFY for 512 seconds
+    at_height, at_second, after_seconds = (
+        keyed_claim(told, prefix, 2000) for prefix in ("51b175", "040065cd1db175", "03010040b275")
+    )
+    bad = {**both[0], "path": 3}
+    # it has the shape of a claim, and no path has the number 1
+    least = {
+        "outpoint": "07" * 32 + ":0",
+        "path": 1,
+        "program": "",
+        "script": "51",
+        "shell": None,
+        "slots": [],
+        "value": 0,
+    }
+    yield "", "NotJson", 1
+    yield "{", "NotJson", 1
+    yield "[]", "BadShape", 2
+    yield changed_request(asked, more=1), "BadShape", 2
+    yield changed_request(asked, feerate_per_kw=-1), "BadShape", 2
+    yield changed_request(asked, outputs=[]), "BadShape", 2
+    yield changed_request(asked, outputs=[least] * 4001), "BadShape", 2
+    yield changed_request(asked, outputs=[bad], destination="51" * 10_001), "BadShape", 2
+    yield changed_request(asked, outputs=[least] * 4000), "BadClaim", 3
+    yield changed_request(asked, outputs=[bad], destination="51" * 10_000), "BadClaim", 3
+    yield changed_request(asked, outputs=[{**both[0], "script": "51"}]), "BadClaim", 3
+    yield changed_request(asked, outputs=[fixed, bad]), "BadClaim", 3
+    yield changed_request(asked, outputs=[at_height, at_second]), "BadClaim", 3
+    yield changed_request(asked, outputs=[after_seconds]), "BadClaim", 3
+    yield changed_request(asked, outputs=[fixed]), "FixedTransaction", 4
+    yield changed_request(asked, outputs=[both[0], fixed]), "FixedTransaction", 4
+    yield changed_request(asked, outputs=[both[0], both[0]]), "SameOutpoint", 5
+    yield changed_request(asked, outputs=[measured, measured]), "SameOutpoint", 5
+    yield changed_request(asked, outputs=[both[0], measured], preimages=[]), "MeasuredSignature", 6
+    yield changed_request(asked, outputs=[both[0], {**both[1], "value": MAX_MONEY}], preimages=[]), "NoPreimage", 7
+    yield changed_request(asked, outputs=[both[0], {**both[1], "value": MAX_MONEY}]), "ValueTooLarge", 8
+    yield changed_request(asked, outputs=[{**both[1], "value": fee}], feerate_per_kw=1000), "NothingLeft", 9
+    yield changed_request(asked, outputs=[{**both[1], "value": fee + 1}], feerate_per_kw=1000), "Dust", 10
+    yield " " * 4_194_305, "TooLong", 12

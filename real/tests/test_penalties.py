@@ -1,0 +1,925 @@
+"""Tests of penalties with real keys: BOLT 3's Appendix E, and the commitments and HTLC transactions of Appendix C as
+revoked ones. Tested, not proved.
+"""
+import json
+from collections.abc import Callable
+from typing import Any
+
+from real.lib import commitment, commitment_number, derivation, penalties, penalty_notes
+from real.lib.commitment import Keys, Known
+from real.lib.curve import AnyCurve
+from real.lib.errors import Refused
+from real.lib.penalties import State
+from real.lib.trace_program import Trace
+from real.lib.transaction import Input, Output, hash160, read_transaction, sha256
+from real.tests import bolt3
+from real.tests.checks import CurveCase
+
+# BOLT 3, Appendix E
+BASE_SECRET = bytes(range(32))
+SECRET = bytes(reversed(range(32)))
+BASE, POINT = (
+    "036d6caac248af96f6afa7f904f550253a0f3ef3f5aa2fe6838a95b216691468e2",
+    "025f7117a78150fe2ef97db7cfc83bd57b2e2c0d0dd25eaf467a4a1c2a45ce1486",
+)
+DERIVED, DERIVED_PRIVATE = (
+    "0235f2dbfaa89b57ec7b055afe29849ef7ddfeb1cefdb9ebdc43f5494984db29e5",
+    "cbced912d3b21bf196a766651e436aff192362621ce317704ea2f75d87e7be0f",
+)
+REVOCATION, REVOCATION_PRIVATE = (
+    "02916e326636d19c33f13e8c0c3a03dd157f332f3e99c317c141dd865eb01f8ff0",
+    "d09ffff62ddb2297ab000cc85bcb4283fdeb6aa052affbc9dddcf33b61078110",
+)
+# the secrets of Appendix C's base points, each a byte that is repeated
+PRIVATES = {"revocation": 0x22, "payment": 0x44, "htlc": 0x44, "owner_delayed": 0x33, "owner_htlc": 0x11}
+DESTINATION = "0014" + "c7" * 20
+HEIGHT = 501
+# BOLT 3, "Dust Limits": the least value of an output by its kind; and what Bitcoin Core's policy has of taproot and of
+# the shortest witness program
+DUST_SAT = {
+    DESTINATION: 294,
+    "76a914" + "c7" * 20 + "88ac": 546,
+    "a914" + "c7" * 20 + "87": 540,
+    "0020" + "c7" * 32: 330,
+    "5120" + "c7" * 32: 330,
+    "5103c7c7c7": 243,
+    "6028" + "c7" * 40: 354,
+}
+# no hash of a key or a script, no witness program of BIP 141
+NO_ADDRESSES = (
+    *(
+        "",
+        "6a",
+        "51",
+        "00",
+        "4f02c7c7",
+        "6102c7c7",
+        "5101c7",
+        "5103c7c7",
+        "5102c7c7c7",
+        "51024e73",
+        "6002c7c7",
+        "21" + "c7" * 33 + "ac",
+    ),
+    *(
+        "0014" + "c7" * 19,
+        "0014" + "c7" * 21,
+        "0013" + "c7" * 19,
+        "0020" + "c7" * 31,
+        "0021" + "c7" * 33,
+        "6029" + "c7" * 41,
+    ),
+    *(
+        "76a914" + "c7" * 19 + "88ac",
+        "76a914" + "c7" * 20 + "88ad",
+        "a914" + "c7" * 20 + "88",
+        "a914" + "c7" * 21 + "87",
+    ),
+)
+# Appendix C's commitment with two offered HTLCs of one preimage: its outputs
+SHARED_HTLCS, SHARED_PROGRAM = (5, 6), "0020305c12e1a0bc21e283c131cea1c66d68857d28b7b2fce0a6fbc40c164852121b"
+SHARED = (
+    (2_000, "0020748eba944fedc8827f6b06bc44678f93c0f9e6078b35c6331ed31e75f8ce0c2d"),
+    (5_000, SHARED_PROGRAM),
+    (5_000, SHARED_PROGRAM),
+    (3_000_000, "0014cc1b07838e387deacd0e5232e1e8b49f4c29e484"),
+    (6_987_686, "00204adb4e2f00643db396dd120d4e7dc17625f5f2c11a40d857accc862d6b7dd80e"),
+)
+# what inputs weigh that take an offered HTLC and to_local, with signatures of 72 bytes: 41 bytes of four units, and a
+# witness (scripts of 133 and 77 bytes)
+OFFERED_WEIGHT, TO_LOCAL_WEIGHT = 4 * 41 + 1 + 73 + 34 + 134, 4 * 41 + 1 + 73 + 2 + 78
+# the names that the appendix gives the keys of the anchors
+FUNDING_KEYS = ("local_funding_pubkey", "remote_funding_pubkey")
+# the same of all that a transaction to the hash of a key has beside its inputs
+REST_WEIGHT = 4 * (8 + 1 + 1 + 8 + 23) + 2
+
+
+def private_key(name: str) -> bytes:
+    return bytes([PRIVATES[name]]) * 32
+
+
+def htlc(told: dict[str, Any], number: int) -> dict[str, int | str]:
+    found = next(it for it in told["htlcs"] if it["id"] == number)
+    return {
+        "direction": "offered" if found["offered_by_local"] else "received",
+        "hash": found["payment_hash"],
+        "expiry_height": found["cltv_expiry"],
+    }
+
+
+def state(told: dict[str, Any], case: dict[str, Any], curve: AnyCurve, **changes: Any) -> dict[str, Any]:
+    """A case of Appendix C as a revoked state, with members changed."""
+    bases = {name: curve.public_key(private_key(name)).hex() for name in PRIVATES}
+    found = {
+        "transaction": case["unsigned_tx_no_witness"],
+        "secret": told["terms"]["per_commitment_secret"],
+        "delay_blocks": told["terms"]["local_delay"],
+        "htlcs": [htlc(told, it) for it in case["htlcs_given"]],
+        "bases": {**bases, **changes.pop("bases", {})},
+        "destination": DESTINATION,
+        "feerate_per_kw": 253,
+        "height": HEIGHT,
+        "confirmed_height": None,
+    }
+    return {**found, **changes}
+
+
+def dearest(values: Any, places: list[int] | None = None) -> list[int]:
+    """Places of outputs in the order in which they are told: the greatest value first."""
+    return sorted(range(len(values)) if places is None else places, key=lambda it: -values[it])
+
+
+def values_of(case: dict[str, Any]) -> list[int]:
+    return [it["value_sat"] for it in case["outputs"]]
+
+
+def penalties_of(
+    given: dict[str, Any], curve: AnyCurve, trace: Trace, privates: list[bytes] | None = None, **options: bool
+) -> list[dict[str, Any]] | None:
+    keys = [private_key("revocation"), private_key("payment")] if privates is None else privates
+    return list(penalties.penalties(penalties.read_state(json.dumps(given)), keys, curve, trace, **options))
+
+
+def deadline_of(output: dict[str, int | str]) -> int | None:
+    """The blocks after HEIGHT in which nobody else can take an output of a case that the next block has."""
+    return {
+        "to_local": 144,
+        "to_remote": None,
+        "received": 0,
+        "offered": max(0, output.get("cltv_expiry", 0) - HEIGHT),
+    }[output["kind"]]
+
+
+def with_outputs(case: dict[str, Any], outputs: Any) -> str:
+    """A case's transaction with other outputs."""
+    found = read_transaction(bytes.fromhex(case["unsigned_tx_no_witness"]), marked=False)
+    found.outputs = [Output(value, bytes.fromhex(program)) for value, program in outputs]
+    return found.bytes().hex()
+
+
+def state_and_table(given: dict[str, Any], curve: AnyCurve) -> tuple[State, dict[bytes, Known]]:
+    """A state, and what is known of its outputs."""
+    found = penalties.read_state(json.dumps(given))
+    keys = commitment.keys_of(curve, found.bases, curve.public_key(found.secret), False)
+    return found, commitment.table_of(keys, found.delay_blocks, found.htlcs)
+
+
+def with_anchors(told: dict[str, Any], case: dict[str, Any]) -> list[tuple[str, int, str, int | None]]:
+    """The outputs of a case's commitment as BOLT 3 has them with `option_anchors`, by the appendix's own scripts: `1
+    CHECKSEQUENCEVERIFY DROP` stands before the last ENDIF of an HTLC's, and to_remote is `KEY CHECKSIGVERIFY 1
+    CHECKSEQUENCEVERIFY`. The two anchors come first: `KEY CHECKSIG IFDUP NOTIF 16 CHECKSEQUENCEVERIFY ENDIF`, each
+    with 330 satoshis.
+    """
+    keys = told["terms"]["keys"]
+    found = [("anchor", 330, f"21{keys[it]}ac736460b268", None) for it in FUNDING_KEYS]
+    for it in case["outputs"]:
+        script = it.get("witness_script")
+        if it["kind"] == "to_remote":
+            script = f"21{keys['remote_payment_basepoint']}ad51b2"
+        elif it["kind"] != "to_local":
+            script = f"{script[:-2]}51b275{script[-2:]}"
+        found.append((it["kind"], it["value_sat"], script, it.get("cltv_expiry")))
+    return found
+
+
+def anchored_state(
+    told: dict[str, Any],
+    case: dict[str, Any],
+    curve: AnyCurve,
+    outputs: list[tuple[str, int, str, int | None]],
+    **changes: int | str,
+) -> dict[str, Any]:
+    """The state of a case's commitment with these outputs, in a channel with anchors."""
+    transaction = with_outputs(
+        case, [(value, "0020" + sha256(bytes.fromhex(script)).hex()) for _, value, script, _ in outputs]
+    )
+    funding_keys = [told["terms"]["keys"][it] for it in FUNDING_KEYS]
+    return state(
+        told,
+        case,
+        curve,
+        **{"transaction": transaction, "channel_type": "anchors", "funding_keys": funding_keys, **changes},
+    )
+
+
+def places_of(outputs: list[tuple[str, int, str, int | None]], *kinds: str) -> list[int]:
+    return [at for at, it in enumerate(outputs) if it[0] in kinds]
+
+
+def keys_at(found: State, curve: AnyCurve) -> Keys:
+    return commitment.keys_of(curve, found.bases, curve.public_key(found.secret), False)
+
+
+def anchored_state_and_table(given: dict[str, Any], curve: AnyCurve) -> tuple[State, dict[bytes, Known]]:
+    found = penalties.read_state(json.dumps(given))
+    return found, commitment.table_of(keys_at(found, curve), found.delay_blocks, found.htlcs, found.channel_type)
+
+
+def output_names(given: dict[str, Any], curve: AnyCurve, others: list[int]) -> dict[str, dict[str, list[int]]]:
+    found, table = anchored_state_and_table(given, curve)
+    return penalties.names_of(found, keys_at(found, curve), table, others)
+
+
+def notes_of(given: dict[str, Any], curve: AnyCurve, trace: Trace) -> list[str]:
+    read = penalties.read_state(json.dumps(given))
+    return list(penalty_notes.notes_of(read, penalties_of(given, curve, trace)))
+
+
+class PenaltiesTest(CurveCase):
+    """Each case of Appendix C as a revoked commitment; and the one with the most outputs, where one is enough."""
+
+    told = bolt3.read()
+    case = told["cases"][1]
+
+    def test_cases(self) -> None:
+        """What is tried of each case."""
+        for case in self.told["cases"]:
+            self.check_case(case)
+            self.check_one(case)
+            self.check_second_stages(case)
+            self.check_changes(case)
+            self.check_legacy_key(case)
+
+    def test_derivation(self) -> None:
+        base, point = self.curve.public_key(BASE_SECRET), self.curve.public_key(SECRET)
+        found = [
+            base,
+            point,
+            derivation.derived_key(self.curve, base, point),
+            derivation.derived_private_key(BASE_SECRET, base, point),
+            derivation.revocation(self.curve, base, point),
+            derivation.revocation_private_key(BASE_SECRET, base, SECRET, point),
+        ]
+        for name, it in zip((BASE, POINT, DERIVED, DERIVED_PRIVATE, REVOCATION, REVOCATION_PRIVATE), found):
+            self.check(it.hex() == name, f"a key of BOLT 3's Appendix E: {name}")
+
+    def check_case(self, case: dict[str, Any]) -> None:
+        """Each output of a case is taken on its own, the dearest first, with the value and the script of the appendix,
+        its fee and its deadline.
+        """
+        found, order = penalties_of(state(self.told, case, self.curve), self.curve, self.trace), dearest(
+            values_of(case)
+        )
+        kinds, wanted = [it["kinds"] for it in found[:-1]], [[case["outputs"][it]["kind"]] for it in order]
+        self.check(kinds == wanted, f"{case['name']}: {kinds}")
+        self.check_last_line(case["name"], found, range(len(wanted)))
+        for index, it in zip(order, found):
+            output = case["outputs"][index]
+            where = f"{case['name']}: output {index}"
+            self.check(it["outputs"] == [index] and it["value"] == output["value_sat"], where)
+            made = read_transaction(bytes.fromhex(it["transaction"]))
+            weight = 3 * len(made.stripped_bytes()) + len(made.bytes())
+            self.check(253 * weight <= 1000 * it["fee"] < 253 * (weight + 3) + 1000, f"{where}: its fee")
+            self.check(
+                made.inputs[0].shown_outpoint() == f"{bytes.fromhex(case['txid_hash_order'])[::-1].hex()}:{index}",
+                f"{where}: its outpoint",
+            )
+            self.check(
+                made.outputs[0].value == output["value_sat"] - it["fee"]
+                and made.outputs[0].program.hex() == DESTINATION,
+                f"{where}: what is paid",
+            )
+            script = output.get("witness_script") or self.told["terms"]["keys"]["remote_payment_basepoint"]
+            self.check(made.inputs[0].witness[-1].hex() == script, f"{where}: its script")
+            self.check(it["deadline_blocks"] == deadline_of(output), f"{where}: its deadline")
+
+    def check_last_line(
+        self,
+        name: str,
+        found: list[dict[str, Any]],
+        taken: Any = (),
+        too_little: Any = (),
+        no_key: Any = (),
+        others: Any = (),
+        named: dict[str, list[int]] | None = None,
+    ) -> None:
+        """What the last line says of all outputs, and that each of the lines before it has an answer that fits."""
+        wanted = {
+            "taken": [*taken],
+            "too_little": [*too_little],
+            "no_key": [*no_key],
+            "others": [*others],
+            **({} if named is None else {"named": named}),
+        }
+        last = {it: value for it, value in found[-1].items() if it != "transaction"}
+        self.check(last == wanted, f"{name}: {last}, and not {wanted}")
+        answers = {"taken": "taken", "too_little": "too little to be passed on", "no_key": "no key"}
+        by_line = {
+            it: sorted(at for line in found[:-1] if line["answer"] == answer for at in line["outputs"])
+            for it, answer in answers.items()
+        }
+        self.check(by_line == {it: wanted[it] for it in answers}, f"{name}: {by_line}, and not {wanted}")
+        sent = {it["answer"] for it in found[:-1] if "transaction" in it}
+        self.check(sent <= {"taken"}, f"{name}: transactions of {sent}")
+
+    def check_one(self, case: dict[str, Any]) -> None:
+        """What nobody else can take yet is taken together."""
+        found = penalties_of(state(self.told, case, self.curve), self.curve, self.trace, is_one=True)
+        free = [
+            at
+            for at, it in enumerate(case["outputs"])
+            if it["kind"] in ("to_local", "to_remote") or (it["kind"] == "offered" and it["cltv_expiry"] > HEIGHT)
+        ]
+        self.check(found[0]["outputs"] == free, f"{case['name']}: together {found[0]['outputs']}")
+        rest = [it["outputs"] for it in found[1:-1]]
+        self.check(
+            rest == [[at] for at in dearest(values_of(case)) if at not in free], f"{case['name']}: one by one {rest}"
+        )
+
+    def test_shared_program(self) -> None:
+        """Two offered HTLCs of one hash have one program: the deadline of both outputs is by the least expiry, in
+        whatever order they are told.
+        """
+        transaction = with_outputs(self.case, SHARED)
+        for numbers in (SHARED_HTLCS, SHARED_HTLCS[::-1]):
+            for height, left in ((503, 2), (504, 1), (505, 0), (506, 0)):
+                where = f"HTLCs {numbers} at {height}"
+                given = state(
+                    self.told,
+                    self.case,
+                    self.curve,
+                    transaction=transaction,
+                    htlcs=[htlc(self.told, it) for it in (1, *numbers)],
+                    height=height,
+                    confirmed_height=503,
+                )
+                found = penalties_of(given, self.curve, self.trace, is_one=True)
+                joined = [1, 2, 3, 4] if left else [3, 4]
+                self.check_last_line(where, found, range(5))
+                self.check(
+                    [it["outputs"] for it in found[:-1]] == [joined, *([at] for at in (1, 2, 0) if at not in joined)],
+                    f"{where}: together {found[0]['outputs']}",
+                )
+                alone = {
+                    it["outputs"][0]: it["deadline_blocks"] for it in penalties_of(given, self.curve, self.trace)[:-1]
+                }
+                self.check(
+                    alone == {0: 0, 1: left, 2: left, 3: None, 4: 503 + 143 - height}, f"{where}: deadlines {alone}"
+                )
+
+    def test_expiries(self) -> None:
+        """An output whose HTLC has expired is in no transaction of several, where another HTLC of its hash expires
+        much later.
+        """
+        at = next(at for at, it in enumerate(self.case["outputs"]) if it.get("htlc") == 2)
+        for expiries in ((2000, 502), (502, 2000)):
+            htlcs = [{**htlc(self.told, 2), "expiry_height": it} for it in expiries]
+            found = penalties_of(
+                state(self.told, self.case, self.curve, htlcs=htlcs, height=505, confirmed_height=504),
+                self.curve,
+                self.trace,
+                is_one=True,
+            )
+            self.check(
+                at not in found[0]["outputs"],
+                f"an HTLC of 502 and 2000, as {expiries}: together {found[0]['outputs']}",
+            )
+            self.check(
+                [it["deadline_blocks"] for it in found[1:-1]] == [0] and found[1]["outputs"] == [at],
+                f"an HTLC of 502 and 2000, as {expiries}: {found[1:]}",
+            )
+
+    def test_joined_outputs(self) -> None:
+        """A transaction of several leaves out an output that has less than what its input costs there, on both sides
+        of that.
+        """
+        feerate = 5_000
+        programs = {
+            it["htlc"] if it["kind"] == "offered" else it["kind"]: it["script_pubkey"]
+            for it in self.case["outputs"]
+            if it["kind"] != "received"
+        }
+        least = OFFERED_WEIGHT * feerate // 1000
+        both = (REST_WEIGHT + OFFERED_WEIGHT + TO_LOCAL_WEIGHT) * feerate // 1000 + DUST_SAT[DESTINATION]
+        alone = (REST_WEIGHT + TO_LOCAL_WEIGHT) * feerate // 1000 + DUST_SAT[DESTINATION]
+        # the values of outputs, which HTLC each is of, what is together, and what has too little
+        rows = [
+            ((1_000, 1_000, 1_000, 5_000), (2, 3, 2, "to_local"), [3], [0, 1, 2]),
+            ((least, least - 1, 5_000), (2, 3, "to_local"), [0, 2], [1]),
+            ((least, both - least), (2, "to_local"), [0, 1], []),
+            ((least, both - least - 1), (2, "to_local"), None, [0, 1]),
+            ((least - 1, alone), (2, "to_local"), [1], [0]),
+            ((least - 1, alone - 1), (2, "to_local"), None, [0, 1]),
+        ]
+        for values, kinds, together, little in rows:
+            transaction = with_outputs(self.case, [(value, programs[it]) for value, it in zip(values, kinds)])
+            found = penalties_of(
+                state(self.told, self.case, self.curve, transaction=transaction, feerate_per_kw=feerate),
+                self.curve,
+                self.trace,
+                is_one=True,
+            )
+            self.check_last_line(f"outputs of {values}", found, together or [], little)
+            wanted = [*([together] if together else []), *([at] for at in dearest(values, little))]
+            self.check(
+                [it["outputs"] for it in found[:-1]] == wanted,
+                f"outputs of {values}: together {[it['outputs'] for it in found[:-1]]}",
+            )
+
+    def test_missing_key(self) -> None:
+        """With one private key what it takes is taken, and each other output is told with the name of the key that is
+        missing.
+        """
+        outputs = self.case["outputs"]
+        remote = [at for at, it in enumerate(outputs) if it["kind"] == "to_remote"]
+        rest = [at for at in range(len(outputs)) if at not in remote]
+        for name, missing, mine, lost in (
+            ("revocation", "payment", rest, remote),
+            ("payment", "revocation", remote, rest),
+        ):
+            for is_one in (False, True):
+                found = penalties_of(
+                    state(self.told, self.case, self.curve), self.curve, self.trace, [private_key(name)], is_one=is_one
+                )
+                self.check_last_line(f"the key of {name} alone", found, mine, no_key=lost)
+                lines = [it for it in found[:-1] if it["answer"] == "no key"]
+                order = dearest(values_of(self.case), lost)
+                self.check(
+                    [it["outputs"] for it in lines] == [[at] for at in order]
+                    and {it["key"] for it in lines} == {missing},
+                    f"the key of {name} alone: {lines}",
+                )
+                self.check(
+                    [it["deadline_blocks"] for it in lines] == [deadline_of(outputs[at]) for at in order],
+                    f"the key of {name} alone: deadlines {lines}",
+                )
+                self.check(penalties.is_left(found[-1]), f"the key of {name} alone: nothing is left")
+
+    def test_dust(self) -> None:
+        """The least value that is paid, by the kind of destination; and what is no destination."""
+        found, table = state_and_table(state(self.told, self.case, self.curve), self.curve)
+        takes, _ = penalties.split_outputs(found, table)
+        found.feerate_per_kw = 0
+        for destination, least in DUST_SAT.items():
+            found.destination = penalties.read_state(
+                json.dumps(state(self.told, self.case, self.curve, destination=destination))
+            ).destination
+            paid = []
+            for value in (least - 1, least):
+                takes[0].output.value = value
+                made, _ = penalties.unsigned_transaction(found, takes[:1])
+                paid.append(made is not None and made.outputs[0].value == value)
+            self.check(paid == [False, True], f"the least value of {destination}: {paid}")
+        for destination in NO_ADDRESSES:
+            self.refuses(
+                "BadShape state.destination",
+                lambda it=destination: penalties.read_state(
+                    json.dumps(state(self.told, self.case, self.curve, destination=it))
+                ),
+            )
+
+    def test_numbers(self) -> None:
+        """The number of each case's commitment; and what is none."""
+        terms = self.told["terms"]
+        bases = {
+            f"{side}_payment": terms["keys"][f"{name}_payment_basepoint"]
+            for side, name in (("opener", "local"), ("other", "remote"))
+        }
+        mask = commitment_number.mask_of(*map(bytes.fromhex, bases.values()))
+        self.check(mask == int(terms["mask"], 16), f"what a commitment number is masked with: {mask:x}")
+        for case in self.told["cases"]:
+            raw = case["unsigned_tx_no_witness"]
+            found = commitment_number.commitment_numbers(json.dumps({"transaction": raw, **bases}))
+            wanted = {
+                "transaction": bytes.fromhex(case["txid_hash_order"])[::-1].hex(),
+                "commitment_number": terms["commitment_number"],
+                "secret_index": 2**48 - 1 - 42,
+            }
+            self.check(found == wanted, f"{case['name']}: {found}")
+            # an HTLC transaction, another first byte of the lock time and of the sequence, and two inputs
+            others = [
+                *(it["unsigned_tx_no_witness"] for it in case["htlc_transactions"]),
+                raw[:-2] + "21",
+                raw.replace("38b02b80", "38b02b81", 1),
+                raw[:8] + "02" + raw[10:92] * 2 + raw[92:],
+            ]
+            for it in others:
+                self.refuses(
+                    "NotCommitment",
+                    lambda it=it: commitment_number.commitment_numbers(json.dumps({"transaction": it, **bases})),
+                )
+        good = {"transaction": self.told["cases"][0]["unsigned_tx_no_witness"], **bases}
+        for name, given in (
+            ("seen.other_payment", {**good, "other_payment": "04" * 33}),
+            ("seen.opener", {**good, "opener": "02" * 33}),
+            ("seen.transaction", bases),
+        ):
+            self.refuses(f"BadShape {name}", lambda it=given: commitment_number.commitment_numbers(json.dumps(it)))
+
+    def check_second_stages(self, case: dict[str, Any]) -> None:
+        """The output of each HTLC transaction is taken by the same call; of its HTLCs, delay and base points it wants
+        the delay and two base points.
+        """
+        for it in case["htlc_transactions"]:
+            given = state(self.told, case, self.curve, transaction=it["unsigned_tx_no_witness"], htlcs=[])
+            found = penalties_of(given, self.curve, self.trace)
+            where = f"{case['name']}: second stage of {it['htlc']}"
+            self.check(found[0]["kinds"] == ["to_local"] and found[0]["value"] == it["output_value_sat"], where)
+            self.check_last_line(where, found, [0])
+            self.check_last_line(
+                f"{where}, another delay",
+                penalties_of({**given, "delay_blocks": 143}, self.curve, self.trace),
+                others=[0],
+            )
+
+    def check_changes(self, case: dict[str, Any]) -> None:
+        """With one base point, the delay, the secret or a part of an HTLC changed, what no longer matches is named."""
+        other = self.curve.public_key(b"\x55" * 32).hex()
+        made_of = {
+            "revocation": ("to_local", "offered", "received"),
+            "payment": ("to_remote",),
+            "htlc": ("offered", "received"),
+            "owner_delayed": ("to_local",),
+            "owner_htlc": ("offered", "received"),
+        }
+        outputs = case["outputs"]
+        rows = [
+            ({"bases": {name: other}}, lambda it, kinds=kinds: it["kind"] in kinds) for name, kinds in made_of.items()
+        ]
+        rows.append(({"delay_blocks": 145}, lambda it: it["kind"] == "to_local"))
+        rows.append(({"secret": "56" * 32}, lambda it: it["kind"] != "to_remote"))
+        htlcs = [htlc(self.told, it) for it in case["htlcs_given"]]
+        for number, it in zip(case["htlcs_given"], htlcs):
+            turned = {**it, "direction": "offered" if it["direction"] == "received" else "received"}
+            for instead in ([], [turned], [{**it, "hash": "57" * 32}]):
+                left = [other for other in htlcs if other != it] + instead
+                rows.append(({"htlcs": left}, lambda it, number=number: it.get("htlc") == number))
+        for changes, is_lost in rows:
+            found = penalties.split_outputs(
+                *state_and_table(state(self.told, case, self.curve, **changes), self.curve)
+            )
+            self.check(
+                found[1] == [at for at, it in enumerate(outputs) if is_lost(it)],
+                f"{case['name']}: {list(changes)}, {found[1]}",
+            )
+
+    def test_deadlines(self) -> None:
+        """Both sides of each deadline: the last block that nobody else's transaction can be in, and the next one."""
+        at = {it["kind"]: place for place, it in enumerate(self.case["outputs"])}
+        rows = [
+            ("to_local", {"height": 600}, 144),
+            ("to_local", {"height": 600, "confirmed_height": 600}, 143),
+            ("to_local", {"height": 742, "confirmed_height": 600}, 1),
+            ("to_local", {"height": 743, "confirmed_height": 600}, 0),
+            ("to_local", {"height": 900, "confirmed_height": 600}, 0),
+            ("to_local", {"height": 600, "confirmed_height": 600, "delay_blocks": 0}, 0),
+        ]
+        expiry = self.case["outputs"][at["offered"]]["cltv_expiry"]
+        rows += [
+            ("offered", {"height": expiry - 1}, 1),
+            ("offered", {"height": expiry}, 0),
+            ("offered", {"height": expiry + 9}, 0),
+            ("received", {"height": 0}, 0),
+            ("to_remote", {"height": 0}, None),
+        ]
+        for kind, changes, wanted in rows:
+            found, table = state_and_table(state(self.told, self.case, self.curve), self.curve)
+            for name, value in changes.items():
+                setattr(found, name, value)
+            takes, _ = penalties.split_outputs(found, table)
+            self.check(
+                penalties.deadline_of(takes[at[kind]].known, found) == wanted,
+                f"{self.case['name']}: the deadline of {kind} with {changes}",
+            )
+
+    def check_legacy_key(self, case: dict[str, Any]) -> None:
+        """Before static_remotekey the remote key is derived: the output to the derived key is taken, and the one to
+        the base point is named.
+        """
+        base = self.curve.public_key(private_key("payment"))
+        key = derivation.derived_key(
+            self.curve, base, self.curve.public_key(bytes.fromhex(self.told["terms"]["per_commitment_secret"]))
+        )
+        at = next(at for at, it in enumerate(case["outputs"]) if it["kind"] == "to_remote")
+        before, after = ((b"\x00\x14" + hash160(it)).hex() for it in (base, key))
+        given = state(self.told, case, self.curve)
+        given["transaction"] = given["transaction"].replace(before, after)
+        self.check(
+            penalties_of(given, self.curve, self.trace)[-1]["others"] == [at],
+            f"{case['name']}: a derived remote key is not the base point",
+        )
+        found = penalties_of(given, self.curve, self.trace, is_legacy=True)
+        self.check(
+            found[-1]["others"] == []
+            and [it["kinds"] for it in found[:-1] if it["outputs"] == [at]] == [["to_remote"]],
+            f"{case['name']}: a derived remote key",
+        )
+
+    def test_anchors(self) -> None:
+        """With anchors each HTLC and to_local is taken by the scripts of such a channel; to_remote and the anchors are
+        named by what they are.
+        """
+        outputs = with_anchors(self.told, self.case)
+        mine, rest = places_of(outputs, "to_local", "offered", "received"), places_of(outputs, "to_remote", "anchor")
+        named = {"to_remote": places_of(outputs, "to_remote"), "anchor": [0, 1]}
+        given = anchored_state(self.told, self.case, self.curve, outputs)
+        found = penalties_of(given, self.curve, self.trace)
+        self.check_last_line("anchors", found, mine, others=rest, named=named)
+        self.check(not penalties.is_left(found[-1]), "anchors: what is named is not left")
+        for at, it in zip(dearest([it[1] for it in outputs], mine), found):
+            kind, value, script, _ = outputs[at]
+            made = read_transaction(bytes.fromhex(it["transaction"]))
+            between = "01" if kind == "to_local" else self.told["terms"]["keys"]["local_revocation_pubkey"]
+            self.check(
+                it["outputs"] == [at] and it["kinds"] == [kind] and it["value"] == value, f"anchors: output {at}: {it}"
+            )
+            self.check(
+                [each.hex() for each in made.inputs[0].witness[1:]] == [between, script],
+                f"anchors: output {at}: its witness",
+            )
+            self.check((made.inputs[0].sequence, made.lock_time) == (0, 0), f"anchors: output {at}: its locks")
+        together = penalties_of(given, self.curve, self.trace, is_one=True)
+        self.check([it["outputs"] for it in together[:-1]] == [mine], f"anchors: together {together[:-1]}")
+        self.check_waits(self.case, outputs)
+        self.check_other_type(self.case, outputs)
+
+    def check_waits(self, case: dict[str, Any], outputs: list[tuple[str, int, str, int | None]]) -> None:
+        """The owner's HTLC transactions wait for a block: both sides of that, before the expiry and after it."""
+        mine = places_of(outputs, "to_local", "offered", "received")
+        for height, confirmed_height, least in (
+            (501, None, 1),
+            (501, 501, 0),
+            (502, None, 1),
+            (502, 502, 0),
+            (503, 500, 0),
+            (499, None, 1),
+        ):
+            changes = {
+                "height": height,
+                **({} if confirmed_height is None else {"confirmed_height": confirmed_height}),
+            }
+            found = penalties_of(
+                anchored_state(self.told, case, self.curve, outputs, **changes), self.curve, self.trace
+            )
+            since = height + 1 if confirmed_height is None else confirmed_height
+            wanted = []
+            for at in dearest([it[1] for it in outputs], mine):
+                kind, _, _, expiry = outputs[at]
+                wanted.append(
+                    {
+                        "to_local": since + 143 - height,
+                        "received": least,
+                        "offered": max(least, (expiry or 0) - height),
+                    }[kind]
+                )
+            self.check(
+                [it["deadline_blocks"] for it in found[:-1]] == wanted,
+                (
+                    f"anchors at {height}, in {confirmed_height}: {[it['deadline_blocks'] for it in found[:-1]]}, and"
+                    f" not {wanted}"
+                ),
+            )
+
+    def check_other_type(self, case: dict[str, Any], outputs: list[tuple[str, int, str, int | None]]) -> None:
+        """A commitment that is told as of the other type: its HTLCs match nothing, and are named. So are anchors with
+        another value, and without their keys.
+        """
+        local, htlcs, rest = (
+            places_of(outputs, "to_local"),
+            places_of(outputs, "offered", "received"),
+            places_of(outputs, "to_remote", "anchor"),
+        )
+        given = anchored_state(self.told, case, self.curve, outputs)
+        plain = {name: it for name, it in given.items() if name not in ("channel_type", "funding_keys")}
+        self.check_last_line(
+            "anchors, told as none", penalties_of(plain, self.curve, self.trace), local, others=sorted([*htlcs, *rest])
+        )
+        self.check_last_line(
+            "anchors, told as static_remotekey",
+            penalties_of({**plain, "channel_type": "static_remotekey"}, self.curve, self.trace),
+            local,
+            others=sorted([*htlcs, *rest]),
+        )
+        own = state(self.told, case, self.curve, channel_type="anchors")
+        kinds = [it["kind"] for it in case["outputs"]]
+        self.check_last_line(
+            "no anchors, told as anchors",
+            penalties_of(own, self.curve, self.trace),
+            [at for at, it in enumerate(kinds) if it in ("to_local", "to_remote")],
+            others=[at for at, it in enumerate(kinds) if it in ("offered", "received")],
+            named={},
+        )
+        without = {name: it for name, it in given.items() if name != "funding_keys"}
+        mine = sorted([*local, *htlcs])
+        self.check_last_line(
+            "anchors without their keys",
+            penalties_of(without, self.curve, self.trace),
+            mine,
+            others=rest,
+            named={"to_remote": places_of(outputs, "to_remote")},
+        )
+        richer = [("anchor", 331, *outputs[0][2:]), *outputs[1:]]
+        found = penalties.split_outputs(
+            *anchored_state_and_table(anchored_state(self.told, case, self.curve, richer), self.curve)
+        )
+        names = output_names(anchored_state(self.told, case, self.curve, richer), self.curve, found[1])
+        self.check(
+            names == {"named": {"anchor": [1], "to_remote": places_of(outputs, "to_remote")}},
+            f"an anchor of 331 satoshis: {names}",
+        )
+        second = case["htlc_transactions"][0]
+        self.check_last_line(
+            "anchors: a second stage",
+            penalties_of({**given, "transaction": second["unsigned_tx_no_witness"]}, self.curve, self.trace),
+            [0],
+            named={},
+        )
+
+    def test_added(self) -> None:
+        """What the owner of a channel with anchors adds to an HTLC transaction is named, and nothing is left; and not
+        where its own output matches nothing.
+        """
+        outputs = with_anchors(self.told, self.case)
+        second = read_transaction(
+            bytes.fromhex(self.case["htlc_transactions"][0]["unsigned_tx_no_witness"]), marked=False
+        )
+        second.inputs.append(Input(bytes(31) + b"\x07" + bytes(4), b"", 0))
+        second.outputs.append(Output(7_000, bytes.fromhex(DESTINATION)))
+        given = anchored_state(self.told, self.case, self.curve, outputs, transaction=second.bytes().hex())
+        found = penalties_of(given, self.curve, self.trace)
+        self.check_last_line("anchors: an HTLC transaction with change", found, [0], others=[1], named={"added": [1]})
+        self.check(not penalties.is_left(found[-1]), "anchors: what is added is not left")
+        for changes in ({"delay_blocks": 143}, {"channel_type": "static_remotekey"}):
+            others = [1] if "channel_type" in changes else [0, 1]
+            found = penalties_of({**given, **changes}, self.curve, self.trace)
+            self.check(
+                (found[-1]["others"], found[-1].get("named", {})) == (others, {}) and penalties.is_left(found[-1]),
+                f"anchors: an HTLC transaction with {changes}: {found[-1]}",
+            )
+
+    def test_spent(self) -> None:
+        """Outputs that are told to be gone are in no transaction and no other list."""
+        given, every = state(self.told, self.case, self.curve), range(len(self.case["outputs"]))
+        for gone in ([0], [len(every) - 1, 1], [*every]):
+            for is_one in (False, True):
+                found = penalties_of({**given, "spent": gone}, self.curve, self.trace, is_one=is_one)
+                left = [at for at in every if at not in gone]
+                wanted = {"taken": left, "too_little": [], "no_key": [], "others": [], "spent": sorted(gone)}
+                last = {name: it for name, it in found[-1].items() if name != "transaction"}
+                self.check(last == wanted and not penalties.is_left(last), f"spent {gone}: {last}")
+                self.check(
+                    sorted(at for it in found[:-1] for at in it["outputs"]) == left,
+                    f"spent {gone}: {[it['outputs'] for it in found[:-1]]}",
+                )
+        for bad, place in (([len(every)], 0), ([-1], 0), ([0, 0], 1), ([True], 0), (["0"], 0), ([0.0], 0)):
+            self.refuses(
+                f"BadShape state.spent[{place}]",
+                lambda it=bad: penalties.read_state(json.dumps({**given, "spent": it})),
+            )
+
+    def test_keys(self) -> None:
+        """A key of neither base point is told, and what the others take is taken all the same; where none is of one,
+        the first is refused.
+        """
+        given, keys = state(self.told, self.case, self.curve), [
+            private_key("revocation"),
+            b"\x07" * 32,
+            private_key("payment"),
+        ]
+        found = penalties_of(given, self.curve, self.trace, keys)
+        last = found.pop()
+        self.check(
+            last.pop("unused_keys", None) == [1]
+            and penalties.is_left({**last, "unused_keys": [1]})
+            and not penalties.is_left(last),
+            f"a key that is not used: {last}",
+        )
+        self.check_last_line("a key that is not used", [*found, last], range(len(self.case["outputs"])))
+        self.refuses("UnusedKey 0", lambda: penalties_of(given, self.curve, self.trace, keys[1:2]))
+
+    def test_feerates(self) -> None:
+        """The limit of a feerate, and one that the state sets, each on both sides."""
+        given = state(self.told, self.case, self.curve)
+        for changes, most in (
+            ({}, 250_000),
+            ({"most_feerate_per_kw": 300}, 300),
+            ({"most_feerate_per_kw": 10_000_000}, 10_000_000),
+        ):
+            self.check(
+                penalties.read_state(json.dumps({**given, **changes, "feerate_per_kw": most})).feerate_per_kw == most,
+                f"a feerate of {most}",
+            )
+            if most < 10_000_000:
+                self.refuses(
+                    f"TooHighFeerate {most}",
+                    lambda it=changes, most=most: penalties.read_state(
+                        json.dumps({**given, **it, "feerate_per_kw": most + 1})
+                    ),
+                )
+        for name in ("feerate_per_kw", "most_feerate_per_kw"):
+            self.refuses(
+                f"BadShape state.{name}", lambda it=name: penalties.read_state(json.dumps({**given, it: 10_000_001}))
+            )
+
+    def test_notes(self) -> None:
+        """Each note is said where it holds, and not on the other side of that."""
+        good, outputs = state(self.told, self.case, self.curve), with_anchors(self.told, self.case)
+        second = self.case["htlc_transactions"][0]["unsigned_tx_no_witness"]
+        anchored = {
+            **anchored_state(self.told, self.case, self.curve, outputs, transaction=second),
+            "feerate_per_kw": 0,
+        }
+        at = next(at for at, it in enumerate(self.case["outputs"]) if it["kind"] == "to_local")
+        fee = TO_LOCAL_WEIGHT + REST_WEIGHT
+
+        def only_local(value: int, **changes: int) -> dict[str, Any]:
+            return {
+                **good,
+                "transaction": with_outputs(self.case, [(value, self.case["outputs"][at]["script_pubkey"])]),
+                **changes,
+            }
+
+        def many(number: int) -> dict[str, Any]:
+            return {
+                **good,
+                "transaction": with_outputs(self.case, [(5_000, self.case["outputs"][at]["script_pubkey"])] * number),
+            }
+
+        self.check(notes_of(only_local(1_000_000), self.curve, self.trace) == [], "a state without a note")
+        rows = [
+            ("with anchors the owner may add inputs", anchored, True),
+            ("with anchors the owner may add inputs", {**anchored, "confirmed_height": HEIGHT}, False),
+            ("with anchors the owner may add inputs", {**good, "transaction": second}, False),
+            (
+                "with anchors the owner may add inputs",
+                anchored_state(self.told, self.case, self.curve, outputs),
+                False,
+            ),
+            ("nodes pass on no transaction below", {**good, "feerate_per_kw": 252}, True),
+            (
+                "the fee is above a tenth of the value: of outputs 0",
+                only_local(10 * fee - 1, feerate_per_kw=1_000),
+                True,
+            ),
+            ("the fee is above a tenth", only_local(10 * fee, feerate_per_kw=1_000), False),
+            (
+                "at this feerate too little is left to be passed on: of outputs 0",
+                only_local(fee + 293, feerate_per_kw=1_000),
+                True,
+            ),
+            ("at this feerate too little", only_local(293), False),
+            ("of 25 transactions nodes are sure to take 24", many(25), True),
+            ("of 25 transactions nodes are sure to take 24", {**many(25), "confirmed_height": HEIGHT}, False),
+            ("of 24 transactions", many(24), False),
+        ]
+        for start, given, holds in rows:
+            found = notes_of(given, self.curve, self.trace)
+            self.check(any(it.startswith(start) for it in found) == holds, f"a note that begins {start!r}: {found}")
+
+    def refuses(self, name: str, make: Callable) -> None:
+        """Whether a call is refused by this name."""
+        try:
+            found = make() and "taken"
+        except Refused as why:
+            found = str(why)
+        self.check(found == name, f"a fault that is to be refused as {name}: {found}")
+
+    def test_refusals(self) -> None:
+        good = state(self.told, self.case, self.curve)
+        rows = [
+            ("NoKey", good, []),
+            ("BadKey 0", good, [bytes(32)]),
+            ("BadSecret", {**good, "secret": "00" * 32}, None),
+            ("BadShape state.bases.htlc", {**good, "bases": {**good["bases"], "htlc": "05" * 33}}, None),
+            ("BadShape state.delay_blocks", {**good, "delay_blocks": 65536}, None),
+            (
+                "BadShape state.htlcs[0].expiry_height",
+                {**good, "htlcs": [{**htlc(self.told, 0), "expiry_height": 500_000_000}]},
+                None,
+            ),
+            (
+                "BadShape state.htlcs[0].direction",
+                {**good, "htlcs": [{**htlc(self.told, 0), "direction": "sent"}]},
+                None,
+            ),
+            ("BadShape state.htlcs[0].amount", {**good, "htlcs": [{**htlc(self.told, 0), "amount": 1}]}, None),
+            (
+                "BadShape state.bases.owner_payment",
+                {**good, "bases": {**good["bases"], "owner_payment": "02" * 33}},
+                None,
+            ),
+            ("BadShape state.confirmed_hieght", {**good, "confirmed_hieght": HEIGHT}, None),
+            ("BadShape state.?", {**good, "height\n": HEIGHT}, None),
+            ("BadShape state.?", {**good, "\ud800": HEIGHT}, None),
+            ("BadShape state.confirmed_height", {**good, "confirmed_height": HEIGHT + 1}, None),
+            (
+                "BadShape state.confirmed_height",
+                {name: it for name, it in good.items() if name != "confirmed_height"},
+                None,
+            ),
+            ("BadShape state.channel_type", {**good, "channel_type": "anchor"}, None),
+            ("BadShape state.channel_type", {**good, "channel_type": 22}, None),
+            ("BadShape state.funding_keys", {**good, "funding_keys": ["02" * 33]}, None),
+            ("BadShape state.funding_keys[1].key", {**good, "funding_keys": [good["bases"]["htlc"], "02"]}, None),
+            ("BadShape state.funding_keys[1]", {**good, "funding_keys": [good["bases"]["htlc"], "05" * 33]}, None),
+            ("TooManyHtlcs", {**good, "htlcs": [htlc(self.told, 0)] * 967}, None),
+            ("Trailing", {**good, "transaction": good["transaction"] + "00"}, None),
+        ]
+        for name, given, privates in rows:
+            self.refuses(
+                name, lambda given=given, privates=privates: penalties_of(given, self.curve, self.trace, privates)
+            )
+        self.refuses(
+            "BadShape state.channel_type",
+            lambda: penalties_of({**good, "channel_type": "anchors"}, self.curve, self.trace, is_legacy=True),
+        )

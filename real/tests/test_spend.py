@@ -1,0 +1,75 @@
+"""Tests of the program `spend`: its plans, refusals and notes are those that are worked out here. Tested, not proved."""
+from real.tests import bolt3
+from real.tests.checks import CheckedCase
+from real.tests.spend_requests import (
+    bounds,
+    changed_request,
+    conditions,
+    faults,
+    givens,
+    line,
+    named,
+    refusals,
+    requests,
+    shown_request,
+    spend_answer,
+    spend_answers,
+    wanted_plan,
+)
+
+
+def refused_line(name: str, number: int) -> str:
+    return line({"refused": name, "number": number})
+
+
+class SpendTest(CheckedCase):
+    """Each plan is the one that is worked out here, and each refusal the one that is wanted."""
+
+    told = bolt3.read()
+
+    def test_plans(self) -> None:
+        for asked, sequences, lock_time in requests(self.told):
+            wanted = line(wanted_plan(self.told, asked, sequences, lock_time)), 0
+            found = spend_answer(line(asked))
+            self.check(found == wanted, f"a plan: {found}")
+            found = spend_answer(line(shown_request(asked)))
+            self.check(found == wanted, f"a plan by the ids that explorers show: {found}")
+
+    def test_destinations_and_feerates(self) -> None:
+        for asked, refusal, notes in givens(self.told):
+            found = spend_answers(line(asked))
+            plan = line(wanted_plan(self.told, asked, [0], 501)), 0
+            wanted = plan if refusal is None else (refused_line(*refusal), 1)
+            self.check(found == (*wanted, notes), f"a destination and a feerate: {found}")
+
+    def test_causes(self) -> None:
+        for asked, refusal, notes in named(self.told):
+            found = spend_answers(line(asked))
+            self.check(found == (refused_line(*refusal), 1, notes), f"a refusal whose cause is told: {found}")
+
+    def test_conditions(self) -> None:
+        for asked, notes in conditions(self.told):
+            found = spend_answers(line(asked))
+            wanted = line(wanted_plan(self.told, asked, [0], 0)), 0
+            self.check(found == (*wanted, notes), f"a plan by an IF: {found}")
+
+    def test_faults(self) -> None:
+        for text, name, number, notes in faults(self.told):
+            found = spend_answers(text)
+            self.check(
+                found == (refused_line(name, number), 1, notes), f"a fault that is to be named by {notes}: {found}"
+            )
+
+    def test_bounds(self) -> None:
+        """A request at a bound has its plan, and the one beyond it is refused."""
+        for asked, sequences, lock_time, outputs, name, number in bounds(self.told):
+            found = spend_answer(line(asked))
+            wanted = line(wanted_plan(self.told, asked, sequences, lock_time)), 0
+            self.check(found == wanted, f"a plan at a bound: {found}")
+            found = spend_answer(changed_request(asked, outputs=outputs))
+            self.check(found == (refused_line(name, number), 1), f"a refusal that is to be {name}: {found}")
+
+    def test_refusals(self) -> None:
+        for text, name, number in refusals(self.told):
+            found = spend_answer(text)
+            self.check(found == (refused_line(name, number), 1), f"a refusal that is to be {name}: {found}")
