@@ -397,9 +397,14 @@ def bad_shapes(told: dict[str, Any]) -> Iterator[tuple[str, str]]:
     ):
         yield changed_request(asked, **members), note
     yield line(without(asked, "feerate_per_kw")), "feerate_per_kw: it is missing"
-    yield line(asked).replace('"feerate_per_kw":253', '"feerate_per_kw":500,"feerate_per_kw":253'), "feerate_per_kw: a member of this name stands twice in one object"
-    yield line(asked).replace('"path":2', '"path":1,"path":2', 1), "outputs[0].path: a member of this name stands twice in one object"
-    yield line({**asked, "outputs": [both[0], both[1]]}).replace('"path":2', '"path":1,"path":2').replace('"path":1,"path":2', '"path":2', 1), "outputs[1].path: a member of this name stands twice in one object"
+    twice, paths = "a member of this name stands twice in one object", '"path":1,"path":2'
+    yield (
+        line(asked).replace('"feerate_per_kw":253', '"feerate_per_kw":500,"feerate_per_kw":253'),
+        f"feerate_per_kw: {twice}",
+    )
+    yield line(asked).replace('"path":2', paths, 1), f"outputs[0].path: {twice}"
+    second = line({**asked, "outputs": [both[0], both[1]]}).replace('"path":2', paths).replace(paths, '"path":2', 1)
+    yield second, f"outputs[1].path: {twice}"
     for members, note in (
         ({"value": 0.001}, "value: wanted: satoshis, as an integer without point, sign and quotes"),
         ({"value": "100000"}, "value: wanted: satoshis, as an integer without point, sign and quotes"),

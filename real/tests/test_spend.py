@@ -1,4 +1,4 @@
-"""Tests of the program `spend`: its plans, refusals and notes are those that are worked out here. Tested, not proved."""
+"""Tests of the program `spend`: its plans, refusals and notes are those that are worked out here."""
 from real.tests import bolt3
 from real.tests.checks import CheckedCase
 from real.tests.spend_requests import (
