@@ -9,14 +9,14 @@ use book::laws::{
 use channel::laws::{sides_are_sound, what_is_signed};
 use safety::laws::{due_places, one_against_everybody, what_commitments_have, what_is_recorded};
 
-/// The holdings of a history are one for each channel that it leaves, in the order in which they were opened, and each release of the history stands in that of its channel.
+/// Each release of a history stands in the holding of its channel.
 pub fn holdings_are_complete()
     ensures { HoldingsAreComplete }
 {}
 
-/// Each channel of a book keeps the rules, over every history of its calls, whatever the peers send. What is asked of the history: each claim that it releases in a channel is on what a recorded commitment of the
-/// channel gives the node; each HTLC that it offers expires above 0; and values are of their types. What a revoked commitment lets the node claim is on such a commitment, and so is each claim of a penalty set
-/// that the channel keeps.
+/// A channel of a book keeps the rules, over every history of its calls that takes care of it, whatever the node does in other channels and whatever the peers send. What is asked of the history: each claim that it releases in
+/// this channel is on what a recorded commitment of the channel gives the node; each HTLC that it offers there expires above 0; and values are of their types. What a revoked commitment lets the node claim is on such a
+/// commitment, and so is each claim of a penalty set that the channel keeps.
 pub fn books_keep_rules()
     ensures rules { BooksKeepRules }
     ensures revoked { ClaimablesAreRecorded }
@@ -33,7 +33,7 @@ pub fn books_keep_rules()
     due_places();
 }
 
-/// One node against everybody, for the channels of a book. On a chain that is a ledger of their outputs, and on which each token of a key of the node's is one that it gave out, each channel stands as
+/// One node against everybody, for a channel of a book. On a chain that is a ledger of its outputs, and on which each token of a key of the node's in the inputs that name them is one that it gave out, the channel stands as
 /// `one_against_everybody` of `safety` says.
 pub fn books_stand()
     ensures { BooksStand }
