@@ -1,8 +1,9 @@
 -- What is asked of a history, on both sides of its bounds, and what goes wrong without it: of each a history of accepted calls whose channel keeps the rules no more.
-use Rattle.std.proofs.Common.{◌≡◌, ℕ, ◌≤◌, ◌<◌, true, List, [], ◌∷◌, length, replicate, None, refl, sym, ap, subst, ⊎_elim, arith, lit<, Ok, lit≤}
+use Rattle.std.proofs.Common.{◌≡◌, ℕ, suc, ◌≤◌, ◌<◌, true, List, [], ◌∷◌, length, replicate, None, refl, sym, ap, subst, ⊎_elim, arith, lit<, Ok, lit≤}
 use Rattle.std.specs.Prelude.{IsTrue, is_ok}
 use Rattle.std.specs.List.{AllByRecursion, Contains}
 use Rattle.std.proofs.lemmas.Bool.{true≢false}
+use Rattle.std.proofs.lemmas.Option.{none-some}
 use Rattle.std.proofs.lemmas.List.Elements.{All-nil, All-cons}
 use Rattle.sha2.specs.Sha256.{sha256, digest_bytes, hash_after, compress, rounds, schedule, first_words}
 use Rattle.script.specs.declared.opcode.Op.TheVariants.{Number}
@@ -42,11 +43,11 @@ use Rattle.book.specs.declared.calls.Step.TheVariants.{Own, Peer}
 use Rattle.book.specs.declared.calls.Call.{Call}
 use Rattle.book.specs.declared.calls.Call.TheVariants.{Open, Step as Stepping, Sign, Keep, Release as Releasing}
 use Rattle.book.specs.declared.calls.Entry.{Entry}
-use Rattle.book.specs.Books.{fundings_of, replay}
+use Rattle.book.specs.Books.{ChannelBook, replay}
 use Rattle.book.specs.Signers.{fill_refusal}
 use Rattle.book.specs.Accepted.{AreWhole, all_accepted, IsHistory, AcceptedMeans}
 use Rattle.book.specs.Releasing.{IsKeptIn}
-use Rattle.book_laws.specs.Holdings.{holdings_of}
+use Rattle.book_laws.specs.Holdings.{releases_in, holding_of}
 use Rattle.book_laws.specs.Keeping.{TakesCare, IsCareful}
 use Rattle.book_laws.proofs.Samples.{path, entry, hash, htlc, stray, batch, release, first_terms, first_opening}
 
@@ -60,27 +61,36 @@ signed_in_no_channel law called = true≢false (sym ((law.accepted_exactly token
 
 module _ (c amount_msat : ℕ) (h : Htlc) where
   -- yes: TakesCare
-  at_one : TakesCare (Stepping c (Own (Offer amount_msat hash 1)))
-  at_one = lit< tt
+  at_one : TakesCare c (Stepping c (Own (Offer amount_msat hash 1)))
+  at_one e = lit< tt
 
   -- no: TakesCare
-  at_zero : TakesCare (Stepping c (Own (Offer amount_msat hash 0))) → ⊥
-  at_zero e = omega (arith, e)
+  at_zero : TakesCare c (Stepping c (Own (Offer amount_msat hash 0))) → ⊥
+  at_zero f = let l = f refl in omega (arith, l)
+
+  -- of another channel it takes care then
+  -- yes: TakesCare
+  at_zero_elsewhere : TakesCare c (Stepping (suc c) (Own (Offer amount_msat hash 0)))
+  at_zero_elsewhere e = omega (arith, e)
 
   -- a peer's HTLC may expire at any height
   -- yes: TakesCare
-  peers_offer : TakesCare (Stepping c (Peer (Updated (Add h))))
+  peers_offer : TakesCare c (Stepping c (Peer (Updated (Add h))))
   peers_offer = tt
 
 -- ---- outputs
 
 -- yes: TakesCare
-greatest_value : (c : ℕ) → TakesCare (Releasing c (batch stray 2100000000000000))
-greatest_value c = (record { value = omega arith; script = omega arith }, tt)
+greatest_value : (c : ℕ) → TakesCare c (Releasing c (batch stray 2100000000000000))
+greatest_value c e = (record { value = omega arith; script = omega arith }, tt)
 
 -- no: TakesCare
-above_all_bitcoins : (c : ℕ) → TakesCare (Releasing c (batch stray 2100000000000001)) → ⊥
-above_all_bitcoins c h = let l = h.0.value in omega (arith, l)
+above_all_bitcoins : (c : ℕ) → TakesCare c (Releasing c (batch stray 2100000000000001)) → ⊥
+above_all_bitcoins c f = let l = (f refl).0.value in omega (arith, l)
+
+-- yes: TakesCare
+above_all_elsewhere : (c : ℕ) → TakesCare c (Releasing (suc c) (batch stray 2100000000000001))
+above_all_elsewhere c e = omega (arith, e)
 
 -- ---- claims
 
@@ -147,9 +157,9 @@ module _ (x : ClaimParts) (o : Opening) where
 in_no_set : (x : ClaimParts) → IsKeptIn 0 [] x → ⊥
 in_no_set x k = contains_none (entry k.seat (Keep 0 k.number k.set)) k.kept
 
--- what a history released in its channels is on their recorded commitments
-abbrev AreDue : List Entry → Type 0
-AreDue history = AllByRecursion (λ h. AllByRecursion (λ r. AllByRecursion (IsOnRecorded h) r.claims) h.releases) (holdings_of history)
+-- what a history released in a channel is on its recorded commitments
+abbrev AreDue : List Entry → ChannelBook → Type 0
+AreDue history ch = AllByRecursion (λ r. AllByRecursion (IsOnRecorded (holding_of history 0 ch)) r.claims) (releases_in 0 history)
 
 -- ---- without what is asked
 
@@ -164,10 +174,16 @@ module _ (bases theirs : BaseKeys) (seed : List ℕ) (own : IsSeedOf seed bases)
   abbrev before : State
   before = after_update (Add (htlc 1000000 0)) (opened_state (first_terms bases theirs seed own (replicate 32 5)) A seed point_key (key 1))
 
+  abbrev offered_book : ChannelBook
+  offered_book = record { state = after_sign before; kept = []; closed = None }
+
   abbrev with_offer : Holding
   with_offer = record { state = after_sign before; releases = []; closed = None }
 
-  offered_holding : holdings_of offered ≡ with_offer ∷ []
+  offered_there : replay offered ≡ offered_book ∷ []
+  offered_there = refl
+
+  offered_holding : holding_of offered 0 offered_book ≡ with_offer
   offered_holding = refl
 
   abbrev ours : HtlcOutput
@@ -182,12 +198,12 @@ module _ (bases theirs : BaseKeys) (seed : List ℕ) (own : IsSeedOf seed bases)
   offered_until_zero r = let l : 0 < 0 = r.expiries 1 (peers_next before) refl ours (subst (λ (hs : List HtlcOutput). Contains hs ours) (sym offered_htlcs) (0, lit< tt, refl)) refl in omega (arith, l)
 
   -- all else that is asked holds of it
-  offered_otherwise : AreDue offered × AllByRecursion IsOutPoint (fundings_of (replay offered))
-  offered_otherwise = ((tt, tt), (record { txid = refl; index = lit< tt }, tt))
+  offered_otherwise : AreDue offered offered_book × IsOutPoint offered_book.state.held.terms.funding
+  offered_otherwise = (tt, record { txid = refl; index = lit< tt })
 
   -- no: IsCareful
-  offered_carelessly : IsCareful tokens_of offered → ⊥
-  offered_carelessly c = let l : 0 < 0 = c.cares.1.0 in omega (arith, l)
+  offered_carelessly : IsCareful tokens_of offered 0 offered_book → ⊥
+  offered_carelessly c = let l : 0 < 0 = c.cares.1.0 refl in omega (arith, l)
 
   -- the node releases a claim on what no channel of its book has: a book takes that
   abbrev strayed : List Entry
@@ -197,14 +213,20 @@ module _ (bases theirs : BaseKeys) (seed : List ℕ) (own : IsSeedOf seed bases)
   unfolding fill_refusal
   strayed_accepted = refl
 
+  abbrev strayed_book : ChannelBook
+  strayed_book = record { state = opened_state (first_terms bases theirs seed own (replicate 32 5)) A seed point_key (key 1); kept = []; closed = None }
+
+  strayed_there : replay strayed ≡ strayed_book ∷ []
+  strayed_there = refl
+
   -- all else that is asked holds of it, and the claim is an accepted one
-  strayed_otherwise : AllByRecursion (λ e. TakesCare e.call) strayed × AreWhole strayed × AllByRecursion IsOutPoint (fundings_of (replay strayed))
-  strayed_otherwise = ((tt, ((record { value = omega arith; script = omega arith }, tt), tt)), (tt, ((stray_whole, tt), tt)), (record { txid = refl; index = lit< tt }, tt))
+  strayed_otherwise : AllByRecursion (λ e. TakesCare 0 e.call) strayed × AreWhole strayed × IsOutPoint strayed_book.state.held.terms.funding
+  strayed_otherwise = ((tt, ((λ e. (record { value = omega arith; script = omega arith }, tt)), tt)), (tt, ((stray_whole, tt), tt)), record { txid = refl; index = lit< tt })
 
   abbrev with_stray : Holding
-  with_stray = record { state = opened_state (first_terms bases theirs seed own (replicate 32 5)) A seed point_key (key 1); releases = release stray 900 ∷ []; closed = None }
+  with_stray = record { state = strayed_book.state; releases = release stray 900 ∷ []; closed = None }
 
-  strayed_holding : holdings_of strayed ≡ with_stray ∷ []
+  strayed_holding : holding_of strayed 0 strayed_book ≡ with_stray
   strayed_holding = refl
 
   -- no: KeepsRules
@@ -212,16 +234,20 @@ module _ (bases theirs : BaseKeys) (seed : List ℕ) (own : IsSeedOf seed bases)
   released_astray owners peers revoked r = stray_is_on_none owners peers revoked with_stray r.releases.0.recorded.0
 
   -- no: IsCareful
-  strayed_carelessly : OwnersPlaces → PeersPlaces → RevokedPlaces → IsCareful tokens_of strayed → ⊥
-  strayed_carelessly owners peers revoked c = stray_is_on_none owners peers revoked with_stray c.due.0.0.0
+  strayed_carelessly : OwnersPlaces → PeersPlaces → RevokedPlaces → IsCareful tokens_of strayed 0 strayed_book → ⊥
+  strayed_carelessly owners peers revoked c = stray_is_on_none owners peers revoked with_stray c.due.0.0
+
+  -- no: IsCareful
+  strayed_from_nowhere : IsCareful tokens_of strayed 1 strayed_book → ⊥
+  strayed_from_nowhere c = none-some strayed_book c.there
 
   -- the node pays more than all bitcoins
   abbrev lavish : List Entry
   lavish = entry 3 (Open (first_opening bases theirs seed own (replicate 32 5))) ∷ entry 2 (Releasing 0 (batch stray 2100000000000001)) ∷ []
 
   -- no: IsCareful
-  paid_carelessly : IsCareful tokens_of lavish → ⊥
-  paid_carelessly c = let l = c.cares.1.0.0.value in omega (arith, l)
+  paid_carelessly : IsCareful tokens_of lavish 0 strayed_book → ⊥
+  paid_carelessly c = let l = (c.cares.1.0 refl).0.value in omega (arith, l)
 
   -- the funding output's id has 31 bytes
   abbrev short : List Entry
@@ -230,16 +256,19 @@ module _ (bases theirs : BaseKeys) (seed : List ℕ) (own : IsSeedOf seed bases)
   short_accepted : all_accepted tokens_of short ≡ true
   short_accepted = refl
 
+  abbrev short_book : ChannelBook
+  short_book = record { state = opened_state (first_terms bases theirs seed own (replicate 31 5)) A seed point_key (key 1); kept = []; closed = None }
+
+  short_there : replay short ≡ short_book ∷ []
+  short_there = refl
+
   -- no: EachKeepsRules
-  short_funding : EachKeepsRules (holdings_of short) → ⊥
+  short_funding : EachKeepsRules (holding_of short 0 short_book ∷ []) → ⊥
   short_funding r = let e : 31 ≡ 32 = r.each.0.funding.txid in omega (arith, e)
 
   -- no: IsCareful
-  short_carelessly : IsCareful tokens_of short → ⊥
-  short_carelessly c =
-      let first : IsOutPoint (record { txid = replicate 31 5; index = 7 }) = c.fundings.0 in
-      let e : 31 ≡ 32 = first.txid in
-      omega (arith, e)
+  short_carelessly : IsCareful tokens_of short 0 short_book → ⊥
+  short_carelessly c = let e : 31 ≡ 32 = c.funding.txid in omega (arith, e)
 
 -- an output that is worth more than all bitcoins does not fit into its transaction
 -- no: IsRightful

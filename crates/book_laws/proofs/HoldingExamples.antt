@@ -1,5 +1,5 @@
--- The holdings of a book: two channels on unlike funding outputs, what is released in each, and the law, which holds of them.
-use Rattle.std.proofs.Common.{◌≡◌, ℕ, true, List, [], ◌∷◌, replicate, Some, None, refl, lit<, arith}
+-- The holdings of a book: two channels on unlike funding outputs, what is released in each, and the law, which holds of either, whatever the node does in the other.
+use Rattle.std.proofs.Common.{◌≡◌, ℕ, ◌<◌, true, List, [], ◌∷◌, replicate, Some, None, refl, lit<, arith}
 use Rattle.terms.specs.declared.sides.Side.TheVariants.{A, B}
 use Rattle.terms.specs.declared.agreement.BaseKeys.{BaseKeys}
 use Rattle.terms.specs.Bases.{IsSeedOf}
@@ -16,12 +16,13 @@ use Rattle.safety.specs.Holdings.{Holding, EachKeepsRules}
 use Rattle.book.specs.declared.calls.Step.TheVariants.{Own, Peer}
 use Rattle.book.specs.declared.calls.Call.TheVariants.{Open, Step as Stepping, Sign, Revoke, Keep, Release as Releasing, Close}
 use Rattle.book.specs.declared.calls.Entry.{Entry}
+use Rattle.book.specs.Books.{ChannelBook, replay}
 use Rattle.book.specs.Penalties.{is_penalty_set}
 use Rattle.book.specs.Signers.{fill_refusal}
 use Rattle.book.specs.Accepted.{all_accepted, AreWhole, IsHistory, AcceptedMeans}
-use Rattle.book_laws.specs.Holdings.{releases_in, holdings_of}
+use Rattle.book_laws.specs.Holdings.{releases_in, holding_of}
 use Rattle.book_laws.specs.Keeping.{IsCareful, BooksKeepRules, KeptAreRecorded}
-use Rattle.book_laws.proofs.Samples.{entry, hash, htlc, pays, batch, release, first_terms, second_terms, first_opening, second_opening}
+use Rattle.book_laws.proofs.Samples.{entry, hash, htlc, stray, pays, batch, release, first_terms, second_terms, first_opening, second_opening}
 
 -- what is released stays in its channel, in order
 module _ (x y z : ClaimParts) where
@@ -50,15 +51,34 @@ module _ (bases theirs : BaseKeys) (seed : List ℕ) (own : IsSeedOf seed bases)
   abbrev second_state : State
   second_state = after (opened_state (second_terms bases theirs seed own) B seed point_key (key 3)) (StepMessage (Updated (Add (htlc 2000000 0))))
 
+  -- the first once the node offered, and the second when it was opened
+  abbrev offered_book : ChannelBook
+  offered_book = record { state = after_update (Add (htlc 1000000 500)) (opened_state (first_terms bases theirs seed own (replicate 32 5)) A seed point_key (key 1)); kept = []; closed = None }
+
+  abbrev second_opened : State
+  second_opened = opened_state (second_terms bases theirs seed own) B seed point_key (key 3)
+
   abbrev first : Holding
   first = record { state = first_state; releases = []; closed = None }
 
   abbrev second : Holding
   second = record { state = second_state; releases = []; closed = Some 0 }
 
-  -- these are its holdings
-  pub they_are : holdings_of history ≡ first ∷ second ∷ []
+  abbrev first_book : ChannelBook
+  first_book = record { state = first_state; kept = []; closed = None }
+
+  abbrev second_book : ChannelBook
+  second_book = record { state = second_state; kept = []; closed = Some 0 }
+
+  -- these are its channels, each with its holding
+  pub they_are : replay history ≡ first_book ∷ second_book ∷ []
   they_are = refl
+
+  first_held : holding_of history 0 first_book ≡ first
+  first_held = refl
+
+  second_held : holding_of history 1 second_book ≡ second
+  second_held = refl
 
   accepted : all_accepted tokens_of history ≡ true
   unfolding is_foreign
@@ -69,17 +89,59 @@ module _ (bases theirs : BaseKeys) (seed : List ℕ) (own : IsSeedOf seed bases)
   called law = (law.accepted_exactly tokens_of history).1 accepted
 
   -- yes: IsCareful
-  pub careful : AcceptedMeans → IsCareful tokens_of history
+  pub careful : AcceptedMeans → IsCareful tokens_of history 0 first_book
   careful law = record {
     called = called law;
-    cares = (tt, (tt, (lit< tt, (tt, (tt, (tt, (tt, tt)))))));
-    due = (tt, (tt, tt));
-    fundings = (record { txid = refl; index = lit< tt }, (record { txid = refl; index = lit< tt }, tt));
+    there = refl;
+    cares = (tt, (tt, ((λ e. lit< tt), (tt, (tt, (tt, (tt, tt)))))));
+    due = tt;
+    funding = record { txid = refl; index = lit< tt };
+  }
+
+  -- yes: IsCareful
+  pub careful_too : AcceptedMeans → IsCareful tokens_of history 1 second_book
+  careful_too law = record {
+    called = called law;
+    there = refl;
+    cares = (tt, (tt, ((λ e. lit< tt), (tt, (tt, (tt, (tt, tt)))))));
+    due = tt;
+    funding = record { txid = refl; index = lit< tt };
   }
 
   -- so both keep the rules
-  keep_rules : AcceptedMeans → BooksKeepRules → EachKeepsRules (first ∷ second ∷ [])
-  keep_rules law keeps = keeps tokens_of history (careful law)
+  keep_rules : AcceptedMeans → BooksKeepRules → EachKeepsRules (first ∷ []) × EachKeepsRules (second ∷ [])
+  keep_rules law keeps = (keeps tokens_of history 0 first_book (careful law), keeps tokens_of history 1 second_book (careful_too law))
+
+  -- in the second channel the node offers an HTLC that expires at 0, and releases a claim on what no channel has: of the first it takes care all the same
+  module _ (fills : fill_refusal (stray ∷ []) (pays 900) (rights_of second_opened) [] ≡ None) where
+    abbrev careless : List Entry
+    careless =
+        entry 3 (Open (first_opening bases theirs seed own (replicate 32 5)))
+        ∷ entry 0 (Open (second_opening bases theirs seed own))
+        ∷ entry 1 (Stepping 0 (Own (Offer 1000000 hash 500)))
+        ∷ entry 0 (Releasing 1 (batch stray 900))
+        ∷ entry 2 (Stepping 1 (Own (Offer 1000000 hash 0)))
+        ∷ []
+
+    careless_accepted : all_accepted tokens_of careless ≡ true
+    careless_accepted = rw fills refl
+
+    -- yes: IsCareful
+    careful_of_first : AcceptedMeans → IsCareful tokens_of careless 0 offered_book
+    careful_of_first law = record {
+      called = (law.accepted_exactly tokens_of careless).1 careless_accepted;
+      there = refl;
+      cares = (tt, (tt, ((λ e. lit< tt), ((λ (e : 1 ≡ 0). omega (arith, e)), ((λ (e : 1 ≡ 0). omega (arith, e)), tt)))));
+      due = tt;
+      funding = record { txid = refl; index = lit< tt };
+    }
+
+    -- no: IsCareful
+    careless_of_second : (ch : ChannelBook) → IsCareful tokens_of careless 1 ch → ⊥
+    careless_of_second ch c = let l : 0 < 0 = c.cares.1.1.1.1.0 refl in omega (arith, l)
+
+    first_keeps_rules : AcceptedMeans → BooksKeepRules → EachKeepsRules (record { state = offered_book.state; releases = []; closed = None } ∷ [])
+    first_keeps_rules law keeps = keeps tokens_of careless 0 offered_book (careful_of_first law)
 
   -- a penalty that was kept is released: by `KeptAreRecorded` it is on a recorded commitment
   module _ (x : ClaimParts) (whole : IsWhole x) (is_set : is_penalty_set first_state 0 (x ∷ []) ≡ true) (fills : fill_refusal (x ∷ []) (pays 900) (rights_of first_state) [] ≡ None) where
@@ -93,7 +155,10 @@ module _ (bases theirs : BaseKeys) (seed : List ℕ) (own : IsSeedOf seed bases)
         ∷ entry 5 (Releasing 0 (batch x 900))
         ∷ []
 
-    released : holdings_of with_release ≡ record { state = first_state; releases = release x 900 ∷ []; closed = None } ∷ []
+    abbrev kept_book : ChannelBook
+    kept_book = record { state = first_state; kept = 0 ∷ []; closed = None }
+
+    released : holding_of with_release 0 kept_book ≡ record { state = first_state; releases = release x 900 ∷ []; closed = None }
     released = refl
 
     released_accepted : all_accepted tokens_of with_release ≡ true
@@ -107,13 +172,14 @@ module _ (bases theirs : BaseKeys) (seed : List ℕ) (own : IsSeedOf seed bases)
     all_whole = (tt, (tt, (tt, (tt, ((whole, tt), ((whole, tt), tt))))))
 
     -- yes: IsCareful
-    careful_release : AcceptedMeans → KeptAreRecorded → IsCareful tokens_of with_release
+    careful_release : AcceptedMeans → KeptAreRecorded → IsCareful tokens_of with_release 0 kept_book
     careful_release law recorded = record {
       called = release_called law;
-      cares = (tt, (lit< tt, (tt, (tt, (tt, ((record { value = omega arith; script = omega arith }, tt), tt))))));
-      due = (((recorded tokens_of with_release 0 _ x (release_called law) all_whole refl (record { seat = 1; number = 0; set = x ∷ []; kept = (4, lit< tt, refl); within = (0, lit< tt, refl) }), tt), tt), tt);
-      fundings = (record { txid = refl; index = lit< tt }, tt);
+      there = refl;
+      cares = (tt, ((λ e. lit< tt), (tt, (tt, (tt, ((λ e. (record { value = omega arith; script = omega arith }, tt)), tt))))));
+      due = ((recorded tokens_of with_release 0 kept_book x (release_called law) all_whole refl (record { seat = 1; number = 0; set = x ∷ []; kept = (4, lit< tt, refl); within = (0, lit< tt, refl) }), tt), tt);
+      funding = record { txid = refl; index = lit< tt };
     }
 
     keep_rules_too : AcceptedMeans → KeptAreRecorded → BooksKeepRules → EachKeepsRules (record { state = first_state; releases = release x 900 ∷ []; closed = None } ∷ [])
-    keep_rules_too law recorded keeps = keeps tokens_of with_release (careful_release law recorded)
+    keep_rules_too law recorded keeps = keeps tokens_of with_release 0 kept_book (careful_release law recorded)

@@ -2,6 +2,7 @@
 use Rattle.std.proofs.Common.{◌≡◌, ℕ, ◌+◌, ◌^◌, ◌<◌, ◌≤◌, ◌==◌, if◌then◌else◌, Bool, true, false, List, [], ◌∷◌, length, Option, Some, None, refl, sym, ap, ◌∙◌, subst, ⊎_elim, arith}
 use Rattle.std.specs.Prelude.{slice_get}
 use Rattle.std.specs.List.{AllByRecursion, Contains, cons_option}
+use Rattle.std.proofs.lemmas.Bool.{eqb-true}
 use Rattle.std.proofs.lemmas.Option.{same_Some, none-some, slice_get_within}
 use Rattle.tx.specs.Parts.{IsOutput}
 use Rattle.keys.specs.Derivation.{point_of}
@@ -140,16 +141,16 @@ module _ (laws : Laws) (history : List Entry) (c : ℕ) (ch : ChannelBook) (fund
       }
 
   -- all that entries release in the channel
-  pub all_rightful : (es : List Entry) → AllByRecursion (λ e. TakesCare e.call) es → AllByRecursion (IsDue it) (releases_in c es) → AllByRecursion (IsRightful it) (releases_in c es)
+  pub all_rightful : (es : List Entry) → AllByRecursion (λ e. TakesCare c e.call) es → AllByRecursion (IsDue it) (releases_in c es) → AllByRecursion (IsRightful it) (releases_in c es)
   all_rightful [] f d = tt
   all_rightful (e ∷ es) f d = by e.call f.0 d (λ rest. all_rightful es f.1 rest)
     where
-      by : (call : Call) → TakesCare call → AllByRecursion (IsDue it) (cons_option (release_by c call) (releases_in c es)) → (AllByRecursion (IsDue it) (releases_in c es) → AllByRecursion (IsRightful it) (releases_in c es))
+      by : (call : Call) → TakesCare c call → AllByRecursion (IsDue it) (cons_option (release_by c call) (releases_in c es)) → (AllByRecursion (IsDue it) (releases_in c es) → AllByRecursion (IsRightful it) (releases_in c es))
           → AllByRecursion (IsRightful it) (cons_option (release_by c call) (releases_in c es))
-      by (Releasing d batch) g due others = here (d == c) due
+      by (Releasing d batch) g due others = here (d == c) refl due
         where
-          here : (b : Bool) → AllByRecursion (IsDue it) (cons_option (if b then Some (record { claims = batch.claims; outputs = batch.outputs }) else None) (releases_in c es))
+          here : (b : Bool) → (d == c) ≡ b → AllByRecursion (IsDue it) (cons_option (if b then Some (record { claims = batch.claims; outputs = batch.outputs }) else None) (releases_in c es))
               → AllByRecursion (IsRightful it) (cons_option (if b then Some (record { claims = batch.claims; outputs = batch.outputs }) else None) (releases_in c es))
-          here true due = (rightful batch g due.0, others due.1)
-          here false due = others due
+          here true at due = (rightful batch (g (eqb-true d c at)) due.0, others due.1)
+          here false at due = others due
       by call g due others = others due

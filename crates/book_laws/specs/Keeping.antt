@@ -1,5 +1,5 @@
--- That the channels of a book keep the rules of `safety`, and what is asked of the book's owner.
-use Rattle.std.specs.Prelude.{◌≡◌, ℕ, ◌<◌, true, List, Some, slice_get}
+-- That a channel of a book keeps the rules of `safety`, and what is asked of the book's owner in that channel.
+use Rattle.std.specs.Prelude.{◌≡◌, ℕ, ◌<◌, true, List, [], ◌∷◌, Some, slice_get}
 use Rattle.std.specs.List.{AllByRecursion, Contains}
 use Rattle.tx.specs.Parts.{IsOutput}
 use Rattle.chain.specs.Blocks.{Contents as Block}
@@ -18,33 +18,34 @@ use Rattle.book.specs.declared.calls.Step.TheVariants.{Own}
 use Rattle.book.specs.declared.calls.Call.{Call}
 use Rattle.book.specs.declared.calls.Call.TheVariants.{Step as Stepping, Release as Releasing}
 use Rattle.book.specs.declared.calls.Entry.{Entry}
-use Rattle.book.specs.Books.{ChannelBook, fundings_of, replay}
+use Rattle.book.specs.Books.{ChannelBook, replay}
 use Rattle.book.specs.Penalties.{claimable_at}
 use Rattle.book.specs.Accepted.{AreWhole, IsHistory}
 use Rattle.book.specs.Releasing.{IsKeptIn}
-use Rattle.book_laws.specs.Holdings.{holding_of, holdings_of}
+use Rattle.book_laws.specs.Holdings.{releases_in, holding_of}
 
 -- ---- what is asked
 
--- a call takes care: an HTLC that it offers expires above 0, and the outputs that it pays keep the limits of an output, as their type ensures
-abbrev pub TakesCare : Call → Type 0
-TakesCare (Stepping c (Own (Offer amount_msat hash expiry_height))) = 0 < expiry_height
-TakesCare (Releasing c batch) = AllByRecursion IsOutput batch.outputs
-TakesCare call = Unit {0}
+-- a call takes care of a channel: an HTLC that it offers there expires above 0, and the outputs that it pays from there keep the limits of an output, as their type ensures
+abbrev pub TakesCare : ℕ → Call → Type 0
+TakesCare c (Stepping d (Own (Offer amount_msat hash expiry_height))) = d ≡ c → 0 < expiry_height
+TakesCare c (Releasing d batch) = d ≡ c → AllByRecursion IsOutput batch.outputs
+TakesCare c call = Unit {0}
 
--- A history of calls, whatever the peers sent, in which the node took care. Each claim that it released in a channel is on what a recorded commitment of the channel gives it. The funding outputs have ids of 32 bytes
--- and indices of 32 bits, as their types ensure
-pub record IsCareful (tokens_of : Signing) (history : List Entry) : Type 0 where
+-- A history of calls, whatever the peers sent, in which the node took care of one channel, whatever it did in others. Each claim that it released there is on what a recorded commitment of the channel gives it. The funding
+-- output has an id of 32 bytes and an index of 32 bits, as their types ensure
+pub record IsCareful (tokens_of : Signing) (history : List Entry) (c : ℕ) (ch : ChannelBook) : Type 0 where
   pub called : IsHistory tokens_of history
-  pub cares : AllByRecursion (λ e. TakesCare e.call) history
-  pub due : AllByRecursion (λ h. AllByRecursion (λ r. AllByRecursion (IsOnRecorded h) r.claims) h.releases) (holdings_of history)
-  pub fundings : AllByRecursion IsOutPoint (fundings_of (replay history))
+  pub there : slice_get (replay history) c ≡ Some ch
+  pub cares : AllByRecursion (λ e. TakesCare c e.call) history
+  pub due : AllByRecursion (λ r. AllByRecursion (IsOnRecorded (holding_of history c ch)) r.claims) (releases_in c history)
+  pub funding : IsOutPoint ch.state.held.terms.funding
 
 -- ---- what holds
 
--- each channel keeps the rules, and no two are on one funding output
+-- the channel keeps the rules
 abbrev pub BooksKeepRules : Type 0
-BooksKeepRules = (tokens_of : Signing) (history : List Entry) → IsCareful tokens_of history → EachKeepsRules (holdings_of history)
+BooksKeepRules = (tokens_of : Signing) (history : List Entry) (c : ℕ) (ch : ChannelBook) → IsCareful tokens_of history c ch → EachKeepsRules (holding_of history c ch ∷ [])
 
 -- what a revoked commitment of a channel's peer lets the node claim is on that commitment as the channel recorded it
 abbrev pub ClaimablesAreRecorded : Type 0
@@ -58,9 +59,9 @@ KeptAreRecorded =
     (tokens_of : Signing) (history : List Entry) (c : ℕ) (ch : ChannelBook) (x : ClaimParts) → IsHistory tokens_of history → AreWhole history → slice_get (replay history) c ≡ Some ch
     → IsKeptIn c history x → IsOnRecorded (holding_of history c ch) x
 
--- so each stands on a chain as `safety` says of one node against everybody
+-- so it stands on a chain as `safety` says of one node against everybody: the chain is a ledger of this channel's outputs, and on the inputs that name them nobody forged a token of the node's
 abbrev pub BooksStand : Type 0
 BooksStand =
-    (tokens_of : Signing) (history : List Entry) (blocks : List Block) → IsCareful tokens_of history
-    → IsLedgerOf (locks_by (holdings_of history)) (outputs_by (holdings_of history)) blocks → are_own (holdings_of history) blocks ≡ true
-    → (h : Holding) → Contains (holdings_of history) h → IsFunded blocks (terms_in h) → ChannelStands (holdings_of history) blocks h
+    (tokens_of : Signing) (history : List Entry) (c : ℕ) (ch : ChannelBook) (blocks : List Block) → IsCareful tokens_of history c ch
+    → (h : Holding) → holding_of history c ch ≡ h → IsLedgerOf (locks_by (h ∷ [])) (outputs_by (h ∷ [])) blocks → are_own (h ∷ []) blocks ≡ true → IsFunded blocks (terms_in h)
+    → ChannelStands (h ∷ []) blocks h

@@ -11,14 +11,14 @@ use book::laws::{
 use channel::laws::{sides_are_sound, what_is_signed};
 use safety::laws::{due_places, one_against_everybody, what_commitments_have, what_is_recorded};
 
-/// The holdings of a history are one for each channel that it leaves, in the order in which they were opened, and each release of the history stands in that of its channel.
+/// Each release of a history stands in the holding of its channel.
 pub fn holdings_are_complete()
     ensures { HoldingsAreComplete }
 {}
 
-/// Each channel of a book keeps the rules, over every history of its calls, whatever the peers send. What is asked of the history: each claim that it releases in a channel is on what a recorded commitment of the
-/// channel gives the node; each HTLC that it offers expires above 0; and values are of their types. What a revoked commitment lets the node claim is on such a commitment, and so is each claim of a penalty set
-/// that the channel keeps.
+/// A channel of a book keeps the rules, over every history of its calls that takes care of it, whatever the node does in other channels and whatever the peers send. What is asked of the history: each claim that it releases in
+/// this channel is on what a recorded commitment of the channel gives the node; each HTLC that it offers there expires above 0; and values are of their types. What a revoked commitment lets the node claim is on such a
+/// commitment, and so is each claim of a penalty set that the channel keeps.
 pub fn books_keep_rules()
     ensures rules { BooksKeepRules }
     ensures revoked { ClaimablesAreRecorded }
@@ -35,7 +35,7 @@ pub fn books_keep_rules()
     due_places();
 }
 
-/// One node against everybody, for the channels of a book. On a chain that is a ledger of their outputs, and on which each token of a key of the node's is one that it gave out, each channel stands as
+/// One node against everybody, for a channel of a book. On a chain that is a ledger of its outputs, and on which each token of a key of the node's in the inputs that name them is one that it gave out, the channel stands as
 /// `one_against_everybody` of `safety` says.
 pub fn books_stand()
     ensures { BooksStand }
@@ -44,10 +44,10 @@ pub fn books_stand()
     one_against_everybody();
 }
 
-/// The balance of a node with a book is there on each of its channels, over every history of its calls, whatever the peers send and whatever blocks hold. What is asked of the history is that the node took care of what it
-/// releases and offers. Of the chain it is that it is a ledger of the channels' outputs, and that in the inputs which name such outputs each token of a key of the node's is one that it gave out. Of the channel it is that
-/// its funding output is what the terms say. Where the node closed the channel itself two things more are asked: in those inputs stands no token of the revocation key of a newest own commitment, and the HTLC base keys of
-/// the channel's sides are two.
+/// The balance of a node with a book is there on a channel, over every history of its calls, whatever the peers send, whatever blocks hold, and whatever became of its other channels. What is asked of the history is that
+/// the node took care of what it releases and offers in this channel. Of the chain it is that it is a ledger of the channel's outputs, and that in the inputs which name such outputs each token of a key of the node's is one
+/// that it gave out. Of the channel it is that its funding output is what the terms say. Where the node closed the channel itself two things more are asked: in those inputs stands no token of the revocation key of the newest
+/// own commitment, and the HTLC base keys of the channel's sides are two.
 pub fn books_have_balances()
     ensures { BooksHaveBalances }
 {

@@ -1,4 +1,4 @@
--- What is due is in hand in each channel of a careful history.
+-- What is due is in hand in a channel of which a history takes care.
 use Rattle.std.proofs.Common.{◌≡◌, ℕ, List, length, Some, refl}
 use Rattle.std.specs.Prelude.{slice_get}
 use Rattle.std.specs.List.{AllByRecursion}
@@ -10,16 +10,14 @@ use Rattle.channel.specs.Peers.{IsLived}
 use Rattle.channel.specs.Learning.{SidesLearn}
 use Rattle.channel.specs.Recording.{SidesNumber}
 use Rattle.channel.specs.States.{Signing}
-use Rattle.safety.specs.Holdings.{Holding, KeepsRules}
+use Rattle.safety.specs.Holdings.{Holding}
 use Rattle.safety.specs.Places.{KnownPlaces}
-use Rattle.safety.proofs.Lists.{contained}
-use Rattle.safety.proofs.Own.{kept_one}
 use Rattle.book.specs.declared.calls.Entry.{Entry}
 use Rattle.book.specs.Books.{ChannelBook, is_kept, replay}
 use Rattle.book.specs.Knowing.{IsKnownOf}
 use Rattle.book.specs.Lived.{ChannelsAreLived, BasesAreOwn}
-use Rattle.book_laws.specs.Holdings.{holding_of, holdings_of, HoldingsAreComplete}
-use Rattle.book_laws.specs.Keeping.{IsCareful, BooksKeepRules}
+use Rattle.book_laws.specs.Holdings.{holding_of}
+use Rattle.book_laws.specs.Keeping.{BooksKeepRules}
 use Rattle.due_laws.specs.Knowing.{IsKnownTo}
 use Rattle.due_laws.specs.Verdicts.{ClosersAreJudged}
 use Rattle.due_laws.specs.Counting.{DuesAreCounted}
@@ -29,12 +27,6 @@ use Rattle.due_laws.proofs.Recorded.{recorded}
 use Rattle.due_laws.specs.Books.{BooksHaveDues, BookDuesAreRecorded}
 
 -- ---- what is asked of a channel
-
-rules : HoldingsAreComplete → BooksKeepRules → (tokens_of : Signing) (history : List Entry) → IsCareful tokens_of history → (c : ℕ) (ch : ChannelBook) → slice_get (replay history) c ≡ Some ch
-    → KeepsRules (holding_of history c ch)
-rules complete keep tokens_of history careful c ch there =
-    let h = holding_of history c ch in
-    kept_one (holdings_of history) (keep tokens_of history careful) h (contained (holdings_of history) c h (complete.channels history c ch there))
 
 told : (history : List Entry) (c : ℕ) (ch : ChannelBook) (preimages : List (List ℕ)) (known : Known) → IsKnownOf ch.state (is_kept ch.kept) preimages known → AreNumbered known.revoked
     → AllByRecursion (λ x. length x ≡ 32) known.preimages → IsKnownTo (holding_of history c ch) known
@@ -56,11 +48,11 @@ told history c ch preimages known is numbered long = record {
   preimages = long;
 }
 
-pub books_have_dues : BasesAreOwn → HoldingsAreComplete → BooksKeepRules → ClosersAreJudged → DuesAreCounted → DuesAreFillable → FillingsPass → BooksHaveDues
-books_have_dues bases complete keep judged counted fillable pass tokens_of history careful c ch there preimages known is numbered long =
+pub books_have_dues : BasesAreOwn → BooksKeepRules → ClosersAreJudged → DuesAreCounted → DuesAreFillable → FillingsPass → BooksHaveDues
+books_have_dues bases keep judged counted fillable pass tokens_of history c ch careful preimages known is numbered long =
     let h : Holding = holding_of history c ch in
-    let r = rules complete keep tokens_of history careful c ch there in
-    let owns : OwnsBases h = bases history c ch there in
+    let r = (keep tokens_of history c ch careful).each.0 in
+    let owns : OwnsBases h = bases history c ch careful.there in
     let w = told history c ch preimages known is numbered long in
     record { judged = judged h r known w; counted = counted h r known w; fillable = fillable h r owns known w; pass = pass h r owns known w }
 

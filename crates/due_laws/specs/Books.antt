@@ -39,11 +39,11 @@ pub record AreInHand (h : Holding) (known : Known) : Type 0 where
   pub pass : (blocks : List Block) (claims : List ClaimParts) (outputs : List Output) → MayBeFilled known blocks claims outputs → KeepLimits blocks (filling_of claims outputs known.preimages)
       → (transaction_refusal (empty_block ∷ blocks) (filling_of claims outputs known.preimages) ≡ None) ⊎ HasTwinOn blocks (filling_of claims outputs known.preimages)
 
--- So it is in each channel that a careful history of a book's calls leaves, by what the book tells of it with any preimages. Of values it says what their types say: the i-th revoked commitment has number i, and a preimage
+-- So it is in each channel of which a history of a book's calls takes care, by what the book tells of it with any preimages. Of values it says what their types say: the i-th revoked commitment has number i, and a preimage
 -- has 32 bytes
 abbrev pub BooksHaveDues : Type 0
 BooksHaveDues =
-    (tokens_of : Signing) (history : List Entry) → IsCareful tokens_of history → (c : ℕ) (ch : ChannelBook) → slice_get (replay history) c ≡ Some ch
+    (tokens_of : Signing) (history : List Entry) (c : ℕ) (ch : ChannelBook) → IsCareful tokens_of history c ch
     → (preimages : List (List ℕ)) (known : Known) → IsKnownOf ch.state (is_kept ch.kept) preimages known → AreNumbered known.revoked → AllByRecursion (λ x. length x ≡ 32) known.preimages
     → AreInHand (holding_of history c ch) known
 

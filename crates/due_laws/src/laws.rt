@@ -8,7 +8,7 @@ ghost use Rattle.due_laws.specs.Recorded.{DuesAreRecorded};
 ghost use Rattle.due_laws.specs.Verdicts.{ClosersAreJudged};
 
 use book::laws::what_channels_have;
-use book_laws::laws::{books_keep_rules, holdings_are_complete};
+use book_laws::laws::books_keep_rules;
 use channel::laws::{sides_are_sound, what_is_signed};
 use claim::laws::accepted_claims_spend;
 use filling::laws::fillings_fit;
@@ -53,14 +53,13 @@ pub fn fillings_pass()
     dues_are_fillable();
 }
 
-/// What is due to a node with a book is in hand in each channel, over every history of its calls, whatever the peers send. The verdict on whatever may close the channel is the right one, and what is due by it is exactly what
-/// the node counts on. The channel's signer can fill each of these claims with the preimages that are known, and a transaction that fills some of them passes the next block as a whole. What is asked of the history is that
-/// the node took care of what it releases and offers.
+/// What is due to a node with a book is in hand in a channel, over every history of its calls that takes care of it, whatever the node does in other channels and whatever the peers send. The verdict on whatever may close the
+/// channel is the right one, and what is due by it is exactly what the node counts on. The channel's signer can fill each of these claims with the preimages that are known, and a transaction that fills some of them passes the
+/// next block as a whole.
 pub fn books_have_dues()
     ensures { BooksHaveDues }
 {
     what_channels_have();
-    holdings_are_complete();
     books_keep_rules();
     what_is_due_is_counted();
     dues_are_fillable();

@@ -1,13 +1,12 @@
 -- A side of a world takes the care that is asked of a book.
-use Rattle.std.proofs.Common.{◌≡◌, ℕ, suc, ◌+◌, ◌==◌, if◌then◌else◌, Bool, true, false, List, [], ◌∷◌, Some, None, refl, sym, ap, ◌∙◌, subst, arith}
+use Rattle.std.proofs.Common.{◌≡◌, ℕ, ◌==◌, if◌then◌else◌, Bool, true, false, List, [], ◌∷◌, Some, None, refl, sym, ap, ◌∙◌, subst}
 use Rattle.std.specs.Prelude.{slice_get}
 use Rattle.std.specs.List.{AllByRecursion, Contains, cons_option}
 use Rattle.std.proofs.lemmas.Bool.{eqb-true}
 use Rattle.std.proofs.lemmas.Option.{same_Some}
-use Rattle.tx.specs.declared.input.OutPoint.{OutPoint}
 use Rattle.claim.specs.Claims.{ClaimParts}
 use Rattle.channel.specs.Tokens.{peer_tokens}
-use Rattle.safety.specs.Holdings.{Holding, IsOnRecorded, on_own, on_peers}
+use Rattle.safety.specs.Holdings.{IsOnRecorded, on_own, on_peers}
 use Rattle.safety.specs.Recorded.{IsOutPoint}
 use Rattle.safety.specs.Taken.{GrantsAreOutPoints}
 use Rattle.safety.proofs.Slots.{contains_first, contains_later}
@@ -15,11 +14,10 @@ use Rattle.book.specs.declared.calls.Batch.{Batch}
 use Rattle.book.specs.declared.calls.Call.{Call}
 use Rattle.book.specs.declared.calls.Call.TheVariants.{Release as Releasing}
 use Rattle.book.specs.declared.calls.Entry.{Entry}
-use Rattle.book.specs.Books.{ChannelBook, Channels, fundings_of, replay}
+use Rattle.book.specs.Books.{ChannelBook, replay}
 use Rattle.book.specs.Accepted.{IsHistory}
-use Rattle.book_laws.specs.Holdings.{release_by, releases_in, holding_of, holdings_of}
+use Rattle.book_laws.specs.Holdings.{release_by, releases_in, holding_of}
 use Rattle.book_laws.specs.Keeping.{BooksKeepRules, ClaimablesAreRecorded}
-use Rattle.book_laws.proofs.Complete.{all_held}
 use Rattle.book_laws.proofs.Released.{IsDue}
 use Rattle.world.specs.Worlds.{Node}
 use Rattle.world.specs.Sources.{IsDueOf, of_own, of_peers, of_revoked, IsDueIn, IsSide}
@@ -31,13 +29,9 @@ all_mapped : {X : Type 0} (P Q : X → Type 0) → ((x : X) → P x → Q x) →
 all_mapped P Q f [] h = tt
 all_mapped P Q f (x ∷ xs) h = (f x h.0, all_mapped P Q f xs h.1)
 
-fundings_from : (P : OutPoint → Type 0) (chs : Channels) → ((c : ℕ) (ch : ChannelBook) → slice_get chs c ≡ Some ch → P ch.state.held.terms.funding) → AllByRecursion P (fundings_of chs)
-fundings_from P [] f = tt
-fundings_from P (ch ∷ chs) f = (f 0 ch refl, fundings_from P chs (λ c x e. f (suc c) x e))
-
 -- ---- one side
 
-module _ (revoked_are : ClaimablesAreRecorded) (grants : GrantsAreOutPoints) (n : Node) (called : IsHistory peer_tokens n.history) (side : IsSide n) where
+module _ (revoked_are : ClaimablesAreRecorded) (n : Node) (called : IsHistory peer_tokens n.history) where
   on_recorded : (c : ℕ) (ch : ChannelBook) (x : ClaimParts) → slice_get (replay n.history) c ≡ Some ch → IsDueOf ch.state x → IsOnRecorded (holding_of n.history c ch) x
   on_recorded c ch x there (of_own m k preimages at i) = on_own m k at preimages i
   on_recorded c ch x there (of_peers m k preimages at i) = on_peers m k at preimages i
@@ -48,7 +42,7 @@ module _ (revoked_are : ClaimablesAreRecorded) (grants : GrantsAreOutPoints) (n 
       subst (λ (b : ChannelBook). IsOnRecorded (holding_of n.history c b) x) (same_Some d.ch ch (sym d.there ∙ there)) (on_recorded c d.ch x d.there d.due)
 
   -- what entries release in a channel, if each release of theirs is due
-  released : (c : ℕ) (ch : ChannelBook) → slice_get (replay n.history) c ≡ Some ch → (es : List Entry)
+  pub released : (c : ℕ) (ch : ChannelBook) → slice_get (replay n.history) c ≡ Some ch → (es : List Entry)
       → ((seat : ℕ) (batch : Batch) → Contains es (record { seat = seat; call = Releasing c batch }) → AllByRecursion (IsDueIn n.history c) batch.claims)
       → AllByRecursion (IsDue (holding_of n.history c ch)) (releases_in c es)
   released c ch there [] f = tt
@@ -69,20 +63,16 @@ module _ (revoked_are : ClaimablesAreRecorded) (grants : GrantsAreOutPoints) (n 
           here false at = rest
       by call same rest = rest
 
-  pub all_due : AllByRecursion (λ (h : Holding). AllByRecursion (IsDue h) h.releases) (holdings_of n.history)
-  all_due =
-      all_held (λ (h : Holding). AllByRecursion (IsDue h) h.releases) n.history 0 (replay n.history)
-      (λ c ch there. let m : c ≡ 0 + c = omega arith in
-      subst (λ (i : ℕ). AllByRecursion (IsDue (holding_of n.history i ch)) (releases_in i n.history)) m (released c ch there n.history (λ seat batch i. side.due seat c batch i)))
-
-  pub fundings : AllByRecursion IsOutPoint (fundings_of (replay n.history))
-  fundings = fundings_from IsOutPoint (replay n.history) (λ c ch e. subst IsOutPoint (sym (side.opened c ch e).1) (grants c))
-
 -- ---- its rules
 
 pub sides_are_careful : ClaimablesAreRecorded → GrantsAreOutPoints → SidesAreCareful
-sides_are_careful revoked_are grants n c =
-    record { called = c.called; cares = c.cares; due = all_due revoked_are grants n c.called c.side; fundings = fundings revoked_are grants n c.called c.side }
+sides_are_careful revoked_are grants n c ch caring = record {
+  called = caring.called;
+  there = caring.there;
+  cares = caring.cares;
+  due = released revoked_are n caring.called c ch caring.there n.history (λ seat batch i. caring.side.due seat c batch i);
+  funding = subst IsOutPoint (sym (caring.side.opened c ch caring.there).1) (grants c);
+}
 
 pub sides_keep_rules : BooksKeepRules → ClaimablesAreRecorded → GrantsAreOutPoints → SidesKeepRules
-sides_keep_rules keeps revoked_are grants n c = keeps peer_tokens n.history (sides_are_careful revoked_are grants n c)
+sides_keep_rules keeps revoked_are grants n c ch caring = keeps peer_tokens n.history c ch (sides_are_careful revoked_are grants n c ch caring)

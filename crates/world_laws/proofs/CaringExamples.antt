@@ -1,5 +1,6 @@
 -- What is left to ask of a side, on both sides of its bounds.
-use Rattle.std.proofs.Common.{◌≡◌, ℕ, List, [], ◌∷◌, replicate, None, refl, sym, subst, arith, lit≤, lit<}
+use Rattle.std.proofs.Common.{◌≡◌, ℕ, List, [], ◌∷◌, replicate, Some, None, refl, sym, subst, arith, lit≤, lit<}
+use Rattle.std.specs.Prelude.{slice_get}
 use Rattle.std.specs.List.{AllByRecursion, Contains}
 use Rattle.std.proofs.lemmas.Option.{none-some}
 use Rattle.updates.specs.declared.changes.OwnUpdate.TheVariants.{Offer}
@@ -17,9 +18,9 @@ use Rattle.book.specs.declared.calls.Step.TheVariants.{Own}
 use Rattle.book.specs.declared.calls.Call.{Call}
 use Rattle.book.specs.declared.calls.Call.TheVariants.{Open, Step as Stepping, Release as Releasing}
 use Rattle.book.specs.declared.calls.Entry.{Entry}
-use Rattle.book.specs.Books.{ChannelBook}
+use Rattle.book.specs.Books.{ChannelBook, replay}
 use Rattle.book.specs.Accepted.{IsHistory}
-use Rattle.book_laws.specs.Holdings.{holdings_of}
+use Rattle.book_laws.specs.Holdings.{holding_of}
 use Rattle.book_laws.specs.Keeping.{TakesCare}
 use Rattle.side.specs.declared.due.DueClaim.{DueClaim}
 use Rattle.world.specs.Worlds.{Line, Node, IsNode}
@@ -80,27 +81,36 @@ line_of_no_channel line n = let e = n.lines in omega (arith, e)
 
 -- ---- what is asked of it
 
-module _ (n : Node) (o : Opening) (x : ClaimParts) (called : IsHistory peer_tokens n.history) (side : IsSide n) where
-  -- the side opens a channel, offers an HTLC that expires at 1, and releases a claim for all bitcoins
+module _ (n : Node) (o : Opening) (x : ClaimParts) (ch : ChannelBook) (called : IsHistory peer_tokens n.history) (side : IsSide n) (there : slice_get (replay n.history) 0 ≡ Some ch) where
+  -- the side opens a channel, offers an HTLC that expires at 1, and releases a claim for all bitcoins; in another channel it offers one that expires at 0, and releases one for more than that
   abbrev least : List Entry
-  least = entry (Open o) ∷ entry (Stepping 0 (Own (Offer 1000 (replicate 32 9) 1))) ∷ entry (Releasing 0 (batch x 2100000000000000)) ∷ []
+  least =
+      entry (Open o)
+      ∷ entry (Stepping 0 (Own (Offer 1000 (replicate 32 9) 1)))
+      ∷ entry (Releasing 0 (batch x 2100000000000000))
+      ∷ entry (Stepping 1 (Own (Offer 1000 (replicate 32 9) 0)))
+      ∷ entry (Releasing 1 (batch x 2100000000000001))
+      ∷ []
 
   -- yes: IsCaring
-  just : n.history ≡ least → IsCaring n
+  just : n.history ≡ least → IsCaring n 0 ch
   just e = record {
     called = called;
     side = side;
-    cares = subst (AllByRecursion (λ (e : Entry). TakesCare e.call)) (sym e) (tt, (lit< tt, ((record { value = omega arith; script = omega arith }, tt), tt)));
+    there = there;
+    cares =
+        subst (AllByRecursion (λ (e : Entry). TakesCare 0 e.call)) (sym e)
+        (tt, ((λ e. lit< tt), ((λ e. (record { value = omega arith; script = omega arith }, tt)), ((λ (e : 1 ≡ 0). omega (arith, e)), ((λ (e : 1 ≡ 0). omega (arith, e)), tt)))));
   }
 
-  -- so it keeps the rules
-  keeps_rules : SidesKeepRules → n.history ≡ least → EachKeepsRules (holdings_of n.history)
-  keeps_rules law e = law n (just e)
+  -- so the channel keeps the rules
+  keeps_rules : SidesKeepRules → n.history ≡ least → EachKeepsRules (holding_of n.history 0 ch ∷ [])
+  keeps_rules law e = law n 0 ch (just e)
 
   -- no: IsCaring
-  until_zero : n.history ≡ entry (Open o) ∷ entry (Stepping 0 (Own (Offer 1000 (replicate 32 9) 0))) ∷ [] → IsCaring n → ⊥
-  until_zero e c = let late = (subst (AllByRecursion (λ (e : Entry). TakesCare e.call)) e c.cares).1.0 in omega (arith, late)
+  until_zero : n.history ≡ entry (Open o) ∷ entry (Stepping 0 (Own (Offer 1000 (replicate 32 9) 0))) ∷ [] → IsCaring n 0 ch → ⊥
+  until_zero e c = let late = (subst (AllByRecursion (λ (e : Entry). TakesCare 0 e.call)) e c.cares).1.0 refl in omega (arith, late)
 
   -- no: IsCaring
-  above_all_bitcoins : n.history ≡ entry (Releasing 0 (batch x 2100000000000001)) ∷ [] → IsCaring n → ⊥
-  above_all_bitcoins e c = let low = (subst (AllByRecursion (λ (e : Entry). TakesCare e.call)) e c.cares).0.0.value in omega (arith, low)
+  above_all_bitcoins : n.history ≡ entry (Releasing 0 (batch x 2100000000000001)) ∷ [] → IsCaring n 0 ch → ⊥
+  above_all_bitcoins e c = let low = ((subst (AllByRecursion (λ (e : Entry). TakesCare 0 e.call)) e c.cares).0 refl).0.value in omega (arith, low)
