@@ -298,8 +298,8 @@ def named(told: dict[str, Any]) -> Iterator[tuple[dict[str, Any], tuple[str, int
     first, late = asked["outputs"]
     wanted, key = first["slots"][0][1], told["terms"]["keys"]["remote_htlcpubkey"]
     fee = wanted_plan(told, {**asked, "outputs": [late], "preimages": [], "feerate_per_kw": 1000}, [0], 501)["fee"]
-    shell = "02000000" + "01" + late["outpoint"][:64] + "02000000" + "00" + "00000000" + "00" + "00000000"
-    fixed = {**late, "shell": shell}
+    shell = "02000000" + "01" + first["outpoint"][:64] + "01000000" + "00" + "00000000" + "00" + "00000000"
+    fixed = {**first, "shell": shell}
     measured = keyed_claim(told, "82014288", 2000)
     time = "no claim waits for a time: here lock times are heights, and ages are blocks"
     kept = "preimages has none whose SHA-256 is"
@@ -308,7 +308,7 @@ def named(told: dict[str, Any]) -> Iterator[tuple[dict[str, Any], tuple[str, int
     at_a_time, after_a_time = keyed_claim(told, "040065cd1db175", 2000), keyed_claim(told, "03010040b275", 2000)
     more = "outputs[1].slots[0]: the path asks for more of this signature than that it is valid: size 0 66 yes"
     yield {**asked, "outputs": [first, late, late]}, ("SameOutpoint", 5), ["outputs[2]: outputs[1] is the same one"]
-    yield {**asked, "outputs": [first, fixed]}, ("FixedTransaction", 4), ["outputs[1].shell: wanted: null"]
+    yield {**asked, "outputs": [late, fixed]}, ("FixedTransaction", 4), ["outputs[1].shell: wanted: null"]
     yield {**asked, "outputs": [first, measured]}, ("MeasuredSignature", 6), [more]
     yield (
         {**asked, "outputs": [late, first], "preimages": ["01" * 32]},
