@@ -264,10 +264,23 @@ def program(name):
     return os.path.abspath([*glob.glob(f"{room}/proved/{sources}.*"), *glob.glob(f"{room}/unproved/{sources}.*")][0])
 
 
+def noted(words, printed):
+    """What `trace scenario` writes on standard error: the notes of its first line, and after --strict the first refused event."""
+    if words[0] != "scenario":
+        return ""
+    lines = [json.loads(it) for it in printed.splitlines()]
+    notes = lines[0].get("notes") or lines[0].get("opening", {}).get("notes", [])
+    refused = [it for it in lines if it.get("answer", "").startswith("refused ")]
+    if "--strict" in words and refused:
+        why = refused[0]["answer"].removeprefix("refused ")
+        notes = [*notes, f"event {refused[0]['event']} is the first that was refused, {why}"]
+    return "".join(f"note: {it}\n" for it in notes)
+
+
 def is_told(command, words, given, printed, status):
     """Whether a call prints and returns this."""
     path, text = (given, None) if given in (ENDLESS, UNREADABLE) else (None, given if isinstance(given, bytes) else given.encode())
-    wanted = ("", printed, 2) if status == 2 else (printed, "", status)
+    wanted = ("", printed, 2) if status == 2 else (printed, noted(words, printed), status)
     fd = os.open(path, os.O_RDONLY) if path else None
     ran = subprocess.run([command, *words], **({"stdin": fd} if path else {"input": text}), capture_output=True)
     if path:

@@ -37,6 +37,8 @@ FEW_KEYS, MANY_KEYS = (f"0000{'7675' * pairs}{swap}21{KEY}{'76' * 19}0114ae" for
 # an item that is a preimage and true, one that is true and a preimage, and one of two bytes
 HASH = "5a" * 20
 HASHED, TRUE, BYTES = f"76a914{HASH}88", f"766368a914{HASH}87", "7602aabb88"
+# the greatest lock time (BIP 68 and 113 count seconds in 32 bits)
+LAST_SECOND = 0xFFFFFFFF
 # absolute locks of the greatest lock time and of the next number, which have 5 bytes; relative ones of no, one and two units of time, and of one block
 LAST, NEVER = "05ffffffff00b17551", "050000000001b17551"
 UNITS, BLOCK = [f"030{count}0040b27551" for count in range(3)], "51b27551"
@@ -188,8 +190,11 @@ def fact_object(line):
         one.update(role="when", value=n)
         if kind == "lock":
             at_time = f"once the median time past is above {n} seconds since 1970 (BIP 113)"
-            never = "never: no transaction has a lock time above 4294967295"
-            one["says"] = f"in block {n + 1} at the earliest" if n < 500_000_000 else at_time if n < 1 << 32 else never
+            past = "never: no median time past is above 4294967295 (BIP 113)"
+            never = past if n == LAST_SECOND else "never: no transaction has a lock time above 4294967295"
+            one["says"] = (
+                f"in block {n + 1} at the earliest" if n < 500_000_000 else at_time if n < LAST_SECOND else never
+            )
         else:
             count, unit = n & 0xFFFF, "unit of 512 seconds of median time past (BIP 68)" if n >> 22 & 1 else "block"
             several = f"after {count} " + unit.replace("unit", "units").replace("block", "blocks")
