@@ -10,6 +10,28 @@ from real.lib.penalties import State
 RELAYED_FEERATE, CHILDREN = 253, 24
 # a fee that is above this part of what it is paid from
 DEAR = 10
+# the field of the curve (SEC 2, 2.4.1)
+FIELD = 2**256 - 2**32 - 977
+
+
+def is_curve_x(bytes_of_x: bytes) -> bool:
+    """Whether a point of the curve has this x coordinate (BIP 340)."""
+    x = int.from_bytes(bytes_of_x, "big")
+    return x < FIELD and pow(x**3 + 7, (FIELD - 1) // 2, FIELD) == 1
+
+
+def destination_notes(program: bytes) -> Iterator[str]:
+    """Of a program that anybody can spend, or nobody (BIPs 141, 341)."""
+    version = program[0] - 0x50
+    if not 1 <= version <= 16:
+        return
+    if version > 1 or len(program) != 34:
+        yield (
+            f"destination: anyone can spend from it today: no rule stands yet for witness version {version} with"
+            f" {len(program) - 2} bytes"
+        )
+    elif not is_curve_x(program[2:]):
+        yield "destination: its 32 bytes are no key of the curve: nobody can spend from it (BIP 341)"
 
 
 def is_kept(state: State, found: list[dict[str, Any]]) -> bool:
@@ -27,6 +49,7 @@ def is_kept(state: State, found: list[dict[str, Any]]) -> bool:
 def notes_of(state: State, found: list[dict[str, Any]]) -> Iterator[str]:
     """The notes, in their order."""
     sent = [it for it in found[:-1] if it["answer"] == penalties.TAKEN]
+    yield from destination_notes(state.destination)
     if is_kept(state, found):
         yield (
             "with anchors the owner may add inputs to this HTLC transaction, which gives it another id and makes this"

@@ -192,9 +192,11 @@ def check_input(plan: Plan, index: int, digests: Digests) -> None:
 
 def members(pairs: list[tuple[str, Any]]) -> dict[str, Any]:
     """The members of a JSON object. Each stands there once."""
-    found = dict(pairs)
-    if len(found) != len(pairs):
-        raise ValueError
+    found: dict[str, Any] = {}
+    for name, value in pairs:
+        if name in found:
+            raise Refused("NotJson", f"the member {ascii(name[:40])} stands twice in its object")
+        found[name] = value
     return found
 
 

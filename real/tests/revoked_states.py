@@ -27,6 +27,17 @@ REVOCATION, REVOCATION_PRIVATE = (
 # the secrets of Appendix C's base points, each a byte that is repeated
 PRIVATES = {"revocation": 0x22, "payment": 0x44, "htlc": 0x44, "owner_delayed": 0x33, "owner_htlc": 0x11}
 DESTINATION = "0014" + "c7" * 20
+# how the notes on destinations begin: of the generator's x coordinate (SEC 2) a key of the curve is made, and 5 is the x
+# coordinate of no point
+ANYONE, NOBODY = "destination: anyone can spend from it today", "destination: its 32 bytes are no key of the curve"
+DESTINATION_NOTES = {
+    "5220" + "11" * 32: ANYONE,
+    "5103c7c7c7": ANYONE,
+    "512079be667ef9dcbbac55a06295ce870b07029bfcdb2dce28d959f2815b16f81798": "",
+    "5120" + "00" * 31 + "05": NOBODY,
+    "5120" + "ff" * 32: NOBODY,
+    DESTINATION: "",
+}
 HEIGHT = 501
 # BOLT 3, "Dust Limits": the least value of an output by its kind; and what Bitcoin Core's policy has of taproot and of
 # the shortest witness program

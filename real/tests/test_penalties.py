@@ -5,7 +5,7 @@ import json
 from collections.abc import Callable
 from typing import Any
 
-from real.lib import commitment_number, derivation, penalties
+from real.lib import commitment_number, derivation, penalties, penalty_notes
 from real.lib.errors import Refused
 from real.lib.transaction import Input, Output, hash160, read_transaction
 from real.tests import bolt3
@@ -16,6 +16,7 @@ from real.tests.revoked_states import (
     DERIVED,
     DERIVED_PRIVATE,
     DESTINATION,
+    DESTINATION_NOTES,
     DUST_SAT,
     HEIGHT,
     NO_ADDRESSES,
@@ -686,6 +687,13 @@ class PenaltiesTest(CurveCase):
         for start, given, holds in rows:
             found = notes_of(given, self.curve, self.trace)
             self.check(any(it.startswith(start) for it in found) == holds, f"a note that begins {start!r}: {found}")
+
+    def test_destination_notes(self) -> None:
+        """A program that anyone can spend, or nobody, has its note, and no other has one."""
+        for program, start in DESTINATION_NOTES.items():
+            found = list(penalty_notes.destination_notes(bytes.fromhex(program)))
+            is_right = [it[: len(start)] for it in found] == [start] * bool(start)
+            self.check(is_right, f"the notes on a destination {program}: {found}")
 
     def refuses(self, name: str, make: Callable) -> None:
         """Whether a call is refused by this name."""
