@@ -29,6 +29,8 @@ import room as rooms
 
 # How often a round is checked again, in part.
 AGAIN = 3
+# The types of the language that an impl can be of.
+PRIMITIVES = {*"bool char str u8 u16 u32 u64 u128 usize i8 i16 i32 i64 i128 isize".split()}
 # The words of items, through which a body can be more than code of its own.
 ITEMS = {*"fn impl struct enum trait mod const static use type macro_rules".split()}
 Token = collections.namedtuple("Token", "line start end kind text")
@@ -65,8 +67,18 @@ def end_of(row, at):
             return at
 
 
-def owner(head):
-    """The type of an impl and what the check calls the impl: by the type, and then by its trait with the names of its arguments. None for the type where there is a trait."""
+def self_name(words, parameters):
+    """What the check calls a type that is no path: an array by its element and length, a tuple by its length, a type of the language with a great letter."""
+    if words[:1] == ["["]:
+        return "Array" + "".join(it[:1].upper() + it[1:] for it in words if re.fullmatch(r"\w+", it) and it not in parameters)
+    if words[:1] == ["("]:
+        return f"Tuple{words.count(',') + 1}"
+    return words[0][:1].upper() + words[0][1:] if words and words[0] in PRIMITIVES else None
+
+
+def owner(head, words):
+    """The type of an impl and what the check calls the impl: by the type, and then by its trait with the names of its arguments. None for the type where there is a trait, or where it has arguments. words: all that
+    stands behind the trait."""
     depth, names, parameters, arguments = 0, [""], set(), []
     for before, it in zip(["", *head], head):
         depth += (it == "<") - (it == ">" and before not in ("-", "="))
@@ -76,11 +88,13 @@ def owner(head):
             names.append("")
         elif depth == 0 and re.fullmatch(r"\w+", it):
             names[-1] = it
-        elif depth == 1 and not names[0] and before in ("<", ","):
+        elif depth == 1 and not names[0] and before in ("<", ",", "const"):
             parameters.add(it)
         elif depth > 0 and names[0] and len(names) == 1 and it not in parameters and re.fullmatch(r"\w+|\(", it):
             arguments.append("Unit" if it == "(" else it)
-    return (names[0], names[0]) if len(names) == 1 else (None, "".join([names[1], names[0], *arguments]))
+    if len(names) == 1:
+        return (names[0], names[0]) if not arguments else (None, "+".join([names[0], *arguments]))
+    return None, "".join([self_name(words, parameters) or names[1], names[0], *arguments])
 
 
 @functools.lru_cache(maxsize=8)
@@ -105,22 +119,24 @@ def module_of(file):
 def plain_functions(row, at, end, path, types):
     """The plain functions among the items between these places, each with the places of its body. types: the modules of the crate's types, by which the methods of their own are called."""
     while at < end:
-        first, head, attributes = at, [], []
+        first, head, places, attributes = at, [], [], []
         while at < end and code(row[at]) == "#":
             close = end_of(row, at + 2 if code(row[at + 1]) == "!" else at + 1)
             attributes += map(code, row[at:close])
             at = close
         while at < end and code(row[at]) not in ("{", ";"):
             head.append(code(row[at]))
+            places.append(at)
             at = end_of(row, at)
         if at >= end:
             return
+        words = [*map(code, row[places[head.index("for")] + 1 : at])] if "for" in head else []
         close, is_block = end_of(row, at), code(row[at]) == "{"
         head = [it for before, it in zip(["", *head], head) if it not in ("pub", "") and (before, it) != ("pub", "(")]
         if is_block and head[:1] == ["mod"]:
             yield from plain_functions(row, at + 1, close - 1, (*path, head[1]), types)
         elif is_block and head[:1] == ["impl"]:
-            of_type, name = owner(head[1:])
+            of_type, name = owner(head[1:], words)
             yield from plain_functions(row, at + 1, close - 1, (*types.get(of_type, path), name), types)
         elif is_block and head[:1] == ["fn"] and "cycle" not in attributes and not ITEMS & {*map(code, row[at:close])}:
             body = [(it.kind, it.text) for it in row[at:close]]
