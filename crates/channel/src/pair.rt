@@ -21,8 +21,8 @@ use std::marker::Model;
 use terms::Side;
 use updates::ChannelError;
 
-/// Two channels of one value of the terms, each with a queue of parcels that are on their way to it. A contract sees it as a `Connection`: one that steps of two
-/// honest peers and cuts reach from a new channel.
+/// The two sides of a channel, with the same terms. Each has a queue of the parcels on their way to it. A contract sees a pair as a `Connection` that two
+/// honest peers reach from a new channel by steps and cuts.
 #[derive(Drop)]
 pub struct Pair {
     a: Channel,

@@ -83,7 +83,7 @@ impl Claim {
         }
     }
 
-    /// A copy, which counts as made by the call that made this claim. The only error is that memory ran out.
+    /// A copy, accepted as this claim is.
     pub fn copy(&self) -> Result<Self, AllocError>
         ensures { IfOk result (λ c. c ≡ self.now) }
     {

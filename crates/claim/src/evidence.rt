@@ -210,7 +210,7 @@ fn has_choice(known: Option<[u8; 32]>, slots: &[Slot], places: &[usize], keys: &
     taken == places.len()
 }
 
-// Whether a slot is shown to be the token of none of the keys.
+// Whether the evidence refuses a slot as the token of each key.
 fn is_refused(known: Option<[u8; 32]>, slots: &[Slot], place: usize, keys: &[KeySource]) -> bool
     ensures { result ≡ list_all (λ key. is_no (token_evidence known slots.now place key)) keys.now }
 {
@@ -218,7 +218,7 @@ fn is_refused(known: Option<[u8; 32]>, slots: &[Slot], place: usize, keys: &[Key
         .all(|key| is_no(token_evidence(known, slots, place, key)))
 }
 
-// Whether some slot is shown to be the token of none of the keys.
+// Whether the evidence refuses one of the slots for each key.
 fn has_refused(
     known: Option<[u8; 32]>,
     slots: &[Slot],
@@ -233,7 +233,7 @@ fn has_refused(
         .any(|place| is_refused(known, slots, *place, keys))
 }
 
-// Whether it is shown, for each key, that the slot is its token or that it is not.
+// Whether the evidence decides, for each key, if the slot holds its token.
 fn is_decided(known: Option<[u8; 32]>, slots: &[Slot], place: usize, keys: &[KeySource]) -> bool
     ensures { result ≡ list_all (λ key. is_some (token_evidence known slots.now place key))
         keys.now }

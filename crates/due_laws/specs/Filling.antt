@@ -13,7 +13,7 @@ use Rattle.channel.specs.Rights.{rights_of}
 use Rattle.safety.specs.Holdings.{Holding, terms_in, KeepsRules}
 use Rattle.due_laws.specs.Knowing.{IsKnownTo}
 
--- the base keys of the side are those of its seed, as `Book::open` asks
+-- the base keys of the side are those of its seed, as `Opening::new` asks
 abbrev pub OwnsBases : Holding → Type 0
 OwnsBases h = IsSeedOf h.state.seed (party h.state.held.side (terms_in h)).bases
 

@@ -93,7 +93,7 @@ fn offered(rt: &impl Abort, a: &mut Book, expiry_height: u32) -> Message {
     sent.expect(rt, "a message")
 }
 
-// What a book answers to a message.
+/// What a book answers to a message.
 pub fn answer(rt: &impl Abort, book: &mut Book, message: Message) -> Option<Message> {
     take(book, message).expect(rt, "taken")
 }

@@ -65,7 +65,7 @@ fn resume(channel: &Channel, hello: &Reestablish) -> Result<Option<Vec<Message>>
     }
 }
 
-// How many messages a side sends again.
+/// How many messages a side sends again.
 pub fn resent(rt: &impl Abort, channel: &Channel, hello: &Reestablish) -> usize {
     let messages = resume(channel, hello).expect(rt, "an answer");
     messages.expect(rt, "messages").len()

@@ -186,7 +186,7 @@ impl Constant {
         }
     }
 
-    /// Whether it is known to be empty or not: false only for the hole of a number.
+    /// Whether it is decided here if the item is empty: not for a number that the witness gives.
     pub fn is_clear_extra(&self) -> bool
         ensures { result ≡ is_clear_extra_in self.now }
     {

@@ -84,8 +84,8 @@ pub fn what_is_signed()
     ensures token { OneToken }
 {}
 
-/// Only the peer may sign with its keys. Where its base keys are of one seed, no signer of another seed may sign with one of them, whatever points and secrets it
-/// learnt. The one exception: a byte string that one of the two hashes for its keys collides with one of the other's.
+/// Only the peer may sign with its keys: if its base keys are of one seed, a signer of another seed never signs with one of them, whatever points and secrets it learns.
+/// Otherwise a byte string that the one signer hashes for its keys collides with one of the other signer's.
 pub fn only_the_peer_signs()
     ensures { OnlyPeerSigns }
 {}
@@ -158,7 +158,7 @@ pub fn due_places()
     ensures known { KnownPlaces }
 {}
 
-/// An outpoint that is of two commitments is that of one output of one transaction; or what is hashed for the one commitment collides with what is hashed for the other.
+/// Two commitments that share an outpoint are one transaction, and share one output of it. Otherwise a byte string hashed for the one collides with one hashed for the other.
 pub fn one_output()
     ensures { OneOutput }
 {}
@@ -175,10 +175,10 @@ pub fn what_commitments_spend()
     ensures outputs { HtlcTransactionsSpendOutputs }
 {}
 
-/// What takes an output that a revoked commitment lets the owner's peer claim:
-/// - A claim of the owner's, on what a commitment of the owner's gives it, takes it by the HTLC's transaction, or after the delay on to_local's form.
-/// - An HTLC transaction of such a commitment takes it if it is that of the HTLC whose output it is.
-/// - Nothing that is on a commitment of the peer's own takes it, nor on one of another channel. No commitment does, since it spends a grant.
+/// Who can take an output of a revoked commitment that the owner's peer can claim:
+/// - The owner takes it by a claim of its own on that commitment: by the HTLC's transaction, or after the delay on to_local's form.
+/// - An HTLC transaction of that commitment takes it if the output is that of its HTLC.
+/// - No claim on the peer's own commitments takes it, and none of another channel. No commitment takes it, since a commitment spends a grant.
 ///
 /// Otherwise named byte strings collide. Two commitments of one side with one number have to be one.
 pub fn who_takes()

@@ -247,8 +247,8 @@ impl Reader {
     ghost use Rattle.claim.specs.Claims.{IsWhole};
     ghost use Rattle.side.specs.Reading.{IsInStep, begun, numbers_to_ask, with_answer, IsRead};
 
-    /// A reader that has read nothing yet: the funding output and the watch of each channel, as many of the one as of the other, and the preimages that blocks showed before. The only error is
-    /// that memory ran out.
+    /// A reader that has read no block. It takes the funding output and the watch of each channel, in the channels' order, and the preimages that earlier
+    /// blocks showed.
     pub fn new(
         alloc: Global,
         fundings: Vec<OutPoint>,
@@ -269,8 +269,8 @@ impl Reader {
         })
     }
 
-    /// The channels, in increasing order, of which to ask what is known before a block is read. These have no answer yet, and a transaction that spends the funding output was read or is in the
-    /// block. The only error is that memory ran out.
+    /// The channels whose book has to say what it knows before this block is read, in increasing order. None of them has an answer yet, and a transaction
+    /// that spends the funding output was read before or is in this block.
     pub fn to_ask(&self, alloc: Global, block: &Block) -> Result<Vec<u64>, AllocError>
         ensures exact { IfOk result (λ v. v.items ≡ numbers_to_ask 0 self.now.fundings self.now.seen
             self.now.knowns (reverse block.now.transactions)) }

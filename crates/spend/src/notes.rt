@@ -21,7 +21,7 @@ use streams::written;
 // The least feerate that nodes pass on by default: one satoshi for a virtual byte.
 const RELAYED_FEERATE_PER_KW: u32 = 253;
 
-// The fee is dear where it is above one part of so many.
+// A fee above a tenth of the value that is spent gets a note.
 const DEAR: u128 = 10;
 
 // Writes notes, if there are any and none was lost. Where that fails, nothing else changes.

@@ -75,8 +75,8 @@ fn spends(input: &TxIn, output: &OutPoint) -> bool
     input.outpoint == *output
 }
 
-/// The number of the commitment that a transaction is by its form: its only input spends the funding output, and its lock time and
-/// sequence are those of the number. `None` where the transaction does not have this form.
+/// Reads a commitment's number from its lock time and its sequence (BOLT 3, Commitment Transaction). `None` if the transaction has more inputs than one,
+/// if that input does not spend the funding output, or if these fields do not have this form.
 pub fn number_of(terms: &Terms, tx: &Tx) -> Option<u64>
     ensures { (n : ℕ) → (result ≡ Some n) ↔ HasNumber terms.now tx.now n }
 {
