@@ -22,7 +22,9 @@ TOP = os.path.dirname(os.path.dirname(os.path.abspath(__file__)))
 
 # ---- opcodes
 
-CHECKSIGADD, PUSHDATA4 = 0xBA, 0x4E
+CHECKSIGADD, PUSHDATA4, LOCK = 0xBA, 0x4E, 0xB1
+# the field of secp256k1
+FIELD = 2**256 - 2**32 - 977
 KNOWN = {*range(0x4C), *range(0x51, 0x61), 0x63, 0x64, 0x67, 0x68, 0x75, 0x76, 0x7C, 0x82, 0x87, 0x88, 0xA9, 0xAC, 0xAE, 0xB1, 0xB2}
 
 
@@ -46,9 +48,9 @@ def opcode_rows():
 
 # ---- branches that end by a stricter rule
 
-KEY = "02" + "11" * 32
+KEY = "02" + "12" * 32
 OTHER = "03" + "22" * 32
-THIRD = "02" + "55" * 32
+THIRD = "02" + "44" * 32
 DER = "300602010102010101"
 LONG = "04" + "11" * 32 + "22" * 32
 NO_KEY = "no key here (a key has 33 bytes, and begins with 02 or 03)"
@@ -226,6 +228,43 @@ def time_note(lock):
     return f"path 0 waits until the median time past is above {lock}: its lock is a time, in seconds since 1970 (BIP 113)"
 
 
+def doubt_of(n):
+    """What is said of a lock time that holds nobody up, or nearly for ever. Block 481,824 is the first to which BIP 141 applies; its time is 1,503,539,857. 2100 begins with 4,102,444,800."""
+    if n < (481_824 if n < 500_000_000 else 1_503_539_857):
+        return "holds nobody up: Bitcoin had passed it before it had witness scripts (BIP 141); CHECKSEQUENCEVERIFY waits a number of blocks"
+    if 5_000_000 < n < 500_000_000:
+        return f"waits for a height that is some {(n - 900_000) // 52_560} years away: from 500000000 on a number is a time (BIP 65)"
+    return "waits until after the year 2099" if 4_102_444_800 <= n < 2**32 - 1 else None
+
+
+def doubt_notes(code):
+    """What is noted of the absolute locks of a script, by the number that is pushed right before each."""
+    found = opcodes(bytes.fromhex(code))
+    for at, (item, op) in enumerate(zip(found, found[1:]), 1):
+        n = int.from_bytes(item, "little") if isinstance(item, bytes) and len(item) <= 5 else -1
+        if op == LOCK and n >= 0 and item == bitcoin.number_item(n) and doubt_of(n):
+            yield f"opcode {at}, CHECKLOCKTIMEVERIFY of {n}, {doubt_of(n)}"
+
+
+def is_point(x):
+    """Whether a point of secp256k1 has this x coordinate (SEC 2, 2.4.1)."""
+    return x < FIELD and pow(x**3 + 7, (FIELD - 1) // 2, FIELD) == 1
+
+
+def key_rows():
+    """A signature of a key whose x coordinate is drawn, or next to a bound: half of them are of no point. The same key twice in a CHECKMULTISIG, by a number and by a push of it."""
+    drawn = random.Random(7)
+    for x in [0, 1, 2, 3, FIELD - 1, FIELD, FIELD + 1, 2**256 - 1, *(drawn.getrandbits(256) for _ in range(60))]:
+        key = f"{2 + x % 2:02x}{x:064x}"
+        yield f"{push(key)}ac", [f"opcode 0: {key} is no point of the curve: nobody can sign for this key"] * (not is_point(x))
+    twice = "CHECKMULTISIG, has a key twice: one signature counts for both"
+    for keys in ([KEY, OTHER, KEY], [KEY, KEY], [KEY, OTHER, THIRD], [KEY, *(f"02{x:064x}" for x in list(filter(is_point, range(1, 99)))[:16])]):
+        at = len(keys) + 2
+        yield f"52{''.join(map(push, keys))}{number(len(keys))}ae", [f"opcode {at}, {twice}"] * (len(set(keys)) < len(keys))
+    # what is no key of this CHECKMULTISIG is not compared
+    yield f"{push(KEY)}7551{push(KEY)}{push(OTHER)}52ae", []
+
+
 def lock_rows():
     """A CHECKSEQUENCEVERIFY of each bit alone, of 0, of the greatest numbers of two, four and five bytes, and of ages with further bits; then a signature."""
     bits = [1 << bit for bit in range(39)]
@@ -239,10 +278,14 @@ def lock_rows():
     # lock times: the greatest that a median time past is above, the greatest of 4 bytes, one more, the greatest of 5 bytes, and of two paths the second
     beyond = "a lock time has 4 bytes, so it is at most 4294967295"
     never = "nobody can ever spend by path 0: its lock time is 4294967295, and no median time past is above that (BIP 113)"
-    for n in (500, 499_999_999, 500_000_000, 2**32 - 2, 2**32 - 1, 2**32, 2**39 - 1):
+    # the bytes of 5,000,001 to 5,000,012 in the other order are a usual height
+    bounds = (481_824, 500_000_000, 1_503_539_857, 4_102_444_800)
+    for n in (0, 500, 5_000_000, 5_000_013, *(it for bound in bounds for it in (bound - 1, bound)), 2**32 - 2, 2**32 - 1, 2**32, 2**39 - 1):
         beyond_or_never = [f"no transaction has the lock time of path 0: {beyond}"] * (n >= 2**32) + [never] * (n == 2**32 - 1)
-        yield f"{number(n)}b175{push(KEY)}ac", beyond_or_never + [time_note(n)] * (500_000_000 <= n < 2**32 - 1)
-    yield f"6351{number(499)}b17567{number(2**32)}b1755168", [f"no transaction has the lock time of path 1: {beyond}", "anyone can spend by path 0: no signature of a key that the script fixes is asked for"]
+        code = f"{number(n)}b175{push(KEY)}ac"
+        yield code, [*beyond_or_never, *doubt_notes(code), *[time_note(n)] * (500_000_000 <= n < 2**32 - 1)]
+    code = f"6351{number(499)}b17567{number(2**32)}b1755168"
+    yield code, [f"no transaction has the lock time of path 1: {beyond}", "anyone can spend by path 0: no signature of a key that the script fixes is asked for", *doubt_notes(code)]
 
 
 # ---- what consensus takes
@@ -379,6 +422,8 @@ def spender_notes(facts, slots):
         yield "a key is taken by its hash on path 0: by consensus, though not by relay policy, an uncompressed key with that hash is taken too"
     if any(kind in ("token", "assigned") and ("hash", slot) in held for kind, slot in held):
         yield "a signature with a given hash is asked for on path 0: what it signs has that hash in it, so nobody can ever make one"
+    if any(kind in ("token", "assigned") and {("size", slot), ("is", slot)} & {*held} for kind, slot in held):
+        yield "a signature of a given size, or with given bytes, is asked for on path 0: here it is a token of 66 bytes, and in Bitcoin it has 71 or 72 mostly, so the path may be met by nobody"
 
 
 def wait_notes(facts):
@@ -405,14 +450,15 @@ def pair_rows():
                 (code, asked), (more, then) = fact_opcodes(one), fact_opcodes(other)
                 slots = [0] * len(asked) + [len(swap) // 2] * len(then)
                 facts = asked + then
-                notes = []
+                notes, script = [], "76" + "75" + code + swap + more + "75" * (1 + len(swap) // 2) + "51"
                 for at, fact in enumerate(facts):
                     before = [n for n in range(at) if (slots[n] == slots[at] or fact[0] in ("lock", "age")) and contradict(facts[n], fact)]
                     if before:
                         notes = [note_of(facts[before[0]], fact, (text(facts[before[0]], slots[before[0]]), text(fact, slots[at])))]
                         break
-                notes = notes or [*spender_notes(facts, slots), *wait_notes(facts)]
-                yield "76" + "75" + code + swap + more + "75" * (1 + len(swap) // 2) + "51", [text(fact, slot) for fact, slot in zip(facts, slots)], notes
+                waits = [] if notes else wait_notes(facts)
+                notes = [*(notes or spender_notes(facts, slots)), *doubt_notes(script), *waits]
+                yield script, [text(fact, slot) for fact, slot in zip(facts, slots)], notes
 
 
 # ---- scenarios
@@ -579,7 +625,7 @@ def names_dead_ends(code, ran):
 def main():
     os.chdir(TOP)
     command = program("enforce")
-    scripts = [*opcode_rows(), *((code, with_dead_ends(code, notes)) for code, notes in [*ENDS, *lock_rows()])]
+    scripts = [*opcode_rows(), *((code, with_dead_ends(code, notes)) for code, notes in [*ENDS, *lock_rows(), *key_rows()])]
     pairs = [(code, facts, with_dead_ends(code, notes)) for code, facts, notes in pair_rows()]
     texts = [(json.dumps(value), [note]) for value, note in scenario_rows()]
     # the place of what is no JSON, in a text of as many bytes as there may be; one more byte is not looked at

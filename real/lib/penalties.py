@@ -17,6 +17,9 @@ VERSION, SEQUENCE = 2, 0
 # the longest signature that is made: DER with a low s, and the hash type
 SIGNATURE_SIZE = 72
 BASE_SIZE, MARKER_SIZE, INPUT_SIZE = 8, 2, 41
+# the greatest weight that nodes pass on (Bitcoin Core, MAX_STANDARD_TX_WEIGHT), and what two more bytes of a number of
+# inputs weigh
+MAX_WEIGHT, COUNT_WEIGHT = 400_000, 8
 # Bitcoin Core's default feerate for dust, and the sizes that it takes for the input that spends an output
 # (GetDustThreshold)
 DUST_FEERATE_PER_KVB, PLAIN_INPUT_SIZE, WITNESS_INPUT_SIZE = 3_000, 148, 67
@@ -285,15 +288,28 @@ def is_joined(it: Take, state: State, signing: dict[bytes, bytes]) -> bool:
     return is_safe and input_weight(it.known) * state.feerate_per_kw <= 1000 * it.output.value
 
 
+def packs(takes: list[Take], destination: bytes) -> list[list[Take]]:
+    """As few transactions as take outputs in their order, none of them heavier than nodes pass on."""
+    room = MAX_WEIGHT - weight_of([], destination) - COUNT_WEIGHT
+    found: list[list[Take]] = []
+    left = 0
+    for it in takes:
+        weight = input_weight(it.known)
+        if not found or weight > left:
+            found, left = [*found, []], room
+        found[-1].append(it)
+        left -= weight
+    return found
+
+
 def batches(takes: list[Take], state: State, signing: dict[bytes, bytes], is_one: bool) -> list[list[Take]]:
-    """One transaction for each output. Or one for all that can be joined, unless they have too little together, and
-    one for each other output. The dearest stands first.
+    """One transaction for each output. Or one for all that can be joined, more where one is too heavy, unless they have
+    too little together, and one for each other output. The dearest stands first.
     """
-    joined = [it for it in takes if is_one and is_joined(it, state, signing)]
-    if unsigned_transaction(state, joined)[0] is None:
-        joined = []
-    places = {it.index for it in joined}
-    found = ([joined] if joined else []) + [[it] for it in takes if it.index not in places]
+    joined = packs([it for it in takes if is_one and is_joined(it, state, signing)], state.destination)
+    joined = [it for it in joined if unsigned_transaction(state, it)[0] is not None]
+    places = {each.index for it in joined for each in it}
+    found = joined + [[it] for it in takes if it.index not in places]
     return sorted(found, key=lambda it: -sum(each.output.value for each in it))
 
 

@@ -8,7 +8,8 @@ from collections.abc import Iterator
 from typing import Any
 
 from real.lib.errors import NotRun
-from real.lib.transaction import Input, Output, Transaction, sha256, shown_id
+from real.lib.ripemd160 import ripemd160
+from real.lib.transaction import Input, Output, Transaction, compact_size, sha256, shown_id
 from real.tests import bolt3
 
 TOP = os.path.dirname(os.path.dirname(os.path.dirname(os.path.abspath(__file__))))
@@ -240,7 +241,8 @@ def givens(told: dict[str, Any]) -> Iterator[tuple[dict[str, Any], tuple[str, in
     ):
         yield {**paying, "outputs": [{**late, "value": value}], "feerate_per_kw": 1000}, None, notes
     key = told["terms"]["keys"]["remote_htlcpubkey"]
-    for destination in ("5103" + "11" * 3, "6003" + "11" * 3, "5220" + "11" * 32, *(it for it, _ in DUST)):
+    curve = "5120" + "12" * 32
+    for destination in ("5103" + "11" * 3, "6003" + "11" * 3, "5220" + "11" * 32, curve, *(it for it, _ in DUST)):
         yield {**paying, "destination": destination}, None, destination_notes(destination)
     cut = [it[:-2] for it, _ in DUST] + [
         "0014" + "11" * 19,
@@ -282,10 +284,9 @@ def destination_notes(destination: str) -> list[str]:
     if not 0x51 <= code <= 0x60:
         return []
     if (code, size) == (0x51, 32):
-        return [
-            "destination: it is not tested whether its 32 bytes are a key of the curve: if they are none, nobody can"
-            " spend from it (BIP 341)"
-        ]
+        # no point has the x coordinate of 11 in each byte; one has that of 12
+        off_curve = destination[4:] == "11" * 32
+        return ["destination: its 32 bytes are no key of the curve: nobody can spend from it (BIP 341)"] * off_curve
     return [
         "destination: anyone can spend from it today: no rule stands yet for witness version"
         f" {code - 0x50} with {size} bytes"
@@ -354,6 +355,84 @@ def conditions(told: dict[str, Any]) -> Iterator[tuple[dict[str, Any], list[str]
     minimal = "outputs[0].slots[0]: nodes pass on no IF or NOTIF of anything but the empty item and 01 (minimal IF)"
     for item, notes in (("01", []), ("02", [minimal]), ("0100", [minimal])):
         yield {**asked, "outputs": [{**output, "slots": [["exact", item], ["sig", key]]}], "preimages": []}, notes
+
+
+def scripted_claim(script: str, slots: list[list[str]], value: int, place: int = 0) -> dict[str, Any]:
+    """A claim on an output of this script, by its first path."""
+    program = "0020" + sha256(bytes.fromhex(script)).hex()
+    output = {"outpoint": f"{'07' * 32}:{place}", "path": 0, "program": program, "script": script}
+    return {**output, "shell": None, "slots": slots, "value": value}
+
+
+def input_cost(told: dict[str, Any], it: dict[str, Any], feerate_per_kw: int) -> int:
+    """The satoshis that the input of a claim costs at most (BIP 141)."""
+    preimages = {htlc["payment_hash"]: htlc["preimage"] for htlc in told["htlcs"]}
+    items = [SIGNATURE if item is None else bytes.fromhex(item) for item in witness_of(it, preimages)]
+    weight = 4 * 41 + len(compact_size(len(items))) + sum(len(compact_size(len(item))) + len(item) for item in items)
+    return -(-feerate_per_kw * weight // 1000)
+
+
+def waiting(told: dict[str, Any]) -> Iterator[tuple[dict[str, Any], list[int], int, list[str]]]:
+    """Plans of several outputs with unlike locks, each with its sequences, its lock time and its notes; and of equal
+    ones.
+    """
+    with_it = "and with it all that one transaction spends"
+    early = {**keyed_claim(told, "029000b275", 100_000), "outpoint": "08" * 32 + ":1"}
+    later = keyed_claim(told, "029f01b275", 100_000)
+    for asked, sequences, lock_time in requests(told):
+        late = [f"outputs[{len(asked['outputs']) - 1}] waits for a block above height 501, {with_it}"]
+        old = [f"outputs[0] waits for an age of 144 blocks, {with_it}"]
+        if len(asked["outputs"]) > 1 and asked["feerate_per_kw"] == 253:
+            yield asked, sequences, lock_time, late
+        if asked["feerate_per_kw"] == 5000:
+            yield {**asked, "feerate_per_kw": 253}, sequences, lock_time, old
+    asked, _, _ = next(requests(told))
+    paying = {**asked, "preimages": []}
+    older = [f"outputs[1] waits for an age of 415 blocks, {with_it}"]
+    yield {**paying, "outputs": [early, later]}, [144, 415], 0, older
+    yield {**paying, "outputs": [early, {**later, **keyed_claim(told, "029000b275", 100_000)}]}, [144, 144], 0, []
+    for value, notes in ((0, 1), (1, 0)):
+        cheap = {**asked["outputs"][1], "outpoint": "09" * 32 + ":2"}
+        cost = input_cost(told, cheap, 1000)
+        least = {**cheap, "value": cost - 1 + value}
+        note = f"outputs[0] has {cost - 1} satoshis, and its input costs {cost}: more is left without it"
+        both = [least, {**asked["outputs"][1], "value": 1_000_000}]
+        yield {**paying, "outputs": both, "feerate_per_kw": 1000}, [0, 0], 501, [note] * notes
+
+
+def open_to_others(told: dict[str, Any]) -> Iterator[tuple[dict[str, Any], list[str]]]:
+    """Plans of outputs that others can take, or that nobody can sign for, each with its notes."""
+    asked, _, _ = next(requests(told))
+    htlc = told["htlcs"][0]
+    key = "02" + "11" * 32
+    found = ripemd160(bytes.fromhex(htlc["payment_hash"])).hex()
+    anyone = "anyone can spend by this path: no signature of a key that the script fixes is asked for"
+    finder = (
+        "whoever sees such a witness can spend too: what has a given hash is asked for, and no signature of a key that"
+        " the script fixes"
+    )
+    nobody = f"nobody can sign for a key that is no point of the curve: {key}"
+    by_all = [scripted_claim("51", [], 1_000_000, place) for place in range(3)]
+    by_finder = scripted_claim(f"a914{found}87", [["preimage", htlc["payment_hash"]]], 1_000_000, 3)
+    by_none = [scripted_claim(f"21{key}ac", [["sig", key]], 1_000_000, place) for place in (4, 5)]
+    preimages = {"preimages": [htlc["preimage"]]}
+    for outputs, notes in (
+        (by_all[:1], [f"outputs[0]: {anyone}"]),
+        (by_all, [f"outputs[0] and 2 more: {anyone}"]),
+        ([*by_none, by_finder], [f"outputs[2]: {finder}", f"outputs[0] and 1 more: {nobody}"]),
+        (
+            [by_finder, by_all[1], by_none[0]],
+            [f"outputs[1]: {anyone}", f"outputs[0]: {finder}", f"outputs[2]: {nobody}"],
+        ),
+    ):
+        yield {**asked, **preimages, "outputs": outputs}, notes
+
+
+def no_json() -> Iterator[tuple[str, str]]:
+    """Texts that are no JSON, and where."""
+    yield "", "the text ends too early: line 1, column 0"
+    yield "{", "the text ends too early: line 1, column 1"
+    yield '{\n "outputs": [1,]}', "invalid JSON: line 2, column 16"
 
 
 def without(it: dict[str, Any], name: str) -> dict[str, Any]:
@@ -471,6 +550,8 @@ def faults(told: dict[str, Any]) -> Iterator[tuple[str, str, int, list[str]]]:
         yield text, "BadShape", 2, [note]
     for text, note in bad_claims(told):
         yield text, "BadClaim", 3, [note]
+    for text, note in no_json():
+        yield text, "NotJson", 1, [note]
 
 
 def refusals(told: dict[str, Any]) -> Iterator[tuple[str, str, int]]:

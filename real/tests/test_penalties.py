@@ -75,6 +75,17 @@ class PenaltiesTest(CurveCase):
         for name, it in zip((BASE, POINT, DERIVED, DERIVED_PRIVATE, REVOCATION, REVOCATION_PRIVATE), found):
             self.check(it.hex() == name, f"a key of BOLT 3's Appendix E: {name}")
 
+    def test_packs(self) -> None:
+        """Many outputs are taken in their order by as few transactions as nodes pass on: none has room for one more."""
+        destination, known = bytes.fromhex(DESTINATION), penalties.Known("offered", b"", bytes(133), [bytes(33)], b"")
+        takes = [penalties.Take(at, Output(1000, bytes(34)), known) for at in range(2_000)]
+        found = penalties.packs(takes, destination)
+        self.check([it.index for pack in found for it in pack] == [*range(2_000)], "each output in one transaction")
+        for pack, after in zip(found, found[1:]):
+            weights = penalties.weight_of(pack, destination), penalties.weight_of([*pack, after[0]], destination)
+            self.check(weights[0] <= 400_000 < weights[1], f"the greatest weight of a transaction: {weights}")
+        self.check(penalties.packs([], destination) == [], "no transaction of no outputs")
+
     def check_case(self, case: dict[str, Any]) -> None:
         """Each output of a case is taken on its own, the dearest first, with the value and the script of the appendix,
         its fee and its deadline.

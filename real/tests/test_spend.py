@@ -9,11 +9,13 @@ from real.tests.spend_requests import (
     givens,
     line,
     named,
+    open_to_others,
     refusals,
     requests,
     shown_request,
     spend_answer,
     spend_answers,
+    waiting,
     wanted_plan,
 )
 
@@ -52,6 +54,18 @@ class SpendTest(CheckedCase):
             found = spend_answers(line(asked))
             wanted = line(wanted_plan(self.told, asked, [0], 0)), 0
             self.check(found == (*wanted, notes), f"a plan by an IF: {found}")
+
+    def test_waiting(self) -> None:
+        for asked, sequences, lock_time, notes in waiting(self.told):
+            found = spend_answers(line(asked))
+            wanted = line(wanted_plan(self.told, asked, sequences, lock_time)), 0
+            self.check(found == (*wanted, notes), f"a plan of what waits: {found}")
+
+    def test_open_to_others(self) -> None:
+        for asked, notes in open_to_others(self.told):
+            found = spend_answers(line(asked))
+            wanted = line(wanted_plan(self.told, asked, [0] * len(asked["outputs"]), 0)), 0
+            self.check(found == (*wanted, notes), f"a plan of what others can take: {found}")
 
     def test_faults(self) -> None:
         for text, name, number, notes in faults(self.told):

@@ -31,7 +31,7 @@ pub fn note_fulfil(
 // Notes the first fulfil of a side whose preimage it does not use in another channel.
 fn note_own(notes: &mut String, channels: u64, events: &[Event]) -> Result<(), AllocError> {
     for (index, event) in events.iter().enumerate() {
-        if let Some(fulfil) = fulfil_in(event) {
+        if let Some(fulfil) = fulfil_in(channels, events, event) {
             if let Some(place) = left_in(channels, events, &fulfil) {
                 let (side, channel) = (name_of(fulfil.side), fulfil.channel);
                 return writeln!(
@@ -47,7 +47,7 @@ fn note_own(notes: &mut String, channels: u64, events: &[Event]) -> Result<(), A
 // Notes the first fulfil by which the peer learns a preimage that it does not use in another channel.
 fn note_learnt(notes: &mut String, channels: u64, events: &[Event]) -> Result<(), AllocError> {
     for (index, event) in events.iter().enumerate() {
-        if let Some(fulfil) = fulfil_in(event) {
+        if let Some(fulfil) = fulfil_in(channels, events, event) {
             let learnt = Known {
                 side: fulfil.side.other(),
                 ..fulfil
@@ -73,8 +73,26 @@ fn name_of(side: Side) -> &'static str {
     }
 }
 
+// The fulfil that an event is, if its channel is there, and the peer offers its hash in it.
+fn fulfil_in(channels: u64, events: &[Event], event: &Event) -> Option<Known> {
+    let fulfil = fulfil_of(event)?;
+    if fulfil.channel < channels && events.iter().any(|event| is_offer_of(event, &fulfil)) {
+        Some(fulfil)
+    } else {
+        None
+    }
+}
+
+// Whether an event is the offer by which the peer of a side offers the hash of its fulfil.
+fn is_offer_of(event: &Event, fulfil: &Known) -> bool {
+    match offer_in(event, fulfil.channel, fulfil.side.other()) {
+        Some(hash) => hash == fulfil.hash,
+        None => false,
+    }
+}
+
 // The fulfil that an event is.
-fn fulfil_in(event: &Event) -> Option<Known> {
+fn fulfil_of(event: &Event) -> Option<Known> {
     match event {
         Event::Own {
             side,

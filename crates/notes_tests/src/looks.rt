@@ -70,7 +70,7 @@ const PRIVATE_KEY: &str =
     "note: this looks like a private key, which nothing here asks for: it stands in the history of the shell now, so delete it there, and move what it guards to another key\n";
 
 // Texts of scripts that are not hexadecimal, and the notes on them.
-const TEXTS: [(&str, &str); 16] = [
+const TEXTS: [(&str, &str); 18] = [
     (
         "L1aW4aubDFB7yfras2S1mN3bqg9nwySY8nkoLmJebSLD5BWv3ENZ",
         PRIVATE_KEY,
@@ -89,6 +89,14 @@ const TEXTS: [(&str, &str); 16] = [
     ),
     (
         "zprvAdG4iTXWBoARxkkzNpNh8r6Qag3irQB8PzEMkAFeTRXxHpbF9z4QgEvBRmfvqWvGp42t42nvgGpNgYSJA9iefm1yYNZKEm7z6qUWCroSQnE",
+        PRIVATE_KEY,
+    ),
+    (
+        "6PRVWUbkzzsbcVac2qwfssoUJAN1Xhrg6bNk8J7Nzm5H7kxEbn2Nh2ZoGg",
+        PRIVATE_KEY,
+    ),
+    (
+        "abandon abandon abandon abandon abandon abandon abandon abandon abandon abandon abandon about",
         PRIVATE_KEY,
     ),
     (

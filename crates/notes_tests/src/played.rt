@@ -106,7 +106,7 @@ const LEARNT: &str =
     "note: event 3: B learns by this fulfil in channel 1 the preimage of an HTLC in channel 0, and does not fulfil that one: a fulfil in one channel is not known in another\n";
 
 // Events, and the notes on them.
-const FULFILS: [(&[&str], &str); 23] = [
+const FULFILS: [(&[&str], &str); 26] = [
     (&[OFFER_IN_0, OFFER_IN_1, FULFIL_IN_0, CLOSE_1], NOT_IN_1),
     (
         &[
@@ -234,6 +234,18 @@ const FULFILS: [(&[&str], &str); 23] = [
     (&[OFFER_IN_0, OFFER_OF_B, FULFIL_IN_0, CLOSE_1], ""),
     (&[OFFER_IN_0, OTHER_HASH, FULFIL_IN_0, CLOSE_1], ""),
     (&[OFFER_IN_0, OFFER_IN_0, FULFIL_IN_0, CLOSE_1], ""),
+    // nothing of this hash is offered where it is fulfilled, or that channel is not there
+    (&[OFFER_IN_1, FULFIL_IN_0, CLOSE_1], ""),
+    (&[OFFER_IN_0, BY_A_IN_1, TO_B_IN_1, CLOSE_0], ""),
+    (
+        &[
+            OFFER_IN_1,
+            ",[\"offer\",\"A\",2,12000000,\"66687aadf862bd776c8fc18b8e9f8e20089714856ee233b3902a591d0d5f2925\",60]",
+            ",[\"fulfil\",\"B\",2,0,\"0000000000000000000000000000000000000000000000000000000000000000\"]",
+            CLOSE_1,
+        ],
+        "",
+    ),
 ];
 
 // Events, and the notes on those that are not counted in threads. Channels are 0 and 1.

@@ -4,7 +4,7 @@ use crate::fixtures::{joined, noted_of};
 use std::alloc::Global;
 use std::process::Abort;
 
-const KEY: &str = "021111111111111111111111111111111111111111111111111111111111111111";
+const KEY: &str = "021212121212121212121212121212121212121212121212121212121212121212";
 
 const OTHER_KEY: &str = "022222222222222222222222222222222222222222222222222222222222222222";
 
@@ -20,13 +20,21 @@ const BEYOND: &str = ": a lock time has 4 bytes, so it is at most 4294967295\n";
 const HASHED: &str =
     ": by consensus, though not by relay policy, an uncompressed key with that hash is taken too\n";
 
+const PASSED: &str =
+    "holds nobody up: Bitcoin had passed it before it had witness scripts (BIP 141); CHECKSEQUENCEVERIFY waits a number of blocks\n";
+
+// No point of the curve has this x coordinate.
+const NO_POINT: &str = "021111111111111111111111111111111111111111111111111111111111111111";
+
+const OFF_CURVE: &str = " is no point of the curve: nobody can sign for this key\n";
+
 // A script in pieces, and the notes on it in pieces.
 struct Case {
     code: &'static [&'static str],
     notes: &'static [&'static str],
 }
 
-const RISKS: [Case; 27] = [
+const RISKS: [Case; 37] = [
     // the number 1; the empty script; IF 1 ELSE 2 ENDIF
     Case {
         code: &["51"],
@@ -105,6 +113,7 @@ const RISKS: [Case; 27] = [
     Case {
         code: &["05feffffff00b17521", KEY, "ac"],
         notes: &[
+            "note: opcode 1, CHECKLOCKTIMEVERIFY of 4294967294, waits until after the year 2099\n",
             "note: path 0 waits until the median time past is above 4294967294: its lock is a time, in seconds since 1970 (BIP 113)\n",
         ],
     },
@@ -119,12 +128,14 @@ const RISKS: [Case; 27] = [
         code: &["030cf850b17521", KEY, "ac"],
         notes: &[
             "note: opcode 1, CHECKLOCKTIMEVERIFY of 5306380: the same bytes in the other order are 850000, and a number is little-endian\n",
+            "note: opcode 1, CHECKLOCKTIMEVERIFY of 5306380, waits for a height that is some 83 years away: from 500000000 on a number is a time (BIP 65)\n",
         ],
     },
     Case {
         code: &["046ab13b10b17521", KEY, "ac"],
         notes: &[
             "note: opcode 1, CHECKLOCKTIMEVERIFY of 272347498: the same bytes in the other order are 1789999888, and a number is little-endian\n",
+            "note: opcode 1, CHECKLOCKTIMEVERIFY of 272347498, waits for a height that is some 5164 years away: from 500000000 on a number is a time (BIP 65)\n",
         ],
     },
     Case {
@@ -178,7 +189,66 @@ const RISKS: [Case; 27] = [
     },
     Case {
         code: &["04ff64cd1db17521", KEY, "ac"],
+        notes: &[
+            "note: opcode 1, CHECKLOCKTIMEVERIFY of 499999999, waits for a height that is some 9495 years away: from 500000000 on a number is a time (BIP 65)\n",
+        ],
+    },
+    // 144 CHECKLOCKTIMEVERIFY, where an age was meant; the last second before witness scripts, and the next one
+    Case {
+        code: &["029000b17521", KEY, "ac"],
+        notes: &["note: opcode 1, CHECKLOCKTIMEVERIFY of 144, ", PASSED],
+    },
+    Case {
+        code: &["0490329e59b17521", KEY, "ac"],
+        notes: &[
+            "note: opcode 1, CHECKLOCKTIMEVERIFY of 1503539856, ",
+            PASSED,
+            "note: path 0 waits until the median time past is above 1503539856: its lock is a time, in seconds since 1970 (BIP 113)\n",
+        ],
+    },
+    Case {
+        code: &["0491329e59b17521", KEY, "ac"],
+        notes: &[
+            "note: path 0 waits until the median time past is above 1503539857: its lock is a time, in seconds since 1970 (BIP 113)\n",
+        ],
+    },
+    // the first second of 2100
+    Case {
+        code: &["05005786f400b17521", KEY, "ac"],
+        notes: &[
+            "note: opcode 1, CHECKLOCKTIMEVERIFY of 4102444800, waits until after the year 2099\n",
+            "note: path 0 waits until the median time past is above 4102444800: its lock is a time, in seconds since 1970 (BIP 113)\n",
+        ],
+    },
+    // CHECKSIG of a key that is no point of the curve; the same key twice, and a hash of its form that is asked for
+    Case {
+        code: &["21", NO_POINT, "ac"],
+        notes: &["note: opcode 0: ", NO_POINT, OFF_CURVE],
+    },
+    Case {
+        code: &["6321", NO_POINT, "ac67029000b27521", NO_POINT, "ac68"],
+        notes: &["note: opcode 1: ", NO_POINT, OFF_CURVE],
+    },
+    // 1 of two keys, the second of which is none
+    Case {
+        code: &["5121", KEY, "21", NO_POINT, "52ae"],
+        notes: &["note: opcode 2: ", NO_POINT, OFF_CURVE],
+    },
+    // 2 of three keys, two of which are one, by a number and by a push of it; and one after the other
+    Case {
+        code: &["5221", KEY, "21", OTHER_KEY, "21", KEY, "53ae"],
+        notes: &["note: opcode 5, CHECKMULTISIG, has a key twice: one signature counts for both\n"],
+    },
+    Case {
+        code: &["21", KEY, "755121", KEY, "21", OTHER_KEY, "52ae"],
         notes: &[],
+    },
+    // a signature of 66 bytes
+    Case {
+        code: &["8201428821", KEY, "ac"],
+        notes: &[
+            "note: a signature of a given size, or with given bytes, is asked for on path 0: here it is a token of 66 bytes, and in Bitcoin it has 71 or 72 mostly, so the path may be met by nobody\n",
+        ],
     },
 ];
 

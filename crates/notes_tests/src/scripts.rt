@@ -8,7 +8,7 @@ use std::process::Abort;
 const LONG_KEY: &str =
     "0411111111111111111111111111111111111111111111111111111111111111112222222222222222222222222222222222222222222222222222222222222222";
 
-const KEY: &str = "021111111111111111111111111111111111111111111111111111111111111111";
+const KEY: &str = "021212121212121212121212121212121212121212121212121212121212121212";
 
 // A signature in strict DER, of 9 bytes.
 const DER: &str = "300602010102010101";
@@ -88,7 +88,7 @@ const EXACT: [(&str, &str); 13] = [
     ),
     // an extra item that is not empty, and a signature that is not in DER
     (
-        "51002102111111111111111111111111111111111111111111111111111111111111111151ae",
+        "51002102121212121212121212121212121212121212121212121212121212121212121251ae",
         "it ends at opcode 4, where 01 (1 byte) is the extra item of CHECKMULTISIG, which has to be empty (BIP 147)",
     ),
     (
@@ -163,8 +163,8 @@ const UNMET: [(&str, &str); 7] = [
     ),
     // a height and a time
     (
-        "02f401b175040065cd1db17551",
-        "note: no witness meets path 0: 'lock 500' and 'lock 500000000' contradict each other\n",
+        "0350f80cb17504103bb16ab17551",
+        "note: no witness meets path 0: 'lock 850000' and 'lock 1789999888' contradict each other\n",
     ),
     // DUP IF ENDIF IF 1 ELSE 1 ENDIF
     (
@@ -173,7 +173,7 @@ const UNMET: [(&str, &str); 7] = [
     ),
     // SIZE 65 EQUALVERIFY, and a signature
     (
-        "8201418821021111111111111111111111111111111111111111111111111111111111111111ac",
+        "8201418821021212121212121212121212121212121212121212121212121212121212121212ac",
         "note: by the rules of this profile no witness meets path 0, since a signature has 66 bytes: 'size 0 65 yes' and 'form 0' contradict each other\n",
     ),
 ];

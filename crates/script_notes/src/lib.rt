@@ -17,7 +17,9 @@
 
 mod calls;
 mod conflicts;
+mod curve;
 mod dead_ends;
+mod keys;
 mod looks;
 mod names;
 mod pushes;
@@ -28,5 +30,6 @@ mod sizes;
 mod unknowns;
 
 pub use calls::call_notes;
+pub use curve::is_curve_x;
 pub use scripts::notes;
 pub use strictness::is_der;

@@ -1,6 +1,7 @@
-// Notes on what endangers money: paths that others can take too, locks that ask for less than they say, locks whose bytes seem to be turned round, and locks by time.
+// Notes on what endangers money: paths that others can take too, keys that nobody can sign for, locks that ask for less than they say or hold nobody up, locks whose bytes seem to be turned round, and locks by time.
 
 use crate::conflicts::conflict_in;
+use crate::keys::{note_points, note_repeated_keys};
 use facts::{Fact, Stated};
 use paths::{Checked, Path};
 use script::Op;
@@ -8,12 +9,18 @@ use script::limits::LOCKTIME_THRESHOLD;
 use std::alloc::{AllocError, Global};
 use std::fmt::Write;
 use warnings::{
-    LockWarning, SequenceLock, Taker, TurnedLock, greatest_units, has_unreachable_lock,
-    is_offered_htlc, lock_warnings, taker_of, takes_hashed_key, turned_locks,
+    DoubtfulLock, LockDoubt, LockWarning, SequenceLock, Taker, TurnedLock, doubtful_locks,
+    greatest_units, has_unreachable_lock, is_offered_htlc, lock_warnings, taker_of,
+    takes_hashed_key, turned_locks,
 };
 
 // The greatest lock time (BIP 144).
 const MAX_LOCK_TIME: u64 = 4_294_967_295;
+
+// A height of 2025, and the blocks of a year at ten minutes each.
+const HEIGHT: u64 = 900_000;
+
+const BLOCKS_PER_YEAR: u64 = 52_560;
 
 /// Notes on the paths of a listed script.
 pub fn note_risks(notes: &mut String, alloc: Global, checked: &Checked) -> Result<(), AllocError> {
@@ -24,8 +31,13 @@ pub fn note_risks(notes: &mut String, alloc: Global, checked: &Checked) -> Resul
     note_paths(notes, paths, Risk::Finder)?;
     note_paths(notes, paths, Risk::HashedKey)?;
     note_paths(notes, paths, Risk::HashedSignature)?;
-    note_locks(notes, alloc, checked.script().ops())?;
-    note_turned(notes, alloc, checked.script().ops())?;
+    note_paths(notes, paths, Risk::SizedSignature)?;
+    let ops = checked.script().ops();
+    note_points(notes, paths, ops)?;
+    note_repeated_keys(notes, ops)?;
+    note_locks(notes, alloc, ops)?;
+    note_turned(notes, alloc, ops)?;
+    note_doubts(notes, alloc, ops)?;
     note_waits(notes, paths)?;
     // with keys that have another form than a key's, it has fewer paths
     if paths.len() == 3 && is_offered_htlc(checked.script().bytes()) {
@@ -49,6 +61,8 @@ enum Risk {
     HashedKey,
     // A signature is asked for whose hash is given.
     HashedSignature,
+    // A signature is asked for whose size or bytes are given.
+    SizedSignature,
 }
 
 impl Risk {
@@ -61,6 +75,9 @@ impl Risk {
             Risk::Finder => "note: whoever sees such a witness can spend too by path",
             Risk::HashedKey => "note: a key is taken by its hash on path",
             Risk::HashedSignature => "note: a signature with a given hash is asked for on path",
+            Risk::SizedSignature => {
+                "note: a signature of a given size, or with given bytes, is asked for on path"
+            }
         }
     }
 
@@ -80,6 +97,9 @@ impl Risk {
             }
             Risk::HashedSignature => {
                 ": what it signs has that hash in it, so nobody can ever make one\n"
+            }
+            Risk::SizedSignature => {
+                ": here it is a token of 66 bytes, and in Bitcoin it has 71 or 72 mostly, so the path may be met by nobody\n"
             }
         }
     }
@@ -104,27 +124,33 @@ fn has_risk(path: &Path, risk: Risk) -> bool {
         Risk::Anyone => taker_of(facts) == Taker::Anyone,
         Risk::Finder => taker_of(facts) == Taker::Finder,
         Risk::HashedKey => takes_hashed_key(facts),
-        Risk::HashedSignature => facts
+        Risk::HashedSignature | Risk::SizedSignature => facts
             .iter()
-            .any(|stated| is_hashed_signature(facts, stated)),
+            .any(|stated| is_said_of_signature(facts, stated, risk)),
     }
 }
 
-// Whether a fact asks for a signature whose hash another one of its path gives.
-fn is_hashed_signature(facts: &[Stated], stated: &Stated) -> bool {
+// Whether a fact asks for a signature of which another one of its path gives the hash, or the size or the bytes.
+fn is_said_of_signature(facts: &[Stated], stated: &Stated, risk: Risk) -> bool {
     match &stated.fact {
-        Fact::Token(slot, _) => stated.holds && is_hashed(facts, *slot),
+        Fact::Token(slot, _) => stated.holds && is_said(facts, *slot, risk),
         Fact::Assigned(slots, _) => {
-            stated.holds && slots.values().iter().any(|slot| is_hashed(facts, *slot))
+            stated.holds
+                && slots
+                    .values()
+                    .iter()
+                    .any(|slot| is_said(facts, *slot, risk))
         }
         _ => false,
     }
 }
 
-// Whether a path says what the hash of a slot is.
-fn is_hashed(facts: &[Stated], slot: usize) -> bool {
-    facts.iter().any(|stated| match &stated.fact {
-        Fact::Hash(place, _) => stated.holds && *place == slot,
+// Whether a path says what the hash of a slot is, or its size or bytes.
+fn is_said(facts: &[Stated], slot: usize, risk: Risk) -> bool {
+    facts.iter().any(|stated| match (risk, &stated.fact) {
+        (Risk::HashedSignature, Fact::Hash(place, _)) => stated.holds && *place == slot,
+        (Risk::SizedSignature, Fact::Size(place, _)) => stated.holds && *place == slot,
+        (Risk::SizedSignature, Fact::Is(place, _)) => stated.holds && *place == slot,
         _ => false,
     })
 }
@@ -200,6 +226,37 @@ fn note_turned_lock(notes: &mut String, ops: &[Op], lock: &TurnedLock) -> Result
         notes,
         "note: opcode {op}, {name} of {number}: the same bytes in the other order are {turned}, and a number is little-endian"
     )
+}
+
+// Notes the absolute locks that hold nobody up, or nearly for ever.
+fn note_doubts(notes: &mut String, alloc: Global, ops: &[Op]) -> Result<(), AllocError> {
+    let locks = doubtful_locks(alloc, ops)?;
+    for lock in &locks {
+        note_doubt(notes, lock)?;
+    }
+    Ok(())
+}
+
+// Notes one such lock.
+fn note_doubt(notes: &mut String, lock: &DoubtfulLock) -> Result<(), AllocError> {
+    let (op, number) = (lock.op, lock.number);
+    write!(
+        notes,
+        "note: opcode {op}, CHECKLOCKTIMEVERIFY of {number}, "
+    )?;
+    match lock.doubt {
+        LockDoubt::Passed => notes.push_str(
+            "holds nobody up: Bitcoin had passed it before it had witness scripts (BIP 141); CHECKSEQUENCEVERIFY waits a number of blocks\n",
+        ),
+        LockDoubt::FarHeight => {
+            let years = number.saturating_sub(HEIGHT) / BLOCKS_PER_YEAR;
+            writeln!(
+                notes,
+                "waits for a height that is some {years} years away: from {LOCKTIME_THRESHOLD} on a number is a time (BIP 65)"
+            )
+        }
+        LockDoubt::FarTime => notes.push_str("waits until after the year 2099\n"),
+    }
 }
 
 // The end of the word for what there are this many of.

@@ -13,6 +13,7 @@ mod causes;
 mod destinations;
 mod dust;
 mod errors;
+mod inputs;
 mod notes;
 mod outputs;
 mod outputs_at_fault;

@@ -6,6 +6,7 @@ use crate::asking::Asked;
 use crate::causes::note_claims;
 use crate::dust::{dust_threshold, is_witness_program};
 use crate::errors::PlanError;
+use crate::inputs::note_inputs;
 use crate::outputs_at_fault::{note_claims_at_fault, note_slots, output_at};
 use crate::plans::{Plan, asked_fee};
 use crate::requests::MOST_FEERATE_PER_KW;
@@ -14,6 +15,7 @@ use json_names::first_repeated_member;
 use json_value::Value;
 use page::Page;
 use page::Piece::{Count, Sum};
+use script_notes::is_curve_x;
 use std::alloc::Global;
 use std::io::Write;
 use streams::written;
@@ -33,7 +35,7 @@ fn say(notes: &Page, err: &mut dyn Write) {
     }
 }
 
-/// Says what a person has to look at in a plan: its destination, its feerate, its fee, and the slots that nodes do not pass on.
+/// Says what a person has to look at in a plan: its destination, its feerate, its fee, its inputs, and the slots that nodes do not pass on.
 pub fn say_plan(alloc: Global, asked: &Asked, plan: &Plan, err: &mut dyn Write) {
     let mut notes = Page::new(alloc);
     note_destination(&mut notes, asked.destination.bytes());
@@ -45,6 +47,7 @@ pub fn say_plan(alloc: Global, asked: &Asked, plan: &Plan, err: &mut dyn Write) 
             &[Sum(plan.fee_sat), Sum(total)],
         );
     }
+    note_inputs(&mut notes, asked, plan);
     note_slots(alloc, &mut notes, asked.claims.values());
     say(&notes, err);
 }
@@ -58,7 +61,7 @@ fn total_of(asked: &Asked) -> u128 {
     total
 }
 
-// Notes a destination from which anyone can spend, or maybe nobody.
+// Notes a destination from which anyone can spend, or nobody.
 fn note_destination(notes: &mut Page, program: &[u8]) {
     let [code, _, key @ ..] = program else {
         return;
@@ -68,9 +71,11 @@ fn note_destination(notes: &mut Page, program: &[u8]) {
     }
     let version = u64::from(code.saturating_sub(0x50));
     if version == 1 && key.len() == 32 {
-        notes.push(
-            "note: destination: it is not tested whether its 32 bytes are a key of the curve: if they are none, nobody can spend from it (BIP 341)\n",
-        );
+        if !is_curve_x(key) {
+            notes.push(
+                "note: destination: its 32 bytes are no key of the curve: nobody can spend from it (BIP 341)\n",
+            );
+        }
     } else {
         notes.write(
             "note: destination: anyone can spend from it today: no rule stands yet for witness version % with % bytes\n",
@@ -148,22 +153,45 @@ fn note_fee(alloc: Global, notes: &mut Page, asked: &Asked)
 /// Says which part of the bytes is refused.
 pub fn say_input(alloc: Global, bytes: &[u8], error: PlanError, err: &mut dyn Write) {
     let mut notes = Page::new(alloc);
-    if let Ok(value) = Value::from_slice(alloc, bytes) {
-        match error {
-            PlanError::BadShape => match first_repeated_member(alloc, bytes) {
-                Ok(Some(member)) => {
-                    notes.push("note: ");
-                    if let Some(output) = output_at(bytes, member.at) {
-                        notes.write("outputs[%].", &[Count(output)]);
-                    }
-                    notes.push(said(member.name.as_str()));
-                    notes.push(": a member of this name stands twice in one object\n");
-                }
-                _ => note_shape(alloc, &mut notes, &value),
-            },
+    match Value::from_slice(alloc, bytes) {
+        Ok(value) => match error {
+            PlanError::BadShape => note_value(alloc, &mut notes, bytes, &value),
             PlanError::BadClaim => note_claims(alloc, &mut notes, &value),
             _ => {}
-        }
+        },
+        Err(_) => note_place(alloc, &mut notes, bytes),
     }
     say(&notes, err);
+}
+
+// Notes the member that stands twice, or the first part that does not have its shape.
+fn note_value(alloc: Global, notes: &mut Page, bytes: &[u8], value: &Value) {
+    match first_repeated_member(alloc, bytes) {
+        Ok(Some(member)) => {
+            notes.push("note: ");
+            if let Some(output) = output_at(bytes, member.at) {
+                notes.write("outputs[%].", &[Count(output)]);
+            }
+            notes.push(said(member.name.as_str()));
+            notes.push(": a member of this name stands twice in one object\n");
+        }
+        _ => note_shape(alloc, notes, value),
+    }
+}
+
+// Notes where bytes are invalid JSON.
+fn note_place(alloc: Global, notes: &mut Page, bytes: &[u8]) {
+    if let Err(error) = serde_json::Value::from_slice(alloc, bytes) {
+        if !error.is_memory() {
+            notes.push(if error.is_eof() {
+                "note: the text ends too early: "
+            } else {
+                "note: invalid JSON: "
+            });
+            notes.write(
+                "line %, column %\n",
+                &[Count(error.line() as u64), Count(error.column() as u64)],
+            );
+        }
+    }
 }

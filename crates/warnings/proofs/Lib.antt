@@ -3,4 +3,5 @@ mod TextExamples
 mod OpcodeExamples
 mod TakerExamples
 mod LockExamples
+mod DoubtExamples
 mod HtlcExamples

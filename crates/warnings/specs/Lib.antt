@@ -4,4 +4,5 @@ pub mod TextFaults
 pub mod Opcodes
 pub mod Takers
 pub mod Locks
+pub mod Doubts
 pub mod Htlcs

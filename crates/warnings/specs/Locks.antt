@@ -7,6 +7,7 @@ use Rattle.script.specs.declared.opcode.Op.{Op}
 use Rattle.script.specs.declared.opcode.Op.TheVariants.{Push, Number, CheckLockTimeVerify, CheckSequenceVerify}
 use Rattle.script.specs.declared.num.Number.{Number as Signed}
 use Rattle.script.specs.Number.{number_of}
+use Rattle.script.specs.declared.limits.TheConstants.{LOCKTIME_THRESHOLD}
 use Rattle.warnings.specs.declared.locks.SequenceLock.{SequenceLock}
 use Rattle.warnings.specs.declared.locks.SequenceLock.TheVariants.{Off, Blocks, Units}
 use Rattle.warnings.specs.declared.locks.LockWarning.{LockWarning}
@@ -94,7 +95,7 @@ pushed_by op = None
 unfoldable pub seems_turned : Op → ℕ → ℕ → Bool
 seems_turned CheckLockTimeVerify n m =
     nat_lt 5000000 n
-    && ((nat_lt n 500000000 && nat_le 100000 m && nat_le m 5000000) || (nat_lt n 1231006505 && nat_le 1231006505 m && nat_lt m 2500000000))
+    && ((nat_lt n LOCKTIME_THRESHOLD && nat_le 100000 m && nat_le m 5000000) || (nat_lt n 1231006505 && nat_le 1231006505 m && nat_lt m 2500000000))
 seems_turned CheckSequenceVerify n m = nat_lt 4032 n && nat_lt n 65536 && nat_le 256 m && nat_le m 2016
 seems_turned op n m = false
 

@@ -39,23 +39,38 @@ is_wif text =
     && (has_at 0 (codes "5") text || has_at 0 (codes "K") text || has_at 0 (codes "L") text || has_at 0 (codes "9") text || has_at 0 (codes "c") text)
     && list_all is_base58 text
 
+-- 58 of them, of which the first are 6P: an encrypted one (BIP 38)
+unfoldable pub is_encrypted_key : List ℕ → Bool
+is_encrypted_key text = length text == 58 && has_at 0 (codes "6P") text && list_all is_base58 text
+
+abbrev pub is_key_text : List ℕ → Bool
+is_key_text text = is_wif text || is_encrypted_key text
+
+-- a small letter or a blank
+abbrev pub is_seed_letter : ℕ → Bool
+is_seed_letter b = b == 32 || (nat_le 97 b && nat_le b 122)
+
+-- 47 of them, as 12 words of three letters have: the words of a seed (BIP 39)
+unfoldable pub is_seed : List ℕ → Bool
+is_seed text = nat_le 47 (length text) && list_all is_seed_letter text && has_part (codes " ") text
+
 -- a digit or a letter
 abbrev pub is_alphanumeric : ℕ → Bool
 is_alphanumeric b = (nat_le 48 b && nat_le b 57) || (nat_le 65 b && nat_le b 90) || (nat_le 97 b && nat_le b 122)
 
 -- the digits and letters at the front are such a key
-unfoldable pub begins_with_wif : List ℕ → Bool
-begins_with_wif text =
-    option_map_or (λ end. nat_le end (length text) && is_wif (take end text)) (position_from (λ b. not (is_alphanumeric b)) 0 text) (is_wif text)
+unfoldable pub begins_with_key : List ℕ → Bool
+begins_with_key text =
+    option_map_or (λ end. nat_le end (length text) && is_key_text (take end text)) (position_from (λ b. not (is_alphanumeric b)) 0 text) (is_key_text text)
 
 -- such a key anywhere, as in quotes, after a prefix or in a descriptor: no digit or letter stands right before it or right after it. `inside` says whether one stands before the text
-abbrev pub has_wif_after : Bool → List ℕ → Bool
-has_wif_after inside [] = false
-has_wif_after inside (b ∷ text) = (not inside && begins_with_wif (b ∷ text)) || has_wif_after (is_alphanumeric b) text
+abbrev pub has_key_after : Bool → List ℕ → Bool
+has_key_after inside [] = false
+has_key_after inside (b ∷ text) = (not inside && begins_with_key (b ∷ text)) || has_key_after (is_alphanumeric b) text
 
--- such a key, or an extended private key anywhere: after the first letter it has prv (BIP 32, SLIP 132)
+-- such a key, or an extended private key anywhere: after the first letter it has prv (BIP 32, SLIP 132); or the words of a seed
 unfoldable pub has_private_key : List ℕ → Bool
-has_private_key text = has_wif_after false text || has_part (codes "prv") text
+has_private_key text = has_key_after false text || has_part (codes "prv") text || is_seed text
 
 -- what the text looks like; the first letters of a PSBT are those of its magic bytes in Base64 (BIP 174)
 unfoldable pub form_of : List ℕ → Option TextFault

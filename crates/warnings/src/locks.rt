@@ -6,6 +6,7 @@ ghost use Rattle.warnings.specs.Locks.{sequence_lock, is_plain, number_pushed, w
 
 use facts::{Fact, Stated};
 use script::Op;
+use script::limits::LOCKTIME_THRESHOLD;
 use script::num::{Limit, read};
 use std::alloc::{AllocError, Global};
 
@@ -56,7 +57,7 @@ fn is_plain(number: u64) -> bool
 
 // The number that an opcode pushes, if it is not negative.
 #[tactic(auto, unfolding(crate::specs::Locks::number_pushed))]
-fn number_pushed(op: &Op) -> Option<u64>
+pub(crate) fn number_pushed(op: &Op) -> Option<u64>
     ensures { result ≡ number_pushed op.now }
 {
     match op {
@@ -258,7 +259,7 @@ fn seems_turned(op: &Op, number: u64, turned: u64) -> bool
     match op {
         Op::CheckLockTimeVerify => {
             5_000_000 < number
-                && ((number < 500_000_000 && 100_000 <= turned && turned <= 5_000_000)
+                && ((number < LOCKTIME_THRESHOLD && 100_000 <= turned && turned <= 5_000_000)
                     || (number < 1_231_006_505
                         && 1_231_006_505 <= turned
                         && turned < 2_500_000_000))

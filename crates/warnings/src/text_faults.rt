@@ -2,14 +2,14 @@
 
 ghost use Rattle.std.specs.Prelude.{◌≡◌, not, false};
 ghost use Rattle.std.specs.List.{list_all, position_from};
-ghost use Rattle.warnings.specs.TextFaults.{is_digit, is_blank, is_base58, is_base58_address, is_segwit_address, is_wif, is_alphanumeric, begins_with_wif, has_wif_after, has_private_key, form_of, odd_of, fault_at, text_fault};
+ghost use Rattle.warnings.specs.TextFaults.{is_digit, is_blank, is_base58, is_base58_address, is_segwit_address, is_wif, is_encrypted_key, is_key_text, is_alphanumeric, begins_with_key, has_key_after, is_seed_letter, is_seed, has_private_key, form_of, odd_of, fault_at, text_fault};
 
 use crate::parts::{has_at, has_part};
 
 /// Why a text is not hexadecimal. Bytes are counted from 0.
 #[derive(Clone, Copy, Debug, PartialEq, Eq, Drop)]
 pub enum TextFault {
-    /// It has a private key in it, in WIF or an extended one (BIP 32).
+    /// It has a private key in it, in WIF, encrypted (BIP 38) or an extended one (BIP 32); or it looks like the words of a seed (BIP 39).
     PrivateKey,
     /// It begins as a PSBT in Base64 does (BIP 174).
     Psbt,
@@ -102,6 +102,43 @@ fn is_wif(text: &[u8]) -> bool
         && are_base58(text)
 }
 
+// Whether bytes have the form of an encrypted private key (BIP 38).
+#[tactic(auto, unfolding(crate::specs::TextFaults::is_encrypted_key))]
+fn is_encrypted_key(text: &[u8]) -> bool
+    ensures { result ≡ is_encrypted_key text.now }
+{
+    text.len() == 58 && has_at(text, 0, b"6P") && are_base58(text)
+}
+
+// Whether bytes have the form of a private key.
+fn is_key_text(text: &[u8]) -> bool
+    ensures { result ≡ is_key_text text.now }
+{
+    is_wif(text) || is_encrypted_key(text)
+}
+
+// Whether a byte is a small letter or a blank (ASCII).
+fn is_seed_letter(byte: u8) -> bool
+    ensures { result ≡ is_seed_letter byte }
+{
+    byte == 32 || (97 <= byte && byte <= 122)
+}
+
+// Whether all bytes are small letters and blanks.
+fn are_seed_letters(text: &[u8]) -> bool
+    ensures { result ≡ list_all is_seed_letter text.now }
+{
+    text.iter().all(|byte| is_seed_letter(*byte))
+}
+
+// Whether bytes are small letters and blanks, as many as 12 words of a seed have.
+#[tactic(auto, unfolding(crate::specs::TextFaults::is_seed))]
+fn is_seed(text: &[u8]) -> bool
+    ensures { result ≡ is_seed text.now }
+{
+    47 <= text.len() && are_seed_letters(text) && has_part(text, b" ")
+}
+
 // Whether a byte is a digit or a letter (ASCII).
 fn is_alphanumeric(byte: u8) -> bool
     ensures { result ≡ is_alphanumeric byte }
@@ -116,25 +153,25 @@ fn first_no_alphanumeric(text: &[u8]) -> Option<usize>
     text.iter().position(|byte| !is_alphanumeric(*byte))
 }
 
-// Whether the digits and letters at the front are a private key in WIF.
-#[tactic(auto, unfolding(crate::specs::TextFaults::begins_with_wif))]
-fn begins_with_wif(text: &[u8]) -> bool
-    ensures { result ≡ begins_with_wif text.now }
+// Whether the digits and letters at the front are a private key.
+#[tactic(auto, unfolding(crate::specs::TextFaults::begins_with_key))]
+fn begins_with_key(text: &[u8]) -> bool
+    ensures { result ≡ begins_with_key text.now }
 {
     match first_no_alphanumeric(text) {
-        Some(end) => end <= text.len() && is_wif(&text[..end]),
-        None => is_wif(text),
+        Some(end) => end <= text.len() && is_key_text(&text[..end]),
+        None => is_key_text(text),
     }
 }
 
-// Whether bytes have a private key in WIF in them, with no digit or letter right before it or after it.
-fn has_wif(text: &[u8]) -> bool
-    ensures { result ≡ has_wif_after false text.now }
+// Whether bytes have a private key in them, with no digit or letter right before it or after it.
+fn has_key(text: &[u8]) -> bool
+    ensures { result ≡ has_key_after false text.now }
 {
     let mut rest = text;
     let mut is_inside = false;
     while let Some((first, after)) = rest.split_first() {
-        if !is_inside && begins_with_wif(rest) {
+        if !is_inside && begins_with_key(rest) {
             return true;
         }
         is_inside = is_alphanumeric(*first);
@@ -148,7 +185,7 @@ fn has_wif(text: &[u8]) -> bool
 fn has_private_key(text: &[u8]) -> bool
     ensures { result ≡ has_private_key text.now }
 {
-    has_wif(text) || has_part(text, b"prv")
+    has_key(text) || has_part(text, b"prv") || is_seed(text)
 }
 
 // What a text looks like; `None` where it looks like none of these.

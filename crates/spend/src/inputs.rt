@@ -1,0 +1,184 @@
+// Notes on the inputs of a plan: what they wait for in one transaction, what they cost, who else can take their outputs, and keys that nobody can sign for.
+
+use crate::asking::Asked;
+use crate::plans::Plan;
+use claim::Claim;
+use page::Page;
+use page::Piece::{Count, Sum};
+use script_notes::is_curve_x;
+use tx::TxIn;
+use warnings::{Taker, taker_of};
+
+// The weight of an input without its witness: outpoint, length of the script and sequence have 41 bytes (BIP 141).
+const INPUT_WEIGHT: u128 = 164;
+
+// The greatest number of bytes of a signature: 72 of DER, and the hash type.
+const SIGNATURE_SIZE: u128 = 73;
+
+/// Notes what a person has to look at in the inputs of a plan.
+pub fn note_inputs(notes: &mut Page, asked: &Asked, plan: &Plan) {
+    let claims = asked.claims.values();
+    note_heights(notes, claims);
+    note_ages(notes, claims);
+    note_costs(notes, asked, plan);
+    note_takers(
+        notes,
+        claims,
+        Taker::Anyone,
+        ": anyone can spend by this path: no signature of a key that the script fixes is asked for\n",
+    );
+    note_takers(
+        notes,
+        claims,
+        Taker::Finder,
+        ": whoever sees such a witness can spend too: what has a given hash is asked for, and no signature of a key that the script fixes\n",
+    );
+    note_points(notes, plan);
+}
+
+// Notes the output whose lock is the highest, if another one has a lower lock.
+fn note_heights(notes: &mut Page, claims: &[Claim]) {
+    let (mut least, mut most, mut output, mut index) = (u64::MAX, 0u64, 0u64, 0u64);
+    for claim in claims {
+        let height = claim.path().lock.unwrap_or(0);
+        least = least.min(height);
+        if most < height {
+            most = height;
+            output = index;
+        }
+        index = index.wrapping_add(1);
+    }
+    if least < most {
+        notes.write(
+            "note: outputs[%] waits for a block above height %, and with it all that one transaction spends\n",
+            &[Count(output), Count(most)],
+        );
+    }
+}
+
+// Notes the output that has to be the oldest, if another one may be younger.
+fn note_ages(notes: &mut Page, claims: &[Claim]) {
+    let (mut least, mut most, mut output, mut index) = (u16::MAX, 0u16, 0u64, 0u64);
+    for claim in claims {
+        let age = claim.path().age.unwrap_or(0);
+        least = least.min(age);
+        if most < age {
+            most = age;
+            output = index;
+        }
+        index = index.wrapping_add(1);
+    }
+    if least < most {
+        notes.write(
+            "note: outputs[%] waits for an age of % blocks, and with it all that one transaction spends\n",
+            &[Count(output), Count(u64::from(most))],
+        );
+    }
+}
+
+// Notes the outputs that have less than their inputs cost.
+fn note_costs(notes: &mut Page, asked: &Asked, plan: &Plan) {
+    let mut index: u64 = 0;
+    for (place, (input, claim)) in plan
+        .spend
+        .tx
+        .inputs()
+        .iter()
+        .zip(asked.claims.values())
+        .enumerate()
+    {
+        let missing = plan
+            .spend
+            .signatures
+            .values()
+            .iter()
+            .filter(|it| it.input == place)
+            .count();
+        let cost = cost_sat(asked.feerate_per_kw, input, missing as u128);
+        let value = claim.place().value;
+        if u128::from(value) < cost {
+            notes.write(
+                "note: outputs[%] has % satoshis, and its input costs %: more is left without it\n",
+                &[Count(index), Count(value), Sum(cost)],
+            );
+        }
+        index = index.wrapping_add(1);
+    }
+}
+
+// The satoshis that an input costs at most, once it has the signatures that it lacks.
+fn cost_sat(feerate_per_kw: u32, input: &TxIn, missing: u128) -> u128 {
+    let items = input.witness.as_slice();
+    let mut weight = INPUT_WEIGHT
+        .saturating_add(length_size(items.len()))
+        .saturating_add(SIGNATURE_SIZE.saturating_mul(missing));
+    for item in items {
+        weight = weight
+            .saturating_add(length_size(item.len()))
+            .saturating_add(item.len() as u128);
+    }
+    u128::from(feerate_per_kw)
+        .saturating_mul(weight)
+        .saturating_add(999)
+        / 1000
+}
+
+// The bytes of a length as transactions spell it.
+fn length_size(length: usize) -> u128 {
+    if length < 253 {
+        1
+    } else if length < 65_536 {
+        3
+    } else {
+        5
+    }
+}
+
+// Notes the first output that others can take by its path, and how many there are.
+fn note_takers(notes: &mut Page, claims: &[Claim], taker: Taker, words: &str) {
+    let (mut first, mut count, mut index) = (0u64, 0u64, 0u64);
+    for claim in claims {
+        if taker_of(claim.path().facts.values()) == taker {
+            if count == 0 {
+                first = index;
+            }
+            count = count.wrapping_add(1);
+        }
+        index = index.wrapping_add(1);
+    }
+    if count > 0 {
+        note_first(notes, first, count, words);
+    }
+}
+
+// Notes the first key that is no point of the curve, and how many signatures such keys have to make.
+fn note_points(notes: &mut Page, plan: &Plan) {
+    let (mut count, mut first) = (0u64, None);
+    for signature in plan.spend.signatures.values() {
+        if !is_curve_x(&signature.key.bytes[1..]) {
+            if count == 0 {
+                first = Some(signature);
+            }
+            count = count.wrapping_add(1);
+        }
+    }
+    if let Some(signature) = first {
+        note_first(
+            notes,
+            signature.input as u64,
+            count,
+            ": nobody can sign for a key that is no point of the curve: ",
+        );
+        notes.hex("", &signature.key.bytes);
+        notes.push("\n");
+    }
+}
+
+// Begins a note on the first of some outputs.
+fn note_first(notes: &mut Page, first: u64, count: u64, words: &str) {
+    notes.write("note: outputs[%]", &[Count(first)]);
+    if count > 1 {
+        notes.write(" and % more", &[Count(count - 1)]);
+    }
+    notes.push(words);
+}
