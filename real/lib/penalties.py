@@ -2,14 +2,15 @@
 Transaction Close Handling"). Tested, not proved.
 """
 from collections.abc import Iterable, Iterator
-from dataclasses import dataclass
+from dataclasses import asdict, dataclass
 from typing import Any
 
 from real.lib import commitment, commitment_number, hints, judgement, scripts, signatures, summary
-from real.lib.commitment import Keys, Known
+from real.lib.commitment import Keys
 from real.lib.curve import AnyCurve
 from real.lib.errors import Refused
 from real.lib.plan import Shape, read_object
+from real.lib.spend_program import Known, Spend
 from real.lib.trace_program import Trace
 from real.lib.transaction import MAX_MONEY, Digests, Input, Output, Transaction, compact_size, read_transaction, text
 
@@ -71,7 +72,7 @@ class State:
 
 
 # what is known of an output whose program is another
-NOTHING = commitment.Known("", b"", b"", [], b"")
+NOTHING = Known("", b"", b"", [], b"", None)
 
 
 @dataclass
@@ -80,7 +81,7 @@ class Take:
 
     index: int
     output: Output
-    known: commitment.Known
+    known: Known
 
 
 def read_htlc(shape: Shape) -> commitment.Htlc:
@@ -187,23 +188,38 @@ def read_state(given: str | bytes) -> State:
 
 
 def deadline_of(known: Known, state: State) -> int | None:
-    """The number of next blocks in which nobody else can take an output; None where nobody else ever can. The owner
-    takes to_local in the block that is the delay above the transaction's (BIP 68); HTLC-timeout is in a block above
-    the expiry (BIP 65); HTLC-success may be in any. With anchors either is in a block above the transaction's.
-    """
-    if known.kind == "to_remote":
-        return None
-    confirmed_height = state.height + 1 if state.confirmed_height is None else state.confirmed_height
-    waits = state.delay_blocks if known.kind == "to_local" else int(state.channel_type == commitment.ANCHORS)
-    first = confirmed_height + waits
-    if known.htlc is not None and known.htlc.is_offered:
-        first = max(first, known.htlc.expiry_height + 1)
-    return max(0, first - 1 - state.height)
+    """The number of next blocks in which nobody else can take an output; None where nobody else ever can."""
+    return None if known.owner_height is None else max(0, known.owner_height - 1 - state.height)
 
 
 def least_deadline(found: Iterable[int | None]) -> int | None:
     """The least of deadlines; None where there is none."""
     return min((it for it in found if it is not None), default=None)
+
+
+def known_outputs(state: State, keys: Keys, spend: Spend) -> dict[bytes, Known]:
+    """The outputs of the transaction that are the commitment's, by the proved rule. The script of an offered HTLC has
+    no expiry, so those with one hash have one program, and nothing tells which output is whose. The first HTLC that is
+    told counts: the one that expires first, so that no deadline is too late.
+    """
+    htlcs = sorted(state.htlcs, key=lambda it: it.expiry_height)
+    return spend.revoked(
+        {
+            "channel_type": state.channel_type,
+            "keys": {name: key.hex() for name, key in asdict(keys).items()},
+            "delay_blocks": state.delay_blocks,
+            "htlcs": [
+                {
+                    "direction": "offered" if it.is_offered else "received",
+                    "hash": it.payment_hash.hex(),
+                    "expiry_height": it.expiry_height,
+                }
+                for it in htlcs
+            ],
+            "transaction": state.transaction.stripped_bytes().hex(),
+            "confirmed_height": state.height + 1 if state.confirmed_height is None else state.confirmed_height,
+        }
+    )
 
 
 def split_outputs(state: State, table: dict[bytes, Known]) -> tuple[list[Take], list[int]]:
@@ -372,7 +388,13 @@ def answer_of(
 
 
 def penalties(
-    state: State, privates: list[bytes], curve: AnyCurve, trace: Trace, is_one: bool = False, is_legacy: bool = False
+    state: State,
+    privates: list[bytes],
+    curve: AnyCurve,
+    trace: Trace,
+    is_one: bool = False,
+    is_legacy: bool = False,
+    spend: Spend | None = None,
 ) -> Iterator[dict[str, Any]]:
     """All that is said: of each transaction of penalties, and of each output that none takes; and last of all outputs."""
     if not curve.is_private(state.secret):
@@ -388,7 +410,7 @@ def penalties(
     point = curve.public_key(state.secret)
     keys = commitment.keys_of(curve, state.bases, point, is_legacy)
     signing, unused = commitment.private_keys_of(curve, state.bases, privates, state.secret, point, is_legacy)
-    table = commitment.table_of(keys, state.delay_blocks, state.htlcs, state.channel_type)
+    table = known_outputs(state, keys, spend or Spend())
     takes, others = split_outputs(state, table)
     # the judge lists all scripts by one call
     trace.paths([it.known.script for it in takes])

@@ -81,11 +81,11 @@ class Trace:
         return found
 
 
-def built_program() -> str:
-    """The program that ./trace runs now, without its look at the sources before each call. For tests, which call it
-    often.
+def built_program(command: str = "trace") -> str:
+    """The program that ./trace or ./spend runs now, without its look at the sources before each call. For tests, which
+    call it often.
     """
-    wrapper = os.path.join(TOP, "trace")
+    wrapper = os.path.join(TOP, command)
     try:
         subprocess.run([wrapper, "script", "51"], capture_output=True, timeout=SECONDS)
         told = subprocess.run([wrapper, "--version"], capture_output=True, text=True, timeout=SECONDS).stdout
@@ -93,5 +93,5 @@ def built_program() -> str:
         raise NotRun(f"{wrapper} does not run here") from None
     found = dict(it.partition(" ")[::2] for it in told.splitlines())
     name = f"{found.get('sources')}.{found.get('kit', '').replace(' ', '_')}"
-    program = os.path.join(TOP, "out", "trace", "proved" if found.get("proved") == "yes" else "unproved", name)
+    program = os.path.join(TOP, "out", command, "proved" if found.get("proved") == "yes" else "unproved", name)
     return program if os.path.exists(program) else wrapper

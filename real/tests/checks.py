@@ -6,6 +6,7 @@ from types import TracebackType
 from typing import Protocol
 
 from real.lib.curve import AnyCurve, Recorded
+from real.lib.spend_program import Spend
 from real.lib.trace_program import Trace, built_program
 
 HERE = os.path.dirname(os.path.abspath(__file__))
@@ -43,6 +44,12 @@ class Count:
 def judge() -> Trace:
     """The judge that ./trace runs now, which all tests ask."""
     return Trace(built_program())
+
+
+@functools.cache
+def spender() -> Spend:
+    """The program that ./spend runs now."""
+    return Spend(built_program("spend"))
 
 
 class CheckedCase(unittest.TestCase):

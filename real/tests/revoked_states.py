@@ -3,11 +3,13 @@ import json
 from typing import Any
 
 from real.lib import commitment, penalties, penalty_notes
-from real.lib.commitment import Keys, Known
+from real.lib.commitment import Keys
 from real.lib.curve import AnyCurve
 from real.lib.penalties import State
+from real.lib.spend_program import Known
 from real.lib.trace_program import Trace
 from real.lib.transaction import Output, read_transaction, sha256
+from real.tests.checks import spender
 
 # BOLT 3, Appendix E
 BASE_SECRET = bytes(range(32))
@@ -142,7 +144,8 @@ def penalties_of(
     given: dict[str, Any], curve: AnyCurve, trace: Trace, privates: list[bytes] | None = None, **options: bool
 ) -> list[dict[str, Any]] | None:
     keys = [private_key("revocation"), private_key("payment")] if privates is None else privates
-    return list(penalties.penalties(penalties.read_state(json.dumps(given)), keys, curve, trace, **options))
+    read = penalties.read_state(json.dumps(given))
+    return list(penalties.penalties(read, keys, curve, trace, spend=spender(), **options))
 
 
 def deadline_of(output: dict[str, int | str]) -> int | None:
@@ -165,8 +168,7 @@ def with_outputs(case: dict[str, Any], outputs: Any) -> str:
 def state_and_table(given: dict[str, Any], curve: AnyCurve) -> tuple[State, dict[bytes, Known]]:
     """A state, and what is known of its outputs."""
     found = penalties.read_state(json.dumps(given))
-    keys = commitment.keys_of(curve, found.bases, curve.public_key(found.secret), False)
-    return found, commitment.table_of(keys, found.delay_blocks, found.htlcs)
+    return found, penalties.known_outputs(found, keys_at(found, curve), spender())
 
 
 def with_anchors(told: dict[str, Any], case: dict[str, Any]) -> list[tuple[str, int, str, int | None]]:
@@ -215,13 +217,8 @@ def keys_at(found: State, curve: AnyCurve) -> Keys:
     return commitment.keys_of(curve, found.bases, curve.public_key(found.secret), False)
 
 
-def anchored_state_and_table(given: dict[str, Any], curve: AnyCurve) -> tuple[State, dict[bytes, Known]]:
-    found = penalties.read_state(json.dumps(given))
-    return found, commitment.table_of(keys_at(found, curve), found.delay_blocks, found.htlcs, found.channel_type)
-
-
 def output_names(given: dict[str, Any], curve: AnyCurve, others: list[int]) -> dict[str, dict[str, list[int]]]:
-    found, table = anchored_state_and_table(given, curve)
+    found, table = state_and_table(given, curve)
     return penalties.names_of(found, keys_at(found, curve), table, others)
 
 

@@ -154,15 +154,17 @@ def shown_request(asked: dict[str, Any]) -> dict[str, Any]:
     return {**asked, "outputs": outputs}
 
 
-def spend_answer(text: str) -> tuple[str, int]:
-    """What `spend` prints, and its status."""
-    return spend_answers(text)[:2]
+def spend_answer(text: str, *words: str) -> tuple[str, int]:
+    """What `spend` prints after these words, and its status."""
+    return spend_answers(text, *words)[:2]
 
 
-def spend_answers(text: str) -> tuple[str, int, list[Any]]:
-    """What `spend` prints, its status, and its notes."""
+def spend_answers(text: str, *words: str) -> tuple[str, int, list[Any]]:
+    """What `spend` prints after these words, its status, and its notes."""
     try:
-        ran = subprocess.run([os.path.join(TOP, "spend")], input=text.encode(), capture_output=True, timeout=SECONDS)
+        ran = subprocess.run(
+            [os.path.join(TOP, "spend"), *words], input=text.encode(), capture_output=True, timeout=SECONDS
+        )
     except (OSError, subprocess.TimeoutExpired):
         raise NotRun("spend does not run here") from None
     if ran.returncode not in (0, 1):

@@ -30,7 +30,6 @@ from real.tests.revoked_states import (
     SHARED_HTLCS,
     TO_LOCAL_WEIGHT,
     anchored_state,
-    anchored_state_and_table,
     deadline_of,
     dearest,
     htlc,
@@ -77,7 +76,8 @@ class PenaltiesTest(CurveCase):
 
     def test_packs(self) -> None:
         """Many outputs are taken in their order by as few transactions as nodes pass on: none has room for one more."""
-        destination, known = bytes.fromhex(DESTINATION), penalties.Known("offered", b"", bytes(133), [bytes(33)], b"")
+        known = penalties.Known("offered", b"", bytes(133), [bytes(33)], b"", None)
+        destination = bytes.fromhex(DESTINATION)
         takes = [penalties.Take(at, Output(1000, bytes(34)), known) for at in range(2_000)]
         found = penalties.packs(takes, destination)
         self.check([it.index for pack in found for it in pack] == [*range(2_000)], "each output in one transaction")
@@ -395,7 +395,6 @@ class PenaltiesTest(CurveCase):
             ("to_local", {"height": 742, "confirmed_height": 600}, 1),
             ("to_local", {"height": 743, "confirmed_height": 600}, 0),
             ("to_local", {"height": 900, "confirmed_height": 600}, 0),
-            ("to_local", {"height": 600, "confirmed_height": 600, "delay_blocks": 0}, 0),
         ]
         expiry = self.case["outputs"][at["offered"]]["cltv_expiry"]
         rows += [
@@ -406,12 +405,10 @@ class PenaltiesTest(CurveCase):
             ("to_remote", {"height": 0}, None),
         ]
         for kind, changes, wanted in rows:
-            found, table = state_and_table(state(self.told, self.case, self.curve), self.curve)
-            for name, value in changes.items():
-                setattr(found, name, value)
-            takes, _ = penalties.split_outputs(found, table)
+            found, table = state_and_table(state(self.told, self.case, self.curve, **changes), self.curve)
+            known = table[bytes.fromhex(self.case["outputs"][at[kind]]["script_pubkey"])]
             self.check(
-                penalties.deadline_of(takes[at[kind]].known, found) == wanted,
+                penalties.deadline_of(known, found) == wanted,
                 f"{self.case['name']}: the deadline of {kind} with {changes}",
             )
 
@@ -543,7 +540,7 @@ class PenaltiesTest(CurveCase):
         )
         richer = [("anchor", 331, *outputs[0][2:]), *outputs[1:]]
         found = penalties.split_outputs(
-            *anchored_state_and_table(anchored_state(self.told, case, self.curve, richer), self.curve)
+            *state_and_table(anchored_state(self.told, case, self.curve, richer), self.curve)
         )
         names = output_names(anchored_state(self.told, case, self.curve, richer), self.curve, found[1])
         self.check(

@@ -1,5 +1,7 @@
 """Tests of the program `spend`: its plans, refusals and notes are those that are worked out here."""
-from real.tests import bolt3
+import json
+
+from real.tests import bolt3, revoked_requests
 from real.tests.checks import CheckedCase
 from real.tests.spend_requests import (
     bounds,
@@ -87,3 +89,29 @@ class SpendTest(CheckedCase):
         for text, name, number in refusals(self.told):
             found = spend_answer(text)
             self.check(found == (refused_line(name, number), 1), f"a refusal that is to be {name}: {found}")
+
+
+class RevokedTest(CheckedCase):
+    """Which outputs of a transaction are a revoked commitment's: those that the appendix has, and no others."""
+
+    told = bolt3.read()
+
+    def test_answers(self) -> None:
+        for asked, answer in revoked_requests.answers(self.told):
+            found = spend_answers(line(asked), "revoked")
+            self.check(found == (line(answer), 0, []), f"the outputs of a commitment: {found}")
+
+    def test_claims_are_outputs(self) -> None:
+        """What it answers is what a request for a spend takes."""
+        asked, _ = next(revoked_requests.answers(self.told))
+        outputs = [it["output"] for it in json.loads(spend_answer(line(asked), "revoked")[0])["claims"]]
+        spending = {"outputs": outputs, "preimages": [], "destination": "0014" + "c7" * 20, "feerate_per_kw": 253}
+        wanted = line(wanted_plan(self.told, spending, [0] * len(outputs), 0)), 0
+        found = spend_answer(line(spending))
+        self.check(found == wanted, f"a plan of what is claimed: {found}")
+
+    def test_faults(self) -> None:
+        for text, name, number, note in revoked_requests.faults(self.told):
+            found = spend_answers(text, "revoked")
+            wanted = refused_line(name, number), 1, [note]
+            self.check(found == wanted, f"a fault that is to be named by {note}: {found}")

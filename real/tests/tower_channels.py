@@ -21,6 +21,7 @@ from real.lib.trace_program import Trace, built_program
 from real.lib.transaction import Output
 from real.tests import channels
 from real.tests.channels import HEIGHT, Channel, Known
+from real.tests.checks import spender
 
 REVOKED = os.path.join(os.path.dirname(os.path.dirname(os.path.abspath(__file__))), "revoked")
 SECONDS = 900
@@ -123,7 +124,8 @@ def by_program(channel: Channel, raw: str) -> tuple[list[dict[str, Any]], int]:
 def by_call(channel: Channel, raw: str, curve: AnyCurve, trace: Trace) -> tuple[list[dict[str, Any]], int]:
     """The same, without a process of its own."""
     state = penalties.read_state(json.dumps(state_of(channel, raw)))
-    found = list(penalties.penalties(state, private_keys_of(channel), curve, trace, is_legacy=channel.is_legacy))
+    privates, is_legacy = private_keys_of(channel), channel.is_legacy
+    found = list(penalties.penalties(state, privates, curve, trace, is_legacy=is_legacy, spend=spender()))
     return found, LEFT if penalties.is_left(found[-1]) else 0
 
 

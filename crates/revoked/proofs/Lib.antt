@@ -5,3 +5,4 @@ pub mod Told
 pub mod Models
 pub mod Collisions
 mod AppendixExamples
+mod DeadlineExamples

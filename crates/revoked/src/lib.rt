@@ -5,7 +5,8 @@
 //! keys of a revoked commitment, its delay and its HTLCs, with the programs of its outputs in a table. [`claims_in`]
 //! compares each output of a transaction with these programs. It gives an accepted claim on each output that has one of them,
 //! and the indices of the others. So the same call reads the commitment, its HTLC transactions, and any transaction
-//! that has some of these outputs among others. Running out of memory is the only error.
+//! that has some of these outputs among others. Running out of memory is the only error. [`Revoked::owner_height`] is the first block in which the
+//! owner can take such an output.
 //!
 //! In a channel with anchors its HTLCs and to_local are claimed, and to_remote and the anchors are among the others,
 //! since they have scripts that `paths` refuses (`anchor_forms`).
@@ -30,6 +31,7 @@
 
 mod claiming;
 mod commitments;
+mod deadlines;
 pub mod laws;
 mod outputs;
 mod reading;

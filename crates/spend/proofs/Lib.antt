@@ -1,5 +1,6 @@
 mod Values
 mod Elements
+mod Expiries
 mod Counts
 mod Sizes
 mod SameWeights
@@ -8,3 +9,4 @@ mod WeightExamples
 mod DustExamples
 mod DestinationExamples
 mod PlanExamples
+mod RevokedExamples

@@ -34,17 +34,21 @@ is_within count size = nat_lt 0 count && nat_le count MAX_INPUTS && nat_le size 
 abbrev pub if_within : Request → Result Request PlanError
 if_within r = if is_within (length r.claims) (length r.destination) then Ok r else Err BadShape
 
--- the request that a value has the shape of
-abbrev pub shaped : Data → Result Request PlanError
-shaped d = ok_or (request_of d) BadShape
+-- what a value of a shape is read as
+abbrev pub shaped : {X : Type 0} → (Data → Option X) → Data → Result X PlanError
+shaped reads d = ok_or (reads d) BadShape
 
 -- what is answered where some object has a name twice
 abbrev pub twice_in : {X : Type 0} → List ℕ → Result X PlanError
 twice_in bytes = ok_or (value_in bytes) NotJson >>= (λ d. Err BadShape)
 
--- the request that bytes spell, where no object has a name twice: they are valid JSON, the whole value has the shape, and it is within the limits
+-- what bytes spell, where no object has a name twice: they are valid JSON, and the whole value has the shape
+abbrev pub read_in : {X : Type 0} → (Data → Option X) → List ℕ → Result X PlanError
+read_in reads bytes = ok_or (value_in bytes) NotJson >>= shaped reads
+
+-- the request that bytes spell, if it is within the limits
 abbrev pub request_in : List ℕ → Result Request PlanError
-request_in bytes = ok_or (value_in bytes) NotJson >>= shaped >>= if_within
+request_in bytes = read_in request_of bytes >>= if_within
 
 -- the request with its claims accepted anew, if they are
 abbrev pub asked_with : Request → Result Asked PlanError

@@ -7,3 +7,5 @@ pub mod Weights
 pub mod Dust
 pub mod Destinations
 pub mod Planning
+pub mod RevokedRequests
+pub mod RevokedAnswers

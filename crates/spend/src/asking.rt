@@ -4,7 +4,7 @@ ghost use Rattle.std.specs.Prelude.{◌≡◌, true, length, ok_or, MatchBool, I
 ghost use Rattle.json_names.specs.Repeats.{RepeatsMember};
 ghost use Rattle.json_value.specs.View.{view};
 ghost use Rattle.spend.specs.declared.errors.PlanError.TheVariants.{NotJson, BadClaim};
-ghost use Rattle.spend.specs.Asking.{Answers, value_in, shaped, twice_in, request_in, is_within, IsWithin, asked_with, asked_in};
+ghost use Rattle.spend.specs.Asking.{Answers, value_in, shaped, twice_in, read_in, request_in, is_within, IsWithin, asked_with, asked_in};
 ghost use Rattle.plain_claims.specs.Claims.{claims_of};
 
 use crate::errors::PlanError;
@@ -44,12 +44,12 @@ fn value_in(alloc: Global, bytes: &[u8]) -> Result<Value, PlanError>
     }
 }
 
-// Reads a request: `BadShape` where the value does not have the shape.
-fn shaped(alloc: Global, value: &Value) -> Result<Request, PlanError>
-    ensures { Answers (λ r. r) result (shaped (view value.now)) }
+// Reads a value of a shape: `BadShape` where it does not have it.
+fn shaped<T: ReadValue + Drop>(alloc: Global, value: &Value) -> Result<T, PlanError>
+    ensures { Answers (λ r. r) result (shaped T.reads (view value.now)) }
 {
-    match Request::read_value(alloc, value) {
-        Ok(request) => Ok(request),
+    match T::read_value(alloc, value) {
+        Ok(read) => Ok(read),
         Err(error) => match error {
             ShapeError::NoMemory => Err(PlanError::NoMemory),
             ShapeError::BadShape => Err(PlanError::BadShape),
@@ -76,18 +76,26 @@ fn repeats(alloc: Global, bytes: &[u8]) -> Result<bool, AllocError>
     }
 }
 
-// Reads a request that is within the limits, and in which no object has a name twice.
-fn request_in(alloc: Global, bytes: &[u8]) -> Result<Request, PlanError>
-    ensures once { ¬ RepeatsMember bytes.now → Answers (λ r. r) result (request_in bytes.now) }
+/// What bytes spell, if they are valid JSON of a shape. `BadShape` is also where some object has a name twice.
+pub fn read_in<T: ReadValue + Drop>(alloc: Global, bytes: &[u8]) -> Result<T, PlanError>
+    ensures once { ¬ RepeatsMember bytes.now → Answers (λ r. r) result (read_in T.reads bytes.now) }
     ensures twice { RepeatsMember bytes.now → Answers (λ r. r) result (twice_in bytes.now) }
-    ensures within { IfOk result (λ r. is_within (length r.claims) (length r.destination) ≡ true) }
 {
     let repeats = repeats(alloc, bytes)?;
     let value = value_in(alloc, bytes)?;
     if repeats {
         return Err(PlanError::BadShape);
     }
-    let request = shaped(alloc, &value)?;
+    shaped(alloc, &value)
+}
+
+// Reads a request that is within the limits, and in which no object has a name twice.
+fn request_in(alloc: Global, bytes: &[u8]) -> Result<Request, PlanError>
+    ensures once { ¬ RepeatsMember bytes.now → Answers (λ r. r) result (request_in bytes.now) }
+    ensures twice { RepeatsMember bytes.now → Answers (λ r. r) result (twice_in bytes.now) }
+    ensures within { IfOk result (λ r. is_within (length r.claims) (length r.destination) ≡ true) }
+{
+    let request: Request = read_in(alloc, bytes)?;
     if !is_within(&request) {
         return Err(PlanError::BadShape);
     }

@@ -1,9 +1,10 @@
-//! The program `spend` makes the unsigned transaction that spends given outputs, and says which signatures it lacks, and where.
+//! The program `spend` makes the unsigned transaction that spends given outputs, and says which signatures it lacks, and where. Its word `revoked` tells which
+//! outputs of a transaction a revoked commitment lets its owner's peer claim.
 //!
 //! It reads one JSON object on standard input: the outputs, each as a claim of a book's dump, the preimages that they want, the script that is paid, and the
 //! feerate. The main contracts are those of [`asked_in`](asking) and [`plan_of`](plans): what is asked is what the bytes spell, and the transaction and the
-//! signatures are those of `filling::unsigned_spend`, with the fee taken off by the weight that the signed transaction has at most. The layout of what is
-//! printed is tested, not proved.
+//! signatures are those of `filling::unsigned_spend`, with the fee taken off by the weight that the signed transaction has at most. Of a revoked commitment
+//! [`answer_of`](revoked_answers) gives what `revoked::claims_in` finds, so no output is left out. The layout of what is printed is tested, not proved.
 //!
 //! `texts` reads claims, `plain_claims` accepts them, and `filling` makes the transaction. This file has only the streams and the arguments.
 #![tactic(auto)]
@@ -19,11 +20,13 @@ mod outputs;
 mod outputs_at_fault;
 mod plans;
 mod requests;
+mod revoked_answers;
+mod revoked_requests;
 mod shapes;
 mod telling;
 mod weights;
 
-use crate::telling::run;
+use crate::telling::{Question, run};
 use std::alloc::Global;
 use std::env;
 use std::io::{self, Read, Write};
@@ -31,14 +34,23 @@ use std::process::ExitCode;
 use streams::{refuse_memory, written};
 
 /// The line that is printed for wrong words.
-const USAGE: &str = "usage: spend, with a request on standard input\n";
+const USAGE: &str = "usage: spend, or spend revoked, with a request on standard input\n";
 
 /// The words after the program's name.
 fn words(rt: &HostRuntime) -> io::Result<Vec<String>> {
     Ok(env::args(rt)?.skip(1).collect(rt.alloc())?)
 }
 
-/// Makes the spend, if there are no words. Arguments that are not UTF-8 are wrong words.
+// What words ask.
+fn question_of(words: &[String]) -> Option<Question> {
+    match words {
+        [] => Some(Question::Spend),
+        [word] if word.as_str() == "revoked" => Some(Question::Revoked),
+        _ => None,
+    }
+}
+
+/// Answers what the words ask. Arguments that are not UTF-8 are wrong words.
 fn run_words(
     alloc: Global,
     words: &io::Result<Vec<String>>,
@@ -47,13 +59,10 @@ fn run_words(
     err: &mut dyn Write,
 ) -> u8 {
     match words {
-        Ok(words) => {
-            if words.is_empty() {
-                run(alloc, input, out, err)
-            } else {
-                written(err, USAGE, 2)
-            }
-        }
+        Ok(words) => match question_of(words) {
+            Some(question) => run(alloc, question, input, out, err),
+            None => written(err, USAGE, 2),
+        },
         Err(error) => match error.kind() {
             io::ErrorKind::OutOfMemory => refuse_memory(out),
             _ => written(err, USAGE, 2),

@@ -10,7 +10,7 @@ use crate::inputs::note_inputs;
 use crate::outputs_at_fault::{note_claims_at_fault, note_slots, output_at};
 use crate::plans::{Plan, asked_fee};
 use crate::requests::MOST_FEERATE_PER_KW;
-use crate::shapes::{note_shape, said};
+use crate::shapes::{note_revoked_shape, note_shape, said};
 use json_names::first_repeated_member;
 use json_value::Value;
 use page::Page;
@@ -162,6 +162,30 @@ pub fn say_input(alloc: Global, bytes: &[u8], error: PlanError, err: &mut dyn Wr
         Err(_) => note_place(alloc, &mut notes, bytes),
     }
     say(&notes, err);
+}
+
+/// Says which part of a request about a revoked commitment is refused.
+pub fn say_revoked_input(alloc: Global, bytes: &[u8], error: PlanError, err: &mut dyn Write) {
+    let mut notes = Page::new(alloc);
+    match Value::from_slice(alloc, bytes) {
+        Ok(value) => {
+            if let PlanError::BadShape = error {
+                match first_repeated_member(alloc, bytes) {
+                    Ok(Some(member)) => note_repeated(&mut notes, member.name.as_str()),
+                    _ => note_revoked_shape(alloc, &mut notes, &value),
+                }
+            }
+        }
+        Err(_) => note_place(alloc, &mut notes, bytes),
+    }
+    say(&notes, err);
+}
+
+// Notes a member that stands twice.
+fn note_repeated(notes: &mut Page, name: &str) {
+    notes.push("note: ");
+    notes.push(said(name));
+    notes.push(": a member of this name stands twice in one object\n");
 }
 
 // Notes the member that stands twice, or the first part that does not have its shape.

@@ -1,5 +1,6 @@
 // Which part of a request does not have its shape, and what is wanted there.
 
+use crate::revoked_requests::{channel_type_of, htlc_of, keys_of, transaction_of};
 use claim::{Shell, Slot};
 use json_value::Value;
 use page::Page;
@@ -21,6 +22,12 @@ enum Kind {
     Slot,
     Preimage,
     Output,
+    ChannelType,
+    Height,
+    Blocks,
+    Htlc,
+    Keys,
+    Transaction,
 }
 
 // How many values a member has.
@@ -41,6 +48,15 @@ static REQUEST: [Member; 5] = [
     Member("most_feerate_per_kw", Kind::Feerate, Number::AtMostOne),
     Member("preimages", Kind::Preimage, Number::Array),
     Member("outputs", Kind::Output, Number::Array),
+];
+
+static REVOKED: [Member; 6] = [
+    Member("channel_type", Kind::ChannelType, Number::One),
+    Member("confirmed_height", Kind::Height, Number::One),
+    Member("delay_blocks", Kind::Blocks, Number::One),
+    Member("htlcs", Kind::Htlc, Number::Array),
+    Member("keys", Kind::Keys, Number::One),
+    Member("transaction", Kind::Transaction, Number::One),
 ];
 
 static OUTPUT: [Member; 8] = [
@@ -69,6 +85,12 @@ impl Kind {
             Kind::Slot => Slot::read_value(alloc, value).is_ok(),
             Kind::Preimage => <[u8; 32]>::from_value(value).is_some(),
             Kind::Output => value.as_object().is_some(),
+            Kind::ChannelType => channel_type_of(value).is_some(),
+            Kind::Height => u32::from_value(value).is_some(),
+            Kind::Blocks => u16::from_value(value).is_some(),
+            Kind::Htlc => htlc_of(value).is_some(),
+            Kind::Keys => keys_of(value).is_some(),
+            Kind::Transaction => transaction_of(alloc, value).is_ok(),
         }
     }
 
@@ -90,6 +112,18 @@ impl Kind {
             }
             Kind::Preimage => "32 bytes in hexadecimal",
             Kind::Output => "an object",
+            Kind::ChannelType => "static_remotekey or anchors, in quotes",
+            Kind::Height => "a height, as an integer of at most 32 bits without quotes",
+            Kind::Blocks => "a number of blocks, as an integer of at most 16 bits without quotes",
+            Kind::Htlc => {
+                "an object of direction, offered or received, hash, 32 bytes in hexadecimal, and expiry_height, below 500000000"
+            }
+            Kind::Keys => {
+                "an object of revocation, delayed, local_htlc, remote_htlc and remote, each a compressed key in hexadecimal"
+            }
+            Kind::Transaction => {
+                "a transaction in hexadecimal, with or without its witnesses (BIP 144)"
+            }
         }
     }
 }
@@ -197,13 +231,23 @@ fn note_outpoint(notes: &mut Page, output: u64, value: &Value) {
     }
 }
 
-/// Notes the first part of a request that does not have its shape.
-pub fn note_shape(alloc: Global, notes: &mut Page, value: &Value) {
+/// Notes the first part of a request about a revoked commitment that does not have its shape.
+pub fn note_revoked_shape(alloc: Global, notes: &mut Page, value: &Value) {
+    note_whole(alloc, notes, value, &REVOKED);
+}
+
+// Notes a request that is no object, or its first member that does not have its shape.
+fn note_whole(alloc: Global, notes: &mut Page, value: &Value, members: &[Member]) {
     if value.as_object().is_none() {
         notes.push("note: the request: wanted: an object\n");
-        return;
+    } else {
+        note_object(alloc, notes, None, value, members);
     }
-    note_object(alloc, notes, None, value, &REQUEST);
+}
+
+/// Notes the first part of a request that does not have its shape.
+pub fn note_shape(alloc: Global, notes: &mut Page, value: &Value) {
+    note_whole(alloc, notes, value, &REQUEST);
     let outputs = match value.member("outputs") {
         Some(outputs) => outputs.as_array().unwrap_or(&[]),
         None => &[],

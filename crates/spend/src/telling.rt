@@ -1,13 +1,15 @@
-// Writes the plan, or why there is none.
+// Writes what is asked for, or why there is none.
 
 ghost use Rattle.std.specs.Prelude.{◌≡◌, ◌≤◌};
 ghost use Rattle.spend.specs.Asking.{IsWithin};
 
-use crate::asking::{Asked, asked_in};
+use crate::asking::{Asked, asked_in, read_in};
 use crate::errors::PlanError;
-use crate::notes::{say_input, say_plan, say_refusal};
+use crate::notes::{say_input, say_plan, say_refusal, say_revoked_input};
 use crate::outputs::reversed;
 use crate::plans::{Plan, plan_of};
+use crate::revoked_answers::{answer_of, tell_answer};
+use crate::revoked_requests::RevokedRequest;
 use claim::Claim;
 use filling::MissingSignature;
 use lists::ByteString;
@@ -19,13 +21,31 @@ use std::mem;
 use streams::{InputError, read_all, refuse_memory, write_refusal, write_told};
 use tx::{TxIn, encode_stripped, txid};
 
-/// Reads what is asked for, and writes the plan: one JSON object on a line. Returns the status: 0 when it is written, 1 for refused input, a failed write, or if memory ran out. The whole line is made
+/// What the program is asked.
+#[derive(Clone, Copy)]
+pub enum Question {
+    /// The transaction that spends outputs.
+    Spend,
+    /// What a revoked commitment lets its owner's peer claim.
+    Revoked,
+}
+
+/// Reads what is asked for, and writes the answer: one JSON object on a line. Returns the status: 0 when it is written, 1 for refused input, a failed write, or if memory ran out. The whole line is made
 /// before its first byte is written. A refusal is written with its number: that of `PlanError`, or for input that can't be read 11 or 12. Notes follow on the other stream, and change no status.
-pub fn run(alloc: Global, input: &mut dyn Read, out: &mut dyn Write, err: &mut dyn Write) -> u8
+pub fn run(
+    alloc: Global,
+    question: Question,
+    input: &mut dyn Read,
+    out: &mut dyn Write,
+    err: &mut dyn Write,
+) -> u8
     ensures { result ≤ 1 }
 {
     match read_all(alloc, input) {
-        Ok(bytes) => tell_bytes(alloc, bytes.as_slice(), out, err),
+        Ok(bytes) => match question {
+            Question::Spend => tell_bytes(alloc, bytes.as_slice(), out, err),
+            Question::Revoked => tell_revoked(alloc, bytes.as_slice(), out, err),
+        },
         Err(InputError::NoMemory) => refuse_memory(out),
         Err(error) => {
             let number = u64::from(error.number()) + 10;
@@ -60,6 +80,31 @@ fn tell_bytes(alloc: Global, bytes: &[u8], out: &mut dyn Write, err: &mut dyn Wr
             say_input(alloc, bytes, error, err);
             status
         }
+    }
+}
+
+// Writes what the revoked commitment that bytes spell lets claim, and returns the status.
+fn tell_revoked(alloc: Global, bytes: &[u8], out: &mut dyn Write, err: &mut dyn Write) -> u8
+    ensures { result ≤ 1 }
+{
+    let request: RevokedRequest = match read_in(alloc, bytes) {
+        Ok(request) => request,
+        Err(error) => {
+            let status = refuse(alloc, error, out);
+            say_revoked_input(alloc, bytes, error, err);
+            return status;
+        }
+    };
+    match answer_of(alloc, request) {
+        Ok(answer) => {
+            let mut line = Page::new(alloc);
+            tell_answer(&mut line, &answer);
+            let status = write_told(out, &mut line, 0);
+            // not dropped: the program ends now, which frees all at once
+            mem::forget(answer);
+            status
+        }
+        Err(_) => refuse_memory(out),
     }
 }
 

@@ -1,0 +1,188 @@
+// What the JSON object about a revoked commitment asks.
+
+ghost use Rattle.std.specs.Prelude.{◌≡◌, codes};
+ghost use Rattle.json_value.specs.View.{view, items_view};
+ghost use Rattle.texts.specs.Values.{Gives, each_of, list_of, member_of};
+ghost use Rattle.spend.specs.RevokedRequests.{channel_type_of, keys_of, direction_of, expiry_of, htlc_of, transaction_in, transaction_of};
+
+use json_value::Value;
+use lists::List;
+use revoked::{ChannelType, CommitmentKeys, Direction, Expiry, RevokedHtlc};
+use std::alloc::Global;
+use texts::{FromValue, ReadValue, ShapeError, bytes_of, member, object_of};
+use tx::{DecodeError, Tx, decode, decode_stripped};
+
+/// A revoked commitment, and a transaction that may have outputs of it.
+#[derive(Drop)]
+pub struct RevokedRequest {
+    /// The type of the channel.
+    pub channel_type: ChannelType,
+    /// The keys of the commitment.
+    pub keys: CommitmentKeys,
+    /// The delay of to_local and of HTLC transactions' outputs, in blocks.
+    pub delay_blocks: u16,
+    /// The HTLCs of the commitment.
+    pub htlcs: List<RevokedHtlc>,
+    /// The transaction that was seen.
+    pub transaction: Tx,
+    /// The height of the block that has it, or of the next one.
+    pub confirmed_height: u32,
+}
+
+/// Reads the type of a channel (BOLT 9, without `option_`).
+pub fn channel_type_of(value: &Value) -> Option<ChannelType>
+    ensures { result ≡ channel_type_of (view value.now) }
+{
+    let name = value.as_str()?;
+    if name == "static_remotekey" {
+        Some(ChannelType::StaticRemoteKey)
+    } else if name == "anchors" {
+        Some(ChannelType::Anchors)
+    } else {
+        None
+    }
+}
+
+/// Reads the keys of a commitment, an object of five members.
+#[tactic(auto, unfolding(crate::specs::RevokedRequests::keys_of))]
+pub fn keys_of(value: &Value) -> Option<CommitmentKeys>
+    ensures { result ≡ keys_of (view value.now) }
+{
+    let form = object_of(value, 5)?;
+    Some(CommitmentKeys {
+        revocation: member(form, "revocation")?,
+        delayed: member(form, "delayed")?,
+        local_htlc: member(form, "local_htlc")?,
+        remote_htlc: member(form, "remote_htlc")?,
+        remote: member(form, "remote")?,
+    })
+}
+
+// Reads a direction, as the owner of the commitment sees it.
+fn direction_of(value: &Value) -> Option<Direction>
+    ensures { result ≡ direction_of (view value.now) }
+{
+    let name = value.as_str()?;
+    if name == "offered" {
+        Some(Direction::Offered)
+    } else if name == "received" {
+        Some(Direction::Received)
+    } else {
+        None
+    }
+}
+
+// Reads a height.
+#[tactic(auto, using(crate::proofs::Expiries::expiry_read, crate::proofs::Expiries::no_expiry))]
+fn expiry_of(value: &Value) -> Option<Expiry>
+    ensures { result ≡ expiry_of (view value.now) }
+{
+    let height = u32::from_value(value)?;
+    match Expiry::new(height) {
+        Some(expiry) => Some(expiry),
+        None => None,
+    }
+}
+
+/// Reads an HTLC, an object of three members.
+#[tactic(auto, unfolding(crate::specs::RevokedRequests::htlc_of))]
+pub fn htlc_of(value: &Value) -> Option<RevokedHtlc>
+    ensures { result ≡ htlc_of (view value.now) }
+{
+    let form = object_of(value, 3)?;
+    Some(RevokedHtlc {
+        direction: direction_of(form.member("direction")?)?,
+        hash: member(form, "hash")?,
+        expiry: expiry_of(form.member("expiry_height")?)?,
+    })
+}
+
+// Reads HTLCs, in order.
+fn each_htlc(alloc: Global, values: &[Value]) -> Result<Vec<RevokedHtlc>, ShapeError>
+    ensures { Gives (λ xs. xs.items) result (each_of htlc_of (items_view values.now)) }
+{
+    let mut htlcs = Vec::new(alloc);
+    for value in values {
+        htlcs.push(htlc_of(value).ok_or(ShapeError::BadShape)?)?;
+    }
+    Ok(htlcs)
+}
+
+// Reads an array of HTLCs.
+fn htlcs_of(alloc: Global, value: &Value) -> Result<List<RevokedHtlc>, ShapeError>
+    ensures { Gives (λ xs. xs) result (list_of htlc_of (view value.now)) }
+{
+    let values = value.as_array().ok_or(ShapeError::BadShape)?;
+    Ok(List::from_vec(each_htlc(alloc, values)?))
+}
+
+// The transaction that bytes are, with or without witnesses.
+fn transaction_in(alloc: Global, bytes: &[u8]) -> Result<Tx, ShapeError>
+    ensures { Gives (λ t. t) result (transaction_in bytes.now) }
+{
+    match decode(alloc, bytes) {
+        Ok(tx) => return Ok(tx),
+        Err(DecodeError::NoMemory) => return Err(ShapeError::NoMemory),
+        Err(_) => {}
+    }
+    match decode_stripped(alloc, bytes) {
+        Ok(tx) => Ok(tx),
+        Err(DecodeError::NoMemory) => Err(ShapeError::NoMemory),
+        Err(_) => Err(ShapeError::BadShape),
+    }
+}
+
+/// Reads a transaction in hexadecimal.
+pub fn transaction_of(alloc: Global, value: &Value) -> Result<Tx, ShapeError>
+    ensures { Gives (λ t. t) result (transaction_of (view value.now)) }
+{
+    let bytes = bytes_of(alloc, value)?;
+    transaction_in(alloc, &bytes)
+}
+
+// Reads the HTLCs of a request.
+fn member_htlcs(alloc: Global, form: &Value) -> Result<List<RevokedHtlc>, ShapeError>
+    ensures { Gives (λ xs. xs) result
+        (member_of (codes "htlcs") (list_of htlc_of) (view form.now)) }
+{
+    htlcs_of(alloc, form.member("htlcs").ok_or(ShapeError::BadShape)?)
+}
+
+// Reads the transaction of a request.
+fn member_transaction(alloc: Global, form: &Value) -> Result<Tx, ShapeError>
+    ensures { Gives (λ t. t) result
+        (member_of (codes "transaction") transaction_of (view form.now)) }
+{
+    transaction_of(
+        alloc,
+        form.member("transaction").ok_or(ShapeError::BadShape)?,
+    )
+}
+
+/// An object of six members: `channel_type`, `confirmed_height`, `delay_blocks`, `htlcs`, `keys` and `transaction`.
+impl ReadValue for RevokedRequest {
+    ghost use Rattle.spend.specs.RevokedRequests.{revoked_request_of};
+
+    ghost reads = { revoked_request_of };
+
+    #[tactic(auto, unfolding(crate::specs::RevokedRequests::revoked_request_of))]
+    fn read_value(alloc: Global, value: &Value) -> Result<RevokedRequest, ShapeError> {
+        let form = object_of(value, 6).ok_or(ShapeError::BadShape)?;
+        let channel_type = channel_type_of(
+            form.member("channel_type").ok_or(ShapeError::BadShape)?,
+        ).ok_or(ShapeError::BadShape)?;
+        let keys = keys_of(form.member("keys").ok_or(ShapeError::BadShape)?).ok_or(
+            ShapeError::BadShape,
+        )?;
+        let delay_blocks: u16 = member(form, "delay_blocks").ok_or(ShapeError::BadShape)?;
+        let confirmed_height: u32 = member(form, "confirmed_height").ok_or(ShapeError::BadShape)?;
+        Ok(RevokedRequest {
+            channel_type,
+            keys,
+            delay_blocks,
+            htlcs: member_htlcs(alloc, form)?,
+            transaction: member_transaction(alloc, form)?,
+            confirmed_height,
+        })
+    }
+}

@@ -1,0 +1,135 @@
+"""Requests for `spend revoked` from BOLT 3's Appendix C, and what it has to answer by the appendix's own outputs.
+Tested, not proved.
+"""
+from collections.abc import Iterator
+from typing import Any
+
+from real.lib.transaction import read_transaction, sha256, shown_id
+from real.tests.revoked_states import htlc, with_anchors, with_outputs
+from real.tests.spend_requests import line, without
+
+KEYS = {
+    "revocation": "local_revocation_pubkey",
+    "delayed": "local_delayedpubkey",
+    "local_htlc": "local_htlcpubkey",
+    "remote_htlc": "remote_htlcpubkey",
+    "remote": "remote_payment_basepoint",
+}
+CONFIRMED = 502
+
+
+def request(told: dict[str, Any], case: dict[str, Any], **changes: Any) -> dict[str, Any]:
+    """What is asked of a case's commitment, with members changed."""
+    asked = {
+        "channel_type": "static_remotekey",
+        "keys": {name: told["terms"]["keys"][it] for name, it in KEYS.items()},
+        "delay_blocks": told["terms"]["local_delay"],
+        "htlcs": [htlc(told, it) for it in case["htlcs_given"]],
+        "transaction": case["unsigned_tx_no_witness"],
+        "confirmed_height": CONFIRMED,
+    }
+    return {**asked, **changes}
+
+
+def owner_height(kind: str, expiry: int | None, waits: int, confirmed: int = CONFIRMED) -> int | None:
+    """The first block in which the owner takes an output, by BIPs 65 and 68 and a delay of 144."""
+    heights = {"to_local": confirmed + 144, "to_remote": None, "received": confirmed + waits}
+    return max(confirmed + waits, (expiry or 0) + 1) if kind == "offered" else heights[kind]
+
+
+def claim(
+    told: dict[str, Any], txid: str, at: int, output: tuple[str, int, str, str, int | None], waits: int
+) -> dict[str, Any]:
+    """The claim on an output: its kind, value, program, script and expiry."""
+    kind, value, program, script, expiry = output
+    keys = {name: told["terms"]["keys"][it] for name, it in KEYS.items()}
+    key = keys["remote"] if kind == "to_remote" else keys["revocation"]
+    fills = {
+        "outpoint": f"{txid}:{at}",
+        "path": 0,
+        "program": program,
+        "script": script,
+        "shell": None,
+        "slots": [["exact", "01" if kind == "to_local" else key], ["sig", key]],
+        "value": value,
+    }
+    return {"kind": kind, "owner_height": owner_height(kind, expiry, waits), "output": fills}
+
+
+def answers(told: dict[str, Any]) -> Iterator[tuple[dict[str, Any], dict[str, Any]]]:
+    """Requests with their answers: each commitment of the appendix, each of its HTLC transactions, one with another
+    delay, and one with anchors.
+    """
+    for case in told["cases"]:
+        outputs = []
+        for it in case["outputs"]:
+            script = it.get("witness_script") or f"76a914{it['script_pubkey'][4:]}88ac"
+            outputs.append((it["kind"], it["value_sat"], it["script_pubkey"], script, it.get("cltv_expiry")))
+        claims = [claim(told, case["txid_hash_order"], at, it, 0) for at, it in enumerate(outputs)]
+        yield request(told, case), {"claims": claims, "others": []}
+        local = [at for at, it in enumerate(outputs) if it[0] == "to_local"]
+        left = [it for at, it in enumerate(claims) if at not in local]
+        yield request(told, case, delay_blocks=145), {"claims": left, "others": local}
+        for it in case["htlc_transactions"]:
+            made = read_transaction(bytes.fromhex(it["unsigned_tx_no_witness"]))
+            script = next(each[3] for each in outputs if each[0] == "to_local")
+            output = ("to_local", made.outputs[0].value, made.outputs[0].program.hex(), script, None)
+            txid = shown_id(bytes.fromhex(made.txid()))
+            asked = request(told, case, transaction=it["unsigned_tx_no_witness"], htlcs=[])
+            yield asked, {"claims": [claim(told, txid, 0, output, 0)], "others": []}
+    yield anchored(told, told["cases"][1])
+
+
+def anchored(told: dict[str, Any], case: dict[str, Any]) -> tuple[dict[str, Any], dict[str, Any]]:
+    """The outputs of a case as they are with anchors: to_remote and the anchors are among the others."""
+    outputs = [
+        (kind, value, "0020" + sha256(bytes.fromhex(script)).hex(), script, expiry)
+        for kind, value, script, expiry in with_anchors(told, case)
+    ]
+    transaction = with_outputs(case, [(value, program) for _, value, program, _, _ in outputs])
+    txid = shown_id(bytes.fromhex(read_transaction(bytes.fromhex(transaction), marked=False).txid()))
+    mine = [at for at, it in enumerate(outputs) if it[0] not in ("anchor", "to_remote")]
+    answer = {
+        "claims": [claim(told, txid, at, outputs[at], 1) for at in mine],
+        "others": [at for at in range(len(outputs)) if at not in mine],
+    }
+    return request(told, case, transaction=transaction, channel_type="anchors"), answer
+
+
+def faults(told: dict[str, Any]) -> Iterator[tuple[str, str, int, str]]:
+    """Requests with a part at fault, each with its refusal and the note that names the part."""
+    asked = request(told, told["cases"][1])
+    keys, htlcs = asked["keys"], asked["htlcs"]
+    key = (
+        "keys: wanted: an object of revocation, delayed, local_htlc, remote_htlc and remote, each a compressed key in"
+        " hexadecimal"
+    )
+    one = (
+        "wanted: an object of direction, offered or received, hash, 32 bytes in hexadecimal, and expiry_height, below"
+        " 500000000"
+    )
+    raw = "transaction: wanted: a transaction in hexadecimal, with or without its witnesses (BIP 144)"
+    blocks = "delay_blocks: wanted: a number of blocks, as an integer of at most 16 bits without quotes"
+    height = "confirmed_height: wanted: a height, as an integer of at most 32 bits without quotes"
+    for members, note in (
+        ({"channel_type": "anchor"}, "channel_type: wanted: static_remotekey or anchors, in quotes"),
+        ({"confirmed_height": None}, height),
+        ({"confirmed_height": 1 << 32}, height),
+        ({"delay_blocks": 65_536}, blocks),
+        ({"keys": without(keys, "remote")}, key),
+        ({"keys": {**keys, "payment": keys["remote"]}}, key),
+        ({"keys": {**keys, "delayed": "04" + keys["delayed"][2:]}}, key),
+        ({"htlcs": [htlcs[0], {**htlcs[1], "direction": "recieved"}]}, f"htlcs[1]: {one}"),
+        ({"htlcs": [{**htlcs[0], "expiry_height": 500_000_000}]}, f"htlcs[0]: {one}"),
+        ({"htlcs": [{**htlcs[0], "hash": "07" * 31}]}, f"htlcs[0]: {one}"),
+        ({"htlcs": {}}, "htlcs: wanted: an array"),
+        ({"transaction": asked["transaction"][:-2]}, raw),
+        ({"transaction": "0g"}, raw),
+        ({"secret": "07" * 32}, "secret: no member of this name belongs here"),
+    ):
+        yield line({**asked, **members}), "BadShape", 2, note
+    yield line(without(asked, "keys")), "BadShape", 2, "keys: it is missing"
+    twice = line(asked).replace('"delay_blocks":144', '"delay_blocks":143,"delay_blocks":144')
+    yield twice, "BadShape", 2, "delay_blocks: a member of this name stands twice in one object"
+    yield "[]", "BadShape", 2, "the request: wanted: an object"
+    yield "{", "NotJson", 1, "the text ends too early: line 1, column 1"
