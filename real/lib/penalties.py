@@ -198,11 +198,7 @@ def least_deadline(found: Iterable[int | None]) -> int | None:
 
 
 def known_outputs(state: State, keys: Keys, spend: Spend) -> dict[bytes, Known]:
-    """The outputs of the transaction that are the commitment's, by the proved rule. The script of an offered HTLC has
-    no expiry, so those with one hash have one program, and nothing tells which output is whose. The first HTLC that is
-    told counts: the one that expires first, so that no deadline is too late.
-    """
-    htlcs = sorted(state.htlcs, key=lambda it: it.expiry_height)
+    """The outputs of the transaction that are the commitment's, by the proved rule."""
     return spend.revoked(
         {
             "channel_type": state.channel_type,
@@ -214,7 +210,7 @@ def known_outputs(state: State, keys: Keys, spend: Spend) -> dict[bytes, Known]:
                     "hash": it.payment_hash.hex(),
                     "expiry_height": it.expiry_height,
                 }
-                for it in htlcs
+                for it in state.htlcs
             ],
             "transaction": state.transaction.stripped_bytes().hex(),
             "confirmed_height": state.height + 1 if state.confirmed_height is None else state.confirmed_height,

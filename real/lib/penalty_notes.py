@@ -8,8 +8,8 @@ from real.lib.penalties import State
 # the least feerate that nodes pass on by default, one satoshi for a virtual byte; and how many transactions nodes are
 # sure to take that spend one which no block has
 RELAYED_FEERATE, CHILDREN = 253, 24
-# a fee that is above this part of what it is paid from
-DEAR = 10
+# a fee that is above this part of what it is paid from, and the most blocks that an HTLC or a delay mostly has
+DEAR, FAR = 10, 2_016
 # the field of the curve (SEC 2, 2.4.1)
 FIELD = 2**256 - 2**32 - 977
 
@@ -50,6 +50,15 @@ def notes_of(state: State, found: list[dict[str, Any]]) -> Iterator[str]:
     """The notes, in their order."""
     sent = [it for it in found[:-1] if it["answer"] == penalties.TAKEN]
     yield from destination_notes(state.destination)
+    paid = [at for at, it in enumerate(state.transaction.outputs) if it.program == state.destination]
+    if paid:
+        yield f"destination: output {paid[0]} of the transaction that was seen has this program"
+    late = [it["outputs"] for it in found[:-1] if (it.get("deadline_blocks") or 0) > FAR]
+    if late:
+        yield (
+            f"more than {FAR} blocks are left of outputs {places_of(late)}: compare height, confirmed_height and the"
+            " expiries with the chain"
+        )
     if is_kept(state, found):
         yield (
             "with anchors the owner may add inputs to this HTLC transaction, which gives it another id and makes this"

@@ -5,7 +5,7 @@ from collections.abc import Iterator
 from typing import Any
 
 from real.lib.transaction import read_transaction, sha256, shown_id
-from real.tests.revoked_states import htlc, with_anchors, with_outputs
+from real.tests.revoked_states import SHARED, SHARED_HTLCS, htlc, with_anchors, with_outputs
 from real.tests.spend_requests import line, without
 
 KEYS = {
@@ -94,6 +94,16 @@ def anchored(told: dict[str, Any], case: dict[str, Any]) -> tuple[dict[str, Any]
         "others": [at for at in range(len(outputs)) if at not in mine],
     }
     return request(told, case, transaction=transaction, channel_type="anchors"), answer
+
+
+def shared(told: dict[str, Any]) -> Iterator[tuple[dict[str, Any], list[int | None]]]:
+    """Two offered HTLCs of one hash, told in either order, and the first block of each output for its owner."""
+    case, numbers = told["cases"][1], SHARED_HTLCS
+    for order in (numbers, numbers[::-1]):
+        htlcs = [htlc(told, it) for it in (1, *order)]
+        least = min(it["expiry_height"] for it in htlcs[1:])
+        asked = request(told, case, transaction=with_outputs(case, SHARED), htlcs=htlcs, confirmed_height=500)
+        yield asked, [500, least + 1, least + 1, None, 644]
 
 
 def faults(told: dict[str, Any]) -> Iterator[tuple[str, str, int, str]]:

@@ -760,3 +760,27 @@ class PenaltiesTest(CurveCase):
             "BadShape state.channel_type",
             lambda: penalties_of({**good, "channel_type": "anchors"}, self.curve, self.trace, is_legacy=True),
         )
+
+    def test_notes_of_answers(self) -> None:
+        """Notes on a deadline that is far away, and on a destination that the transaction pays itself."""
+        given = state(self.told, self.case, self.curve)
+        at = next(at for at, it in enumerate(self.case["outputs"]) if it["kind"] == "to_local")
+        program = self.case["outputs"][at]["script_pubkey"]
+        for deadline, destination, wanted in (
+            (2_016, DESTINATION, []),
+            (None, DESTINATION, []),
+            (
+                2_017,
+                DESTINATION,
+                [
+                    "more than 2016 blocks are left of outputs 3: compare height, confirmed_height and the expiries"
+                    " with the chain"
+                ],
+            ),
+            (1, program, [f"destination: output {at} of the transaction that was seen has this program"]),
+        ):
+            read = penalties.read_state(json.dumps({**given, "destination": destination}))
+            answer = {"outputs": [3], "kinds": ["to_local"], "value": 1, "fee": 1, "answer": "no key"}
+            found = [{**answer, "deadline_blocks": deadline}, {}]
+            told = list(penalty_notes.notes_of(read, found))
+            self.check(told == wanted, f"notes on a deadline of {deadline}, to {destination}: {told}")

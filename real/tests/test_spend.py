@@ -101,6 +101,12 @@ class RevokedTest(CheckedCase):
             found = spend_answers(line(asked), "revoked")
             self.check(found == (line(answer), 0, []), f"the outputs of a commitment: {found}")
 
+    def test_shared_hashes(self) -> None:
+        for asked, heights in revoked_requests.shared(self.told):
+            claims = json.loads(spend_answer(line(asked), "revoked")[0])["claims"]
+            found = [it["owner_height"] for it in claims]
+            self.check(found == heights, f"the first blocks of outputs that share a script: {found}")
+
     def test_claims_are_outputs(self) -> None:
         """What it answers is what a request for a spend takes."""
         asked, _ = next(revoked_requests.answers(self.told))

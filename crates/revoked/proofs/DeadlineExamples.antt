@@ -5,7 +5,7 @@ use Rattle.anchor_forms.specs.declared.channel_types.ChannelType.TheVariants.{St
 use Rattle.commit.specs.declared.fees.Direction.{Direction}
 use Rattle.commit.specs.declared.fees.Direction.TheVariants.{Offered, Received}
 use Rattle.revoked.specs.Parts.{RevokedParts}
-use Rattle.revoked.specs.Deadlines.{owner_height}
+use Rattle.revoked.specs.Deadlines.{least_expiry, owner_height}
 use Rattle.revoked.specs.declared.outputs.RevokedHtlc.{RevokedHtlc}
 use Rattle.revoked.specs.declared.outputs.RevokedOutput.TheVariants.{ToLocal, ToRemote, ToHtlc}
 
@@ -37,3 +37,22 @@ received = refl
 
 received_with_anchors : map (owner_height (commitment Anchors) (ToHtlc (htlc Received))) (0 ∷ 501 ∷ 502 ∷ []) ≡ Some 1 ∷ Some 502 ∷ Some 503 ∷ []
 received_with_anchors = refl
+
+-- offered HTLCs with one hash, until 505 and 900: whichever is told first, an output of either may be the owner's from 506 on. A received one with that hash does not count, nor one with another hash
+abbrev until_505 : RevokedHtlc
+until_505 = record { direction = Offered; hash = 8 ∷ []; expiry = record { height = 505; low = omega arith } }
+
+abbrev until_900 : RevokedHtlc
+until_900 = record { direction = Offered; hash = 8 ∷ []; expiry = record { height = 900; low = omega arith } }
+
+abbrev received_until_3 : RevokedHtlc
+received_until_3 = record { direction = Received; hash = 8 ∷ []; expiry = record { height = 3; low = omega arith } }
+
+abbrev other_until_4 : RevokedHtlc
+other_until_4 = record { direction = Offered; hash = 9 ∷ []; expiry = record { height = 4; low = omega arith } }
+
+shared : map (least_expiry until_900) ((until_900 ∷ until_505 ∷ []) ∷ (until_505 ∷ until_900 ∷ []) ∷ (received_until_3 ∷ until_900 ∷ other_until_4 ∷ []) ∷ [] ∷ []) ≡ 505 ∷ 505 ∷ 900 ∷ 900 ∷ []
+shared = refl
+
+shared_output : owner_height (record { channel_type = StaticRemoteKey; keys = (commitment StaticRemoteKey).keys; delay_blocks = 144; htlcs = until_900 ∷ until_505 ∷ [] }) (ToHtlc until_900) 500 ≡ Some 506
+shared_output = refl

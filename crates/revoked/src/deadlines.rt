@@ -1,10 +1,10 @@
 //! When the owner of a revoked commitment can take its outputs.
 
 ghost use Rattle.std.specs.Prelude.{◌≡◌, ◌<◌, ◌^◌};
-ghost use Rattle.revoked.specs.Deadlines.{wait_of, htlc_height};
+ghost use Rattle.revoked.specs.Deadlines.{wait_of, htlc_height, is_offered_with, least_expiry};
 
 use crate::commitments::Revoked;
-use crate::outputs::RevokedOutput;
+use crate::outputs::{RevokedHtlc, RevokedOutput};
 use anchor_forms::ChannelType;
 use commit::Direction;
 
@@ -29,12 +29,35 @@ fn htlc_height(direction: Direction, least: u64, expiry_height: u32) -> u64
     }
 }
 
+// Whether an HTLC is offered, and has this hash.
+fn is_offered_with(hash: &[u8], htlc: &RevokedHtlc) -> bool
+    ensures { result ≡ is_offered_with hash.now htlc.now }
+{
+    match htlc.direction {
+        Direction::Offered => htlc.hash.as_slice() == hash,
+        Direction::Received => false,
+    }
+}
+
+// The least expiry of an HTLC and of the offered ones with its hash. The scripts of offered ones do not have it, so nothing tells which of their outputs is whose.
+fn least_expiry(htlcs: &[RevokedHtlc], htlc: &RevokedHtlc) -> u32
+    ensures { result ≡ least_expiry htlc.now htlcs.now }
+{
+    let mut least = htlc.expiry.height;
+    for other in htlcs.iter().rev() {
+        if is_offered_with(htlc.hash.as_slice(), other) {
+            least = other.expiry.height.min(least);
+        }
+    }
+    least
+}
+
 impl Revoked {
     ghost use Rattle.std.specs.Prelude.{◌≡◌};
     ghost use Rattle.revoked.specs.Deadlines.{owner_height};
 
     /// The least height of a block in which the owner can take an output, where a block of this height has the transaction with it. `None` where the owner can't: to_remote
-    /// is its peer's. A transaction that takes the output for the peer is safe in all blocks below (BOLT 5).
+    /// is its peer's. Of offered HTLCs with one hash it is that of the one that expires first. A transaction that takes the output for the peer is safe in all blocks below (BOLT 5).
     pub fn owner_height(&self, output: &RevokedOutput, confirmed_height: u32) -> Option<u64>
         ensures { result ≡ owner_height self.now output.now confirmed_height }
     {
@@ -45,7 +68,7 @@ impl Revoked {
             RevokedOutput::ToHtlc(htlc) => Some(htlc_height(
                 htlc.direction,
                 confirmed + wait_of(self.channel_type()),
-                htlc.expiry.height,
+                least_expiry(self.htlcs(), htlc),
             )),
         }
     }
