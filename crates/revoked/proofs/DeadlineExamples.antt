@@ -5,7 +5,7 @@ use Rattle.anchor_forms.specs.declared.channel_types.ChannelType.TheVariants.{St
 use Rattle.commit.specs.declared.fees.Direction.{Direction}
 use Rattle.commit.specs.declared.fees.Direction.TheVariants.{Offered, Received}
 use Rattle.revoked.specs.Parts.{RevokedParts}
-use Rattle.revoked.specs.Deadlines.{least_expiry, owner_height}
+use Rattle.revoked.specs.Deadlines.{least_expiry_height, owner_height}
 use Rattle.revoked.specs.declared.outputs.RevokedHtlc.{RevokedHtlc}
 use Rattle.revoked.specs.declared.outputs.RevokedOutput.TheVariants.{ToLocal, ToRemote, ToHtlc}
 
@@ -51,7 +51,7 @@ received_until_3 = record { direction = Received; hash = 8 ∷ []; expiry = reco
 abbrev other_until_4 : RevokedHtlc
 other_until_4 = record { direction = Offered; hash = 9 ∷ []; expiry = record { height = 4; low = omega arith } }
 
-shared : map (least_expiry until_900) ((until_900 ∷ until_505 ∷ []) ∷ (until_505 ∷ until_900 ∷ []) ∷ (received_until_3 ∷ until_900 ∷ other_until_4 ∷ []) ∷ [] ∷ []) ≡ 505 ∷ 505 ∷ 900 ∷ 900 ∷ []
+shared : map (least_expiry_height until_900) ((until_900 ∷ until_505 ∷ []) ∷ (until_505 ∷ until_900 ∷ []) ∷ (received_until_3 ∷ until_900 ∷ other_until_4 ∷ []) ∷ [] ∷ []) ≡ 505 ∷ 505 ∷ 900 ∷ 900 ∷ []
 shared = refl
 
 shared_output : owner_height (record { channel_type = StaticRemoteKey; keys = (commitment StaticRemoteKey).keys; delay_blocks = 144; htlcs = until_900 ∷ until_505 ∷ [] }) (ToHtlc until_900) 500 ≡ Some 506

@@ -29,13 +29,13 @@ abbrev pub is_offered_with : List ℕ → RevokedHtlc → Bool
 is_offered_with hash h = if_offered h.direction (bytes_eq h.hash hash)
 
 -- the least expiry of an HTLC and of the offered ones with its hash: their scripts are one, since they do not have the expiry, so nothing tells which output is whose
-abbrev pub least_expiry : RevokedHtlc → List RevokedHtlc → ℕ
-least_expiry h [] = h.expiry.height
-least_expiry h (o ∷ htlcs) = if is_offered_with h.hash o then min o.expiry.height (least_expiry h htlcs) else least_expiry h htlcs
+abbrev pub least_expiry_height : RevokedHtlc → List RevokedHtlc → ℕ
+least_expiry_height h [] = h.expiry.height
+least_expiry_height h (o ∷ htlcs) = if is_offered_with h.hash o then min o.expiry.height (least_expiry_height h htlcs) else least_expiry_height h htlcs
 
 -- the least height of a block in which the owner can take an output of a transaction that the block of a height has. to_local's form asks for the delay (BIP 68), which the output of an HTLC transaction has too;
 -- to_remote is the peer's
 abbrev pub owner_height : RevokedParts → RevokedOutput → ℕ → Option ℕ
 owner_height r ToLocal confirmed = Some (confirmed + r.delay_blocks)
 owner_height r ToRemote confirmed = None
-owner_height r (ToHtlc h) confirmed = Some (htlc_height h.direction (confirmed + wait_of r.channel_type) (least_expiry h r.htlcs))
+owner_height r (ToHtlc h) confirmed = Some (htlc_height h.direction (confirmed + wait_of r.channel_type) (least_expiry_height h r.htlcs))

@@ -1,7 +1,7 @@
 //! When the owner of a revoked commitment can take its outputs.
 
 ghost use Rattle.std.specs.Prelude.{◌≡◌, ◌<◌, ◌^◌};
-ghost use Rattle.revoked.specs.Deadlines.{wait_of, htlc_height, is_offered_with, least_expiry};
+ghost use Rattle.revoked.specs.Deadlines.{wait_of, htlc_height, is_offered_with, least_expiry_height};
 
 use crate::commitments::Revoked;
 use crate::outputs::{RevokedHtlc, RevokedOutput};
@@ -40,8 +40,8 @@ fn is_offered_with(hash: &[u8], htlc: &RevokedHtlc) -> bool
 }
 
 // The least expiry of an HTLC and of the offered ones with its hash. The scripts of offered ones do not have it, so nothing tells which of their outputs is whose.
-fn least_expiry(htlcs: &[RevokedHtlc], htlc: &RevokedHtlc) -> u32
-    ensures { result ≡ least_expiry htlc.now htlcs.now }
+fn least_expiry_height(htlcs: &[RevokedHtlc], htlc: &RevokedHtlc) -> u32
+    ensures { result ≡ least_expiry_height htlc.now htlcs.now }
 {
     let mut least = htlc.expiry.height;
     for other in htlcs.iter().rev() {
@@ -68,7 +68,7 @@ impl Revoked {
             RevokedOutput::ToHtlc(htlc) => Some(htlc_height(
                 htlc.direction,
                 confirmed + wait_of(self.channel_type()),
-                least_expiry(self.htlcs(), htlc),
+                least_expiry_height(self.htlcs(), htlc),
             )),
         }
     }
