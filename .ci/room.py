@@ -122,6 +122,14 @@ def stamp(folder):
         return None
 
 
+def finished_at(folder):
+    """When the library there was finished, or 0 where it is not."""
+    try:
+        return os.stat(f"{folder}/out/rlib/stamp").st_mtime_ns
+    except OSError:
+        return 0
+
+
 def build(folder):
     """The toolchain's stamp of the finished library there, and what tells this build of it from another one: libraries stand together only where each was proved over the others' builds."""
     formats = sorted(glob.glob(f"{folder}/out/rlib/*.rlib/format"))
@@ -175,8 +183,17 @@ def enter_room():
     return room
 
 
+def take_libraries(room, names, rooms):
+    """Has the room take over these libraries, lowest first, as they were finished last in one of these rooms."""
+    for name in names:
+        given = max(rooms, key=lambda it: finished_at(f"{it}/crates/{name}"))
+        if finished_at(f"{given}/crates/{name}") and build(f"{given}/crates/{name}") != build(f"{room}/crates/{name}"):
+            shutil.rmtree(f"{room}/crates/{name}/out/rlib", ignore_errors=True)
+            shutil.copytree(f"{given}/crates/{name}/out/rlib", f"{room}/crates/{name}/out/rlib", copy_function=link_file)
+
+
 def parallel_rooms(room):
-    """The room and others like it, one for each check that runs at once: a check keeps others out of the crates that it stands on. What is proved in one room is taken over by the others."""
+    """The room and others like it, one for each check that runs at once: a check keeps others out of the crates that it stands on."""
     rooms = [room, *(f"{room}-{number}" for number in range(2, job_count() + 1))]
     for other in rooms[1:]:
         os.makedirs(f"{other}/.git", exist_ok=True)
