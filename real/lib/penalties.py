@@ -47,7 +47,7 @@ MAX_HTLCS = 966
 # the shortest program by which a transaction of one input has the 65 bytes, without witnesses, that nodes pass on
 SHORTEST_PROGRAM = 5
 # what is answered of outputs
-TAKEN, TOO_LITTLE, NO_KEY = "taken", "too little to be passed on", "no key"
+TAKEN, TOO_LITTLE, NO_KEY, NOT_CLEAN = "taken", "too little to be passed on", "no key", "not clean"
 
 
 @dataclass
@@ -314,15 +314,21 @@ def packs(takes: list[Take], destination: bytes) -> list[list[Take]]:
     return found
 
 
+def urgency(batch: list[Take], state: State) -> tuple[bool, int, int]:
+    """By what transactions are ordered: what somebody else can take first stands first, and of that the dearest."""
+    deadline = least_deadline(deadline_of(it.known, state) for it in batch)
+    return deadline is None, deadline or 0, -sum(it.output.value for it in batch)
+
+
 def batches(takes: list[Take], state: State, signing: dict[bytes, bytes], is_one: bool) -> list[list[Take]]:
     """One transaction for each output. Or one for all that can be joined, more where one is too heavy, unless they have
-    too little together, and one for each other output. The dearest stands first.
+    too little together, and one for each other output. The most urgent stands first.
     """
     joined = packs([it for it in takes if is_one and is_joined(it, state, signing)], state.destination)
     joined = [it for it in joined if unsigned_transaction(state, it)[0] is not None]
     places = {each.index for it in joined for each in it}
     found = joined + [[it] for it in takes if it.index not in places]
-    return sorted(found, key=lambda it: -sum(each.output.value for each in it))
+    return sorted(found, key=lambda it: urgency(it, state))
 
 
 def signed_transaction(
@@ -339,15 +345,16 @@ def signed_transaction(
     return transaction
 
 
-def judge_transaction(transaction: Transaction, takes: list[Take], curve: AnyCurve, trace: Trace) -> None:
-    """Refuses a transaction that the judge does not find clean, or that consensus refuses as a whole."""
+def fault_of(transaction: Transaction, takes: list[Take], curve: AnyCurve, trace: Trace) -> str | None:
+    """Why the judge does not find a transaction clean, or consensus refuses it as a whole; None where it is clean."""
     spent = [it.output for it in takes]
     faults = summary.summary_of(transaction, spent)["faults"]
     if faults:
-        raise Refused(f"NotClean {takes[0].index} {faults[0]}")
+        return str(faults[0])
     for it, found in zip(takes, judgement.judge(transaction, spent, curve, trace)):
         if found["answer"] != "clean" or found["path"] != 0 or found["relay"]:
-            raise Refused(f"NotClean {it.index} {found.get('reason', 'another path')}")
+            return f"output {it.index}: {found.get('reason', 'another path')}"
+    return None
 
 
 def answer_of(
@@ -373,7 +380,9 @@ def answer_of(
         return {**answer, "answer": NO_KEY, "deadline_blocks": deadline, "key": missing[0]}
     if transaction is None:
         return {**answer, "answer": TOO_LITTLE}
-    judge_transaction(signed_transaction(transaction, takes, signing, curve), takes, curve, trace)
+    fault = fault_of(signed_transaction(transaction, takes, signing, curve), takes, curve, trace)
+    if fault is not None:
+        return {**answer, "answer": NOT_CLEAN, "deadline_blocks": deadline, "reason": fault}
     return {
         **answer,
         "answer": TAKEN,
@@ -410,12 +419,12 @@ def penalties(
     takes, others = split_outputs(state, table)
     # the judge lists all scripts by one call
     trace.paths([it.known.script for it in takes])
-    found: dict[str, list[int]] = {TAKEN: [], TOO_LITTLE: [], NO_KEY: []}
+    found: dict[str, list[int]] = {TAKEN: [], TOO_LITTLE: [], NO_KEY: [], NOT_CLEAN: []}
     for batch in batches(takes, state, signing, is_one):
         answer = answer_of(batch, state, signing, curve, trace)
         found[answer["answer"]] += answer["outputs"]
         yield answer
-    taken, too_little, no_key = (sorted(it) for it in found.values())
+    taken, too_little, no_key, not_clean = (sorted(it) for it in found.values())
     last = {
         "transaction": state.transaction.txid(),
         "taken": taken,
@@ -424,13 +433,14 @@ def penalties(
         "others": others,
         **names_of(state, keys, table, others),
     }
-    optional = {"spent": state.spent, "unused_keys": unused}
+    optional = {"not_clean": not_clean, "spent": state.spent, "unused_keys": unused}
     yield {**last, **{name: it for name, it in optional.items() if it}}
 
 
 def is_left(last: dict[str, Any]) -> bool:
     """Whether the last line says that something is left: an output that matches nothing and is not named, one whose
-    key is missing, or a key that is that of neither base point.
+    key is missing or whose transaction is not clean, or a key that is that of neither base point.
     """
     named = [at for it in last.get("named", {}).values() for at in it]
-    return bool(set(last["others"]) - set(named) or last["no_key"] or last.get("unused_keys"))
+    unnamed = set(last["others"]) - set(named)
+    return bool(unnamed or last["no_key"] or last.get("not_clean") or last.get("unused_keys"))

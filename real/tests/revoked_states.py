@@ -131,9 +131,20 @@ def state(told: dict[str, Any], case: dict[str, Any], curve: AnyCurve, **changes
     return {**found, **changes}
 
 
-def dearest(values: Any, places: list[int] | None = None) -> list[int]:
-    """Places of outputs in the order in which they are told: the greatest value first."""
-    return sorted(range(len(values)) if places is None else places, key=lambda it: -values[it])
+def in_order(batches: list[list[int]], deadlines: list[int | None], values: list[int]) -> list[list[int]]:
+    """Outputs that are taken together, in the order in which they are told: the least deadline first, and of these the
+    greatest value.
+    """
+
+    def urgency(batch: list[int]) -> tuple[float, int]:
+        each = [float("inf") if deadlines[it] is None else float(deadlines[it] or 0) for it in batch]
+        return min(each), -sum(values[it] for it in batch)
+
+    return sorted(batches, key=urgency)
+
+
+def deadlines_of(case: dict[str, Any]) -> list[int | None]:
+    return [deadline_of(it) for it in case["outputs"]]
 
 
 def values_of(case: dict[str, Any]) -> list[int]:
@@ -207,6 +218,21 @@ def anchored_state(
         curve,
         **{"transaction": transaction, "channel_type": "anchors", "funding_keys": funding_keys, **changes},
     )
+
+
+def anchored_deadlines(
+    outputs: list[tuple[str, int, str, int | None]], height: int, confirmed_height: int
+) -> list[int | None]:
+    """The blocks after a height in which nobody else can take outputs of a channel with anchors, whose HTLC
+    transactions wait for one block.
+    """
+    least = max(0, confirmed_height - height)
+    return [
+        {"to_local": max(0, confirmed_height + 143 - height), "received": least}.get(
+            kind, max(least, (expiry or 0) - height)
+        )
+        for kind, _, _, expiry in outputs
+    ]
 
 
 def places_of(outputs: list[tuple[str, int, str, int | None]], *kinds: str) -> list[int]:

@@ -2,6 +2,7 @@
 revoked ones. Tested, not proved.
 """
 import json
+import unittest.mock
 from collections.abc import Callable
 from typing import Any
 
@@ -29,10 +30,12 @@ from real.tests.revoked_states import (
     SHARED,
     SHARED_HTLCS,
     TO_LOCAL_WEIGHT,
+    anchored_deadlines,
     anchored_state,
     deadline_of,
-    dearest,
+    deadlines_of,
     htlc,
+    in_order,
     notes_of,
     output_names,
     penalties_of,
@@ -87,12 +90,12 @@ class PenaltiesTest(CurveCase):
         self.check(penalties.packs([], destination) == [], "no transaction of no outputs")
 
     def check_case(self, case: dict[str, Any]) -> None:
-        """Each output of a case is taken on its own, the dearest first, with the value and the script of the appendix,
-        its fee and its deadline.
+        """Each output of a case is taken on its own, the most urgent first, with the value and the script of the
+        appendix, its fee and its deadline.
         """
-        found, order = penalties_of(state(self.told, case, self.curve), self.curve, self.trace), dearest(
-            values_of(case)
-        )
+        found = penalties_of(state(self.told, case, self.curve), self.curve, self.trace)
+        singles = [[at] for at in range(len(case["outputs"]))]
+        order = [it[0] for it in in_order(singles, deadlines_of(case), values_of(case))]
         kinds, wanted = [it["kinds"] for it in found[:-1]], [[case["outputs"][it]["kind"]] for it in order]
         self.check(kinds == wanted, f"{case['name']}: {kinds}")
         self.check_last_line(case["name"], found, range(len(wanted)))
@@ -153,11 +156,10 @@ class PenaltiesTest(CurveCase):
             for at, it in enumerate(case["outputs"])
             if it["kind"] in ("to_local", "to_remote") or (it["kind"] == "offered" and it["cltv_expiry"] > HEIGHT)
         ]
-        self.check(found[0]["outputs"] == free, f"{case['name']}: together {found[0]['outputs']}")
-        rest = [it["outputs"] for it in found[1:-1]]
-        self.check(
-            rest == [[at] for at in dearest(values_of(case)) if at not in free], f"{case['name']}: one by one {rest}"
-        )
+        rest = [[at] for at in range(len(case["outputs"])) if at not in free]
+        wanted = in_order([free, *rest], deadlines_of(case), values_of(case))
+        outputs = [it["outputs"] for it in found[:-1]]
+        self.check(outputs == wanted, f"{case['name']}: together, and one by one {outputs}")
 
     def test_shared_program(self) -> None:
         """Two offered HTLCs of one hash have one program: the deadline of both outputs is by the least expiry, in
@@ -177,12 +179,10 @@ class PenaltiesTest(CurveCase):
                     confirmed_height=503,
                 )
                 found = penalties_of(given, self.curve, self.trace, is_one=True)
-                joined = [1, 2, 3, 4] if left else [3, 4]
+                wanted = [[0], [1, 2, 3, 4]] if left else [[1], [2], [0], [3, 4]]
                 self.check_last_line(where, found, range(5))
-                self.check(
-                    [it["outputs"] for it in found[:-1]] == [joined, *([at] for at in (1, 2, 0) if at not in joined)],
-                    f"{where}: together {found[0]['outputs']}",
-                )
+                outputs = [it["outputs"] for it in found[:-1]]
+                self.check(outputs == wanted, f"{where}: together {outputs}")
                 alone = {
                     it["outputs"][0]: it["deadline_blocks"] for it in penalties_of(given, self.curve, self.trace)[:-1]
                 }
@@ -204,12 +204,12 @@ class PenaltiesTest(CurveCase):
                 is_one=True,
             )
             self.check(
-                at not in found[0]["outputs"],
-                f"an HTLC of 502 and 2000, as {expiries}: together {found[0]['outputs']}",
+                len(found) == 3 and at not in found[1]["outputs"],
+                f"an HTLC of 502 and 2000, as {expiries}: together {found[1]['outputs']}",
             )
             self.check(
-                [it["deadline_blocks"] for it in found[1:-1]] == [0] and found[1]["outputs"] == [at],
-                f"an HTLC of 502 and 2000, as {expiries}: {found[1:]}",
+                found[0]["deadline_blocks"] == 0 and found[0]["outputs"] == [at],
+                f"an HTLC of 502 and 2000, as {expiries}: {found[0]}",
             )
 
     def test_joined_outputs(self) -> None:
@@ -243,7 +243,9 @@ class PenaltiesTest(CurveCase):
                 is_one=True,
             )
             self.check_last_line(f"outputs of {values}", found, together or [], little)
-            wanted = [*([together] if together else []), *([at] for at in dearest(values, little))]
+            deadlines = [{2: 1, 3: 2, "to_local": 144}[it] for it in kinds]
+            batches = [*([together] if together else []), *([at] for at in little)]
+            wanted = in_order(batches, deadlines, list(values))
             self.check(
                 [it["outputs"] for it in found[:-1]] == wanted,
                 f"outputs of {values}: together {[it['outputs'] for it in found[:-1]]}",
@@ -266,7 +268,8 @@ class PenaltiesTest(CurveCase):
                 )
                 self.check_last_line(f"the key of {name} alone", found, mine, no_key=lost)
                 lines = [it for it in found[:-1] if it["answer"] == "no key"]
-                order = dearest(values_of(self.case), lost)
+                singles = [[at] for at in lost]
+                order = [it[0] for it in in_order(singles, deadlines_of(self.case), values_of(self.case))]
                 self.check(
                     [it["outputs"] for it in lines] == [[at] for at in order]
                     and {it["key"] for it in lines} == {missing},
@@ -446,7 +449,9 @@ class PenaltiesTest(CurveCase):
         found = penalties_of(given, self.curve, self.trace)
         self.check_last_line("anchors", found, mine, others=rest, named=named)
         self.check(not penalties.is_left(found[-1]), "anchors: what is named is not left")
-        for at, it in zip(dearest([it[1] for it in outputs], mine), found):
+        deadlines = anchored_deadlines(outputs, HEIGHT, HEIGHT + 1)
+        order = in_order([[at] for at in mine], deadlines, [it[1] for it in outputs])
+        for (at,), it in zip(order, found):
             kind, value, script, _ = outputs[at]
             made = read_transaction(bytes.fromhex(it["transaction"]))
             between = "01" if kind == "to_local" else self.told["terms"]["keys"]["local_revocation_pubkey"]
@@ -482,23 +487,14 @@ class PenaltiesTest(CurveCase):
                 anchored_state(self.told, case, self.curve, outputs, **changes), self.curve, self.trace
             )
             since = height + 1 if confirmed_height is None else confirmed_height
-            wanted = []
-            for at in dearest([it[1] for it in outputs], mine):
-                kind, _, _, expiry = outputs[at]
-                wanted.append(
-                    {
-                        "to_local": since + 143 - height,
-                        "received": least,
-                        "offered": max(least, (expiry or 0) - height),
-                    }[kind]
-                )
-            self.check(
-                [it["deadline_blocks"] for it in found[:-1]] == wanted,
-                (
-                    f"anchors at {height}, in {confirmed_height}: {[it['deadline_blocks'] for it in found[:-1]]}, and"
-                    f" not {wanted}"
-                ),
-            )
+            deadlines = anchored_deadlines(outputs, height, since)
+            received = [deadlines[at] for at in places_of(outputs, "received")]
+            self.check(set(received) == {least}, f"anchors at {height}: deadlines of received HTLCs {received}")
+            wanted = [
+                (it, deadlines[it[0]]) for it in in_order([[at] for at in mine], deadlines, [it[1] for it in outputs])
+            ]
+            told = [(it["outputs"], it["deadline_blocks"]) for it in found[:-1]]
+            self.check(told == wanted, f"anchors at {height}, in {confirmed_height}: {told}, and not {wanted}")
 
     def check_other_type(self, case: dict[str, Any], outputs: list[tuple[str, int, str, int | None]]) -> None:
         """A commitment that is told as of the other type: its HTLCs match nothing, and are named. So are anchors with
@@ -784,3 +780,20 @@ class PenaltiesTest(CurveCase):
             found = [{**answer, "deadline_blocks": deadline}, {}]
             told = list(penalty_notes.notes_of(read, found))
             self.check(told == wanted, f"notes on a deadline of {deadline}, to {destination}: {told}")
+
+    def test_not_clean(self) -> None:
+        """What the judge does not find clean is named with its reason, and all else is taken."""
+        given, count = state(self.told, self.case, self.curve), len(self.case["outputs"])
+        real = penalties.fault_of
+
+        def doubt(*asked: Any) -> str | None:
+            return "output 1: a reason" if asked[1][0].index == 1 else real(*asked)
+
+        with unittest.mock.patch.object(penalties, "fault_of", doubt):
+            found = penalties_of(given, self.curve, self.trace)
+        (line,) = [it for it in found[:-1] if it["outputs"] == [1]]
+        told = line["answer"], line["reason"], "transaction" in line
+        self.check(told == ("not clean", "output 1: a reason", False), f"what is not clean: {line}")
+        rest = [at for at in range(count) if at != 1]
+        self.check((found[-1]["taken"], found[-1]["not_clean"]) == (rest, [1]), f"what is not clean: {found[-1]}")
+        self.check(penalties.is_left(found[-1]), "what is not clean is left")

@@ -154,6 +154,12 @@ def deadline_of(known: Known) -> int | None:
     return None if known.first_height is None else max(0, known.first_height - (HEIGHT + 1))
 
 
+def urgency(known: Known, value: int) -> tuple[bool, int, int]:
+    """By what answers are ordered: the least deadline first, and of these the greatest value."""
+    deadline = deadline_of(known)
+    return deadline is None, deadline or 0, -value
+
+
 def faults_of(answer: dict[str, Any], transaction: PartialTransaction, at: int, known: Known) -> list[Any]:
     """What an answer has otherwise than Electrum has of the output that stands there."""
     output = transaction.outputs()[at]
@@ -191,8 +197,8 @@ def compare(
     outputs = transaction.outputs()
     own = [at for at, it in enumerate(outputs) if it.scriptpubkey in known]
     others = [at for at, it in enumerate(outputs) if it.scriptpubkey not in known]
-    dearest = sorted(own, key=lambda it: -outputs[it].value)
-    little = sorted(at for at, it in zip(dearest, answers) if outputs[at].value - it["fee"] < DUST_SAT)
+    order = sorted(own, key=lambda it: urgency(known[outputs[it].scriptpubkey], outputs[it].value))
+    little = sorted(at for at, it in zip(order, answers) if outputs[at].value - it["fee"] < DUST_SAT)
     wanted = {
         "transaction": transaction.txid(),
         "taken": [at for at in own if at not in little],
@@ -203,7 +209,7 @@ def compare(
     tally.check(last == wanted, f"{name}: {last}, and not {wanted}")
     tally.check(status == (LEFT if others else 0), f"{name}: status {status}")
     tally.check(len(answers) == len(own), f"{name}: {len(answers)} answers")
-    for at, answer in zip(dearest, answers):
+    for at, answer in zip(order, answers):
         faults = faults_of(answer, transaction, at, known[outputs[at].scriptpubkey])
         tally.check(not faults, f"{name}: output {at}: {faults}")
     return answers, others
