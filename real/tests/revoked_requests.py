@@ -106,6 +106,14 @@ def shared(told: dict[str, Any]) -> Iterator[tuple[dict[str, Any], list[int | No
         yield asked, [500, least + 1, least + 1, None, 644]
 
 
+def without_delay(told: dict[str, Any]) -> dict[str, Any]:
+    """A commitment whose to_local waits for nothing (BOLT 3): its script pushes 0."""
+    case, keys = told["cases"][1], told["terms"]["keys"]
+    script = f"6321{keys[KEYS['revocation']]}6700b27521{keys[KEYS['delayed']]}68ac"
+    transaction = with_outputs(case, [(5_000, "0020" + sha256(bytes.fromhex(script)).hex())])
+    return request(told, case, transaction=transaction, delay_blocks=0)
+
+
 def faults(told: dict[str, Any]) -> Iterator[tuple[str, str, int, str]]:
     """Requests with a part at fault, each with its refusal and the note that names the part."""
     asked = request(told, told["cases"][1])

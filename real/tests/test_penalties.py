@@ -399,6 +399,10 @@ class PenaltiesTest(CurveCase):
             ("to_local", {"height": 743, "confirmed_height": 600}, 0),
             ("to_local", {"height": 900, "confirmed_height": 600}, 0),
         ]
+        known = penalties.Known("to_local", b"", b"", [], b"", 600)
+        given = state(self.told, self.case, self.curve, height=600, confirmed_height=600, delay_blocks=0)
+        found = penalties.deadline_of(known, penalties.read_state(json.dumps(given)))
+        self.check(found == 0, f"the deadline of to_local without a delay: {found}")
         expiry = self.case["outputs"][at["offered"]]["cltv_expiry"]
         rows += [
             ("offered", {"height": expiry - 1}, 1),

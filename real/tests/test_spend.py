@@ -107,6 +107,11 @@ class RevokedTest(CheckedCase):
             found = [it["owner_height"] for it in claims]
             self.check(found == heights, f"the first blocks of outputs that share a script: {found}")
 
+    def test_no_delay(self) -> None:
+        (found,) = json.loads(spend_answer(line(revoked_requests.without_delay(self.told)), "revoked")[0])["claims"]
+        told = found["kind"], found["owner_height"]
+        self.check(told == ("to_local", revoked_requests.CONFIRMED), f"to_local without a delay: {told}")
+
     def test_claims_are_outputs(self) -> None:
         """What it answers is what a request for a spend takes."""
         asked, _ = next(revoked_requests.answers(self.told))
