@@ -75,22 +75,22 @@ all_own (e ∷ es) = call_owns e.call (replayed es) (all_own es)
 
 -- ---- what a channel knows stays known
 
-record Grew (old new : ChannelBook) : Type 0 where
+record KnowsMore (old new : ChannelBook) : Type 0 where
   seed : new.state.seed ≡ old.state.seed
   secrets : (secret : List ℕ) → Contains old.state.secrets secret → Contains new.state.secrets secret
 
-same_knowledge : (ch : ChannelBook) → Grew ch ch
+same_knowledge : (ch : ChannelBook) → KnowsMore ch ch
 same_knowledge ch = record { seed = refl; secrets = λ secret h. h }
 
 -- after a call, a channel is still there, and knows at least as much
-record IsLater (c : ℕ) (old : ChannelBook) (chs : Channels) : Type 0 where
+record KnowsLater (c : ℕ) (old : ChannelBook) (chs : Channels) : Type 0 where
   new : ChannelBook
   there : slice_get chs c ≡ Some new
-  grew : Grew old new
+  grew : KnowsMore old new
 
-changed : (f : ChannelBook → ChannelBook) → ((ch : ChannelBook) → Grew ch (f ch)) → (d c : ℕ) (chs : Channels) (ch : ChannelBook) → slice_get chs c ≡ Some ch → IsLater c ch (at_index f d chs)
+changed : (f : ChannelBook → ChannelBook) → ((ch : ChannelBook) → KnowsMore ch (f ch)) → (d c : ℕ) (chs : Channels) (ch : ChannelBook) → slice_get chs c ≡ Some ch → KnowsLater c ch (at_index f d chs)
 changed f grows d c [] ch at = absurd (none-some ch at)
-changed f grows zero zero (x ∷ xs) ch at = record { new = f x; there = refl; grew = subst (λ y. Grew y (f x)) (same_Some x ch at) (grows x) }
+changed f grows zero zero (x ∷ xs) ch at = record { new = f x; there = refl; grew = subst (λ y. KnowsMore y (f x)) (same_Some x ch at) (grows x) }
 changed f grows zero (suc c) (x ∷ xs) ch at = record { new = ch; there = at; grew = same_knowledge ch }
 changed f grows (suc d) zero (x ∷ xs) ch at = record { new = ch; there = at; grew = same_knowledge ch }
 changed f grows (suc d) (suc c) (x ∷ xs) ch at = let l = changed f grows d c xs ch at in record { new = l.new; there = l.there; grew = l.grew }
@@ -100,12 +100,12 @@ before_the_last x c [] ch at = absurd (none-some ch at)
 before_the_last x zero (y ∷ ys) ch at = at
 before_the_last x (suc c) (y ∷ ys) ch at = before_the_last x c ys ch at
 
-step_grows : (step : Step) (ch : ChannelBook) → Grew ch (with_state (stepped step) ch)
+step_grows : (step : Step) (ch : ChannelBook) → KnowsMore ch (with_state (stepped step) ch)
 step_grows (Own u) ch = record { seed = refl; secrets = λ secret h. h }
 step_grows (Peer (Updated u)) ch = record { seed = refl; secrets = λ secret h. h }
 step_grows (Peer (CommitmentSigned tokens)) ch = record { seed = refl; secrets = λ secret h. h }
 
-later : (call : Call) (c : ℕ) (chs : Channels) (ch : ChannelBook) → slice_get chs c ≡ Some ch → IsLater c ch (channels_after call chs)
+later : (call : Call) (c : ℕ) (chs : Channels) (ch : ChannelBook) → slice_get chs c ≡ Some ch → KnowsLater c ch (channels_after call chs)
 later (Open o) c chs ch at = record { new = ch; there = before_the_last _ c chs ch at; grew = same_knowledge ch }
 later (Stepping d step) c chs ch at = changed (with_state (stepped step)) (step_grows step) d c chs ch at
 later (Sign d) c chs ch at = changed _ (λ x. record { seed = refl; secrets = λ secret h. h }) d c chs ch at
@@ -114,17 +114,17 @@ later (Keep d n claims) c chs ch at = changed _ (λ x. record { seed = refl; sec
 later (Release d batch) c chs ch at = record { new = ch; there = at; grew = same_knowledge ch }
 later (Close d) c chs ch at = changed _ (λ x. record { seed = refl; secrets = λ secret h. h }) d c chs ch at
 
-signs_later : (old new : ChannelBook) → Grew old new → (key : List ℕ) → MaySign (knowledge_of old.state) key → MaySign (knowledge_of new.state) key
+signs_later : (old new : ChannelBook) → KnowsMore old new → (key : List ℕ) → MaySign (knowledge_of old.state) key → MaySign (knowledge_of new.state) key
 signs_later old new g key (own b e) = own b (e ∙ ap (λ s. base_key s b) (sym g.seed))
 signs_later old new g key (derived b point none e) = absurd (omega (arith, none.1))
 signs_later old new g key (revoked b secret known e) = revoked b secret (g.secrets secret known) (e ∙ ap (λ s. revocation_key (base_key s b) (point_of secret)) (sym g.seed))
 
-fills_later : (old new : ChannelBook) → Grew old new → (f : Filling) → CanFill (knowledge_of old.state) f → CanFill (knowledge_of new.state) f
+fills_later : (old new : ChannelBook) → KnowsMore old new → (f : Filling) → CanFill (knowledge_of old.state) f → CanFill (knowledge_of new.state) f
 fills_later old new g (Signature k) h = signs_later old new g k h
 fills_later old new g (PreimageOf x) h = absurd h
 fills_later old new g (Bytes b) h = tt
 
-all_fill_later : (old new : ChannelBook) → Grew old new → (fs : List Filling) → AllByRecursion (CanFill (knowledge_of old.state)) fs → AllByRecursion (CanFill (knowledge_of new.state)) fs
+all_fill_later : (old new : ChannelBook) → KnowsMore old new → (fs : List Filling) → AllByRecursion (CanFill (knowledge_of old.state)) fs → AllByRecursion (CanFill (knowledge_of new.state)) fs
 all_fill_later old new g [] h = tt
 all_fill_later old new g (f ∷ fs) h = (fills_later old new g f h.0, all_fill_later old new g fs h.1)
 

@@ -3,17 +3,14 @@
 ghost use Rattle.std.specs.Prelude.{◌≡◌, ◌++◌, ◌∷◌, [], length, slice_get, IfOk, IfErr, OnOk};
 ghost use Rattle.std.specs.List.{list_any};
 ghost use Rattle.tx.specs.Fields.{same_outpoint};
-ghost use Rattle.filling.specs.declared.errors.FillError.TheVariants.{NoMemory};
-ghost use Rattle.book.specs.declared.errors.ReleaseError.TheVariants.{Unfilled};
-ghost use Rattle.book.specs.declared.errors.ReleaseAgainError.TheVariants.{Refused};
 ghost use Rattle.book.specs.Calls.{IsBatchOf};
 ghost use Rattle.book.specs.Again.{without_spent, rest_refusal, batch_refusal, IsRest, IsRestRefusal};
 
 use crate::calls::{Batch, Call, Entry};
-use crate::errors::{ReleaseAgainError, ReleaseError};
+use crate::errors::ReleaseAgainError;
 use crate::history::Book;
 use claim::Claim;
-use filling::{FillError, Filled};
+use filling::Filled;
 use lists::List;
 use std::alloc::{AllocError, Global};
 use tx::{MAX_OUTPUTS, OutPoint, TxOut};
@@ -23,13 +20,6 @@ use tx::{MAX_OUTPUTS, OutPoint, TxOut};
 struct Rest {
     channel: u64,
     batch: Batch,
-}
-
-// That memory ran out.
-fn no_memory() -> ReleaseAgainError
-    ensures { result ≡ Refused (Unfilled NoMemory) }
-{
-    ReleaseAgainError::Refused(ReleaseError::Unfilled(FillError::NoMemory))
 }
 
 // Whether an output is among these.
@@ -91,17 +81,11 @@ fn rest_of(
         return Err(ReleaseAgainError::TooManyOutputs);
     }
     let alloc = batch.claims.allocator();
-    let claims = match without_spent(alloc, batch.claims.values(), spent) {
-        Ok(claims) => claims,
-        Err(_) => return Err(no_memory()),
-    };
+    let claims = without_spent(alloc, batch.claims.values(), spent)?;
     if claims.is_empty() {
         return Err(ReleaseAgainError::NothingLeft);
     }
-    let preimages = match copied(&batch.preimages) {
-        Ok(preimages) => preimages,
-        Err(_) => return Err(no_memory()),
-    };
+    let preimages = copied(&batch.preimages)?;
     Ok(Batch {
         claims,
         outputs,

@@ -1,8 +1,19 @@
 //! Why a book refuses a call.
 
 ghost use Rattle.std.specs.Prelude.{◌≡◌};
+ghost use Rattle.updates.specs.declared.errors.ChannelError.TheVariants as channels;
+ghost use Rattle.filling.specs.declared.errors.FillError.TheVariants as fills;
+ghost use Rattle.book.specs.declared.errors.OpenError.TheVariants as opens;
+ghost use Rattle.book.specs.declared.errors.StepError.TheVariants as steps;
+ghost use Rattle.book.specs.declared.errors.SignError.TheVariants as signs;
+ghost use Rattle.book.specs.declared.errors.KeepError.TheVariants as keeps;
+ghost use Rattle.book.specs.declared.errors.ReleaseError.TheVariants as releases;
+ghost use Rattle.book.specs.declared.errors.ReleaseAgainError.TheVariants as again;
+ghost use Rattle.book.specs.declared.errors.CloseError.TheVariants as closes;
+ghost use Rattle.book.specs.declared.errors.KnowError.TheVariants as knows;
 
 use filling::FillError;
+use std::alloc::AllocError;
 use thiserror::Error;
 use updates::ChannelError;
 
@@ -255,5 +266,85 @@ impl KnowError {
             KnowError::NoMemory => 0,
             KnowError::NoSuchChannel => 9,
         }
+    }
+}
+
+impl From<AllocError> for OpenError {
+    ghost from_gives = { λ _ e. e ≡ opens.NoMemory };
+
+    fn from(_error: AllocError) -> OpenError {
+        OpenError::NoMemory
+    }
+}
+
+impl From<AllocError> for StepError {
+    ghost from_gives = { λ _ e. e ≡ steps.Refused channels.NoMemory };
+
+    fn from(_error: AllocError) -> StepError {
+        StepError::Refused(ChannelError::NoMemory)
+    }
+}
+
+impl From<ChannelError> for StepError {
+    ghost from_gives = { λ refusal e. e ≡ steps.Refused refusal };
+
+    fn from(refusal: ChannelError) -> StepError {
+        StepError::Refused(refusal)
+    }
+}
+
+impl From<AllocError> for SignError {
+    ghost from_gives = { λ _ e. e ≡ signs.NoMemory };
+
+    fn from(_error: AllocError) -> SignError {
+        SignError::NoMemory
+    }
+}
+
+impl From<AllocError> for KeepError {
+    ghost from_gives = { λ _ e. e ≡ keeps.NoMemory };
+
+    fn from(_error: AllocError) -> KeepError {
+        KeepError::NoMemory
+    }
+}
+
+impl From<AllocError> for ReleaseError {
+    ghost from_gives = { λ _ e. e ≡ releases.Unfilled fills.NoMemory };
+
+    fn from(_error: AllocError) -> ReleaseError {
+        ReleaseError::Unfilled(FillError::NoMemory)
+    }
+}
+
+impl From<FillError> for ReleaseError {
+    ghost from_gives = { λ refusal e. e ≡ releases.Unfilled refusal };
+
+    fn from(refusal: FillError) -> ReleaseError {
+        ReleaseError::Unfilled(refusal)
+    }
+}
+
+impl From<AllocError> for ReleaseAgainError {
+    ghost from_gives = { λ _ e. e ≡ again.Refused (releases.Unfilled fills.NoMemory) };
+
+    fn from(_error: AllocError) -> ReleaseAgainError {
+        ReleaseAgainError::Refused(ReleaseError::Unfilled(FillError::NoMemory))
+    }
+}
+
+impl From<AllocError> for CloseError {
+    ghost from_gives = { λ _ e. e ≡ closes.NoMemory };
+
+    fn from(_error: AllocError) -> CloseError {
+        CloseError::NoMemory
+    }
+}
+
+impl From<AllocError> for KnowError {
+    ghost from_gives = { λ _ e. e ≡ knows.NoMemory };
+
+    fn from(_error: AllocError) -> KnowError {
+        KnowError::NoMemory
     }
 }

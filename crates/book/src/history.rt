@@ -12,7 +12,7 @@ use crate::releasing::FilledTwice;
 use channel::laws::sides_are_sound;
 use channel::{Channel, Message};
 use claim::Claim;
-use filling::{FillError, Filled};
+use filling::Filled;
 use forms::SharedPatterns;
 use indexmap::IndexMap;
 use lists::List;
@@ -21,7 +21,7 @@ use resolve::Known;
 use std::alloc::{AllocError, Global};
 use std::marker::Model;
 use tx::OutPoint;
-use updates::{ChannelError, Revocation};
+use updates::Revocation;
 
 /// A node's book. A contract sees it as its history, the oldest entry first.
 #[derive(Drop)]
@@ -152,14 +152,8 @@ impl Book {
         if self.channels.contains_key(&opening.terms.funding) {
             return Err(OpenError::SameFunding);
         }
-        match self.entries.reserve(1) {
-            Ok(()) => {}
-            Err(_) => return Err(OpenError::NoMemory),
-        }
-        match self.fulfils.reserve_channel() {
-            Ok(()) => {}
-            Err(_) => return Err(OpenError::NoMemory),
-        }
+        self.entries.reserve(1)?;
+        self.fulfils.reserve_channel()?;
         let open = OpenChannel::open(self.alloc, &opening, first_channel(&self.channels))?;
         let index = self.channels.len() as u64;
         match self.channels.insert(opening.terms.funding, open) {
@@ -189,14 +183,8 @@ impl Book {
         if index >= self.channels.len() {
             return Err(StepError::NoSuchChannel);
         }
-        match self.entries.reserve(1) {
-            Ok(()) => {}
-            Err(_) => return Err(StepError::Refused(ChannelError::NoMemory)),
-        }
-        match self.fulfils.reserve_preimage(index) {
-            Ok(()) => {}
-            Err(_) => return Err(StepError::Refused(ChannelError::NoMemory)),
-        }
+        self.entries.reserve(1)?;
+        self.fulfils.reserve_preimage(index)?;
         let open = &mut self.channels[index];
         let taken = open.step(step)?;
         let Taken { step, message } = taken;
@@ -220,15 +208,9 @@ impl Book {
         if index >= self.channels.len() {
             return Err(StepError::NoSuchChannel);
         }
-        match self.entries.reserve(1) {
-            Ok(()) => {}
-            Err(_) => return Err(StepError::Refused(ChannelError::NoMemory)),
-        }
+        self.entries.reserve(1)?;
         let open = &mut self.channels[index];
-        let number = match open.revoke(&revocation) {
-            Ok(number) => number,
-            Err(refusal) => return Err(StepError::Refused(refusal)),
-        };
+        let number = open.revoke(&revocation)?;
         let call = Call::Revoke {
             channel,
             revocation,
@@ -246,10 +228,7 @@ impl Book {
         if index >= self.channels.len() {
             return Err(SignError::NoSuchChannel);
         }
-        match self.entries.reserve(1) {
-            Ok(()) => {}
-            Err(_) => return Err(SignError::NoMemory),
-        }
+        self.entries.reserve(1)?;
         let open = &mut self.channels[index];
         let message = open.sign()?;
         let call = Call::Sign { channel };
@@ -275,10 +254,7 @@ impl Book {
         if index >= self.channels.len() {
             return Err(KeepError::NoSuchChannel);
         }
-        match self.entries.reserve(1) {
-            Ok(()) => {}
-            Err(_) => return Err(KeepError::NoMemory),
-        }
+        self.entries.reserve(1)?;
         let alloc = self.alloc;
         let open = &mut self.channels[index];
         open.keep(alloc, number, claims.values(), None)?;
@@ -312,10 +288,7 @@ impl Book {
         if index >= self.channels.len() {
             return Err(KeepError::NoSuchChannel);
         }
-        match self.entries.reserve(1) {
-            Ok(()) => {}
-            Err(_) => return Err(KeepError::NoMemory),
-        }
+        self.entries.reserve(1)?;
         let alloc = self.alloc;
         let open = &mut self.channels[index];
         open.keep(alloc, number, set.claims(), Some(set.state()))?;
@@ -338,15 +311,9 @@ impl Book {
         if index >= self.channels.len() {
             return Err(ReleaseError::NoSuchChannel);
         }
-        match self.entries.reserve(1) {
-            Ok(()) => {}
-            Err(_) => return Err(ReleaseError::Unfilled(FillError::NoMemory)),
-        }
+        self.entries.reserve(1)?;
         let open = &self.channels[index];
-        let filled = match open.release(self.alloc, &batch) {
-            Ok(filled) => filled,
-            Err(error) => return Err(ReleaseError::Unfilled(error)),
-        };
+        let filled = open.release(self.alloc, &batch)?;
         hold_whole(batch.claims.values());
         let call = Call::Release { channel, batch };
         Book::file(&mut self.entries, seat, call);
@@ -368,15 +335,9 @@ impl Book {
         if index >= self.channels.len() {
             return Err(ReleaseError::NoSuchChannel);
         }
-        match self.entries.reserve(1) {
-            Ok(()) => {}
-            Err(_) => return Err(ReleaseError::Unfilled(FillError::NoMemory)),
-        }
+        self.entries.reserve(1)?;
         let open = &self.channels[index];
-        let twice = match open.release_twice(self.alloc, &batch) {
-            Ok(filled) => filled,
-            Err(error) => return Err(ReleaseError::Unfilled(error)),
-        };
+        let twice = open.release_twice(self.alloc, &batch)?;
         hold_whole(batch.claims.values());
         let call = Call::Release { channel, batch };
         Book::file(&mut self.entries, seat, call);
@@ -393,10 +354,7 @@ impl Book {
         if index >= self.channels.len() {
             return Err(CloseError::NoSuchChannel);
         }
-        match self.entries.reserve(1) {
-            Ok(()) => {}
-            Err(_) => return Err(CloseError::NoMemory),
-        }
+        self.entries.reserve(1)?;
         let open = &mut self.channels[index];
         let number = open.close();
         let call = Call::Close { channel };
@@ -436,13 +394,7 @@ impl Book {
             return Err(KnowError::NoSuchChannel);
         }
         let open = &self.channels[index];
-        let preimages = match Vec::from_slice(self.alloc, self.fulfils.of(channel)) {
-            Ok(preimages) => preimages,
-            Err(_) => return Err(KnowError::NoMemory),
-        };
-        match open.known(self.alloc, preimages) {
-            Ok(known) => Ok(known),
-            Err(_) => Err(KnowError::NoMemory),
-        }
+        let preimages = Vec::from_slice(self.alloc, self.fulfils.of(channel))?;
+        Ok(open.known(self.alloc, preimages)?)
     }
 }

@@ -1,6 +1,7 @@
 //! Laws over the definitions alone.
 
 ghost use Rattle.book.specs.Accepted.{AcceptedMeans};
+ghost use Rattle.book.specs.Growing.{ChannelsGrow};
 ghost use Rattle.book.specs.Guarding.{AcceptedIsGuarded, GuardedMeans, KeptAreExact};
 ghost use Rattle.book.specs.Closing.{ClosedStaysNewest, ClosesAgain, ClosedStaysClosed};
 ghost use Rattle.book.specs.Lived.{ChannelsAreLived, FundingsAreApart, OffersAreAskedFor, BasesAreOwn};
@@ -24,6 +25,12 @@ pub fn what_channels_have()
     ensures apart { FundingsAreApart }
     ensures asked { OffersAreAskedFor }
     ensures bases { BasesAreOwn }
+{}
+
+/// What a book records of a channel stays, whatever calls it gets. After one more entry the channel is still there, with its terms and its side. Each recorded commitment of either side, and each secret that the peer
+/// gave, stands at its number as before.
+pub fn channels_grow()
+    ensures { ChannelsGrow }
 {}
 
 /// The signing gate holds for all calls, and for all messages of the peer. Between each revocation that came in a channel and the channel's next signature, the penalties for the revoked

@@ -1,7 +1,7 @@
 //! A node's book: the history of the calls that it accepted, and the gate that guards its signatures.
 //!
 //! [`Book`] has seven calls that may change it: `open`, `step`, `sign`, `revoke`, `keep`, `release` and `close`.
-//! [`Book::call`] makes any of them. Each returns what `reply_of` says of the history, and leaves the history that `history_after`
+//! [`Book::call`] makes any of them, [`call_of`] the call of a peer's message, and [`message_of`] takes the message that a reply has for the peer. Each returns what `reply_of` says of the history, and leaves the history that `history_after`
 //! says; if memory runs out, the history stays as it was. An accepted call adds one entry, and a refused one changes
 //! nothing. The signing gate, [`laws::signing_is_guarded`], holds for each history: between each revocation and the
 //! channel's next signature, the penalties of the revoked commitment were kept. [`Book::entries`] hands this out.
@@ -29,6 +29,7 @@
 //! first signature.
 #![tactic(auto)]
 
+mod acts;
 mod again;
 pub mod calling;
 pub mod calls;
@@ -46,6 +47,7 @@ mod open_channel;
 mod releasing;
 mod revoking;
 
+pub use acts::{call_of, message_of};
 pub use calling::Reply;
 pub use calls::{Batch, Call, Entry, Opening, Step};
 pub use history::Book;

@@ -176,10 +176,8 @@ impl OpenChannel {
         ensures tested { OkUnless result (token_refusal opening.now) IsOpenRefusal }
     {
         let channel = OpenChannel::channel_of(alloc, opening)?;
-        match patterns_beside(alloc, another) {
-            Ok(patterns) => Ok(OpenChannel::new(alloc, channel, patterns)),
-            Err(_) => Err(OpenError::NoMemory),
-        }
+        let patterns = patterns_beside(alloc, another)?;
+        Ok(OpenChannel::new(alloc, channel, patterns))
     }
 
     /// Takes a step. A refusal changes nothing.
@@ -195,10 +193,7 @@ impl OpenChannel {
         if self.closed.is_some() && is_barred(&step) {
             return Err(StepError::ChannelClosed);
         }
-        match take(&mut self.channel, step) {
-            Ok(taken) => Ok(taken),
-            Err(refusal) => Err(StepError::Refused(refusal)),
-        }
+        Ok(take(&mut self.channel, step)?)
     }
 
     /// Receives a revocation and returns its number. A refusal changes nothing.
@@ -210,10 +205,7 @@ impl OpenChannel {
             (receive_refusal tokens_of self.old.state (RevokeAndAck revocation.now)) IsRefusal }
         ensures err { OnErr result (self.new ≡ self.old) }
     {
-        match self.flags.reserve(1) {
-            Ok(()) => {}
-            Err(_) => return Err(ChannelError::NoMemory),
-        }
+        self.flags.reserve(1)?;
         let number = self.flags.len() as u64;
         self.channel.receive_revocation(revocation)?;
         self.flags.push(false).unwrap();
@@ -286,10 +278,8 @@ impl OpenChannel {
             batch.now.preimages) IsFillRefusal }
     {
         let filled = self.release(alloc, batch)?;
-        match filled.tx().copy() {
-            Ok(copy) => Ok(FilledTwice { filled, copy }),
-            Err(_) => Err(FillError::NoMemory),
-        }
+        let copy = filled.tx().copy()?;
+        Ok(FilledTwice { filled, copy })
     }
 
     // Whether the claims are the penalties of the peer's revoked commitment of this number.
@@ -360,11 +350,7 @@ impl OpenChannel {
         if *is_kept {
             return Err(KeepError::AlreadyKept);
         }
-        let are_its_own = match self.are_its_own(alloc, number, claims, state) {
-            Ok(are_its_own) => are_its_own,
-            Err(_) => return Err(KeepError::NoMemory),
-        };
-        if !are_its_own {
+        if !self.are_its_own(alloc, number, claims, state)? {
             return Err(KeepError::OtherState);
         }
         Ok(())
@@ -405,10 +391,7 @@ impl OpenChannel {
         if *is_kept {
             return Err(KeepError::AlreadyKept);
         }
-        match state_at(&self.channel, number) {
-            Ok(state) => Ok(state),
-            Err(_) => Err(KeepError::NoMemory),
-        }
+        Ok(state_at(&self.channel, number)?)
     }
 
     /// What the side knows of the channel, with the preimages that came. The only error is that memory ran out.

@@ -6,3 +6,4 @@ pub mod LoadedAgain
 pub mod Shapes
 mod LoadExamples
 pub mod GoingOn
+pub mod Entering

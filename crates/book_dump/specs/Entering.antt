@@ -1,8 +1,7 @@
 -- What becomes of an entry when its call is made in a book.
-use Rattle.std.specs.Prelude.{◌≡◌, ℕ, suc, true, false, List, [], ◌∷◌, ◌++◌, length, reverse, Result, Ok, Err}
+use Rattle.std.specs.Prelude.{◌≡◌, suc, true, false, List, [], ◌∷◌, ◌++◌, length, reverse, Result, Ok, Err}
 use Rattle.channel.specs.Tokens.{peer_tokens}
 use Rattle.texts.specs.declared.calls.PlainEntry.{PlainEntry}
-use Rattle.book.specs.declared.calls.Call.{Call}
 use Rattle.book.specs.declared.calls.Entry.{Entry}
 use Rattle.book_dump.specs.declared.errors.LoadError.{LoadError}
 use Rattle.book_dump.specs.declared.errors.LoadError.TheVariants as loads
@@ -11,14 +10,6 @@ use Rattle.book_dump.specs.declared.replaying.Stop.TheVariants.{NoMemory, Refuse
 use Rattle.book.specs.Accepted.{is_taken}
 use Rattle.book_dump.specs.Loading.{entry_of}
 use Rattle.book_dump.specs.Loaded.{with_entry}
-
-abbrev pub by_seat : ℕ → Call → Entry
-by_seat seat call = record { seat = seat; call = call }
-
--- a call stops for an error: Refused is any error but out of memory
-abbrev pub IsStop : {E : Type 0} → E → E → Stop → Type 0
-IsStop no_memory error NoMemory = Unit {0}
-IsStop no_memory error Refused = error ≡ no_memory → ⊥
 
 -- the entry is accepted after those of the book and appended to them; or it is refused
 abbrev pub Enters : Result (Unit {0}) Stop → List Entry → List Entry → Entry → Type 0

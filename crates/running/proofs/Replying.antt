@@ -6,16 +6,16 @@ use Rattle.channel.specs.declared.messages.Message.{Message}
 use Rattle.channel.specs.Tokens.{peer_tokens}
 use Rattle.book.specs.declared.calls.Entry.{Entry}
 use Rattle.book.specs.declared.calls.Call.{Call}
-use Rattle.book.specs.declared.calls.Call.TheVariants.{Open, Step, Sign, Revoke, Keep, Release, Close}
 use Rattle.book.specs.Replies.{Reply, opened, stepped, signed, revoked, kept, released, closed, is_accepted, reply_of, extended, history_after}
 use Rattle.book.specs.Calling.{no_memory_of}
+use Rattle.book.proofs.Answered.{out_of_memory}
 use Rattle.desk.specs.declared.desk.Seat.{Seat}
 use Rattle.desk.specs.Histories.{History, GoesOn}
 use Rattle.desk.specs.Seats.{number_in, calls_in, last_in}
 use Rattle.desk.specs.Answers.{IsAnswered, calls_after}
 use Rattle.desk.proofs.Parts.{goes_on_more}
-use Rattle.side.specs.Acts.{messages_in}
-use Rattle.running.specs.Acting.{IsReply, IsOwnReply, IsSent, ran_out, revoked_in}
+use Rattle.book.specs.Acts.{messages_in, ran_out}
+use Rattle.running.specs.Acting.{IsReply, IsOwnReply, IsSent, revoked_in}
 
 -- ---- a refused reply
 
@@ -77,31 +77,6 @@ refused call s t reply is refusal = ⊎_elim
     is.2
 
 -- ---- a reply of the book itself
-
-out_of_memory : (call : Call) → ran_out (no_memory_of call) ≡ true
-out_of_memory (Open o) = refl
-out_of_memory (Step c step) = refl
-out_of_memory (Sign c) = refl
-out_of_memory (Revoke c revocation) = refl
-out_of_memory (Keep c n claims) = refl
-out_of_memory (Release c batch) = refl
-out_of_memory (Close c) = refl
-
-pub in_memory : (r : Reply) → is_accepted r ≡ true → ran_out r ≡ false
-in_memory (opened (Ok n)) is = refl
-in_memory (opened (Err e)) is = absurd cc
-in_memory (stepped (Ok m)) is = refl
-in_memory (stepped (Err e)) is = absurd cc
-in_memory (signed (Ok m)) is = refl
-in_memory (signed (Err e)) is = absurd cc
-in_memory (revoked (Ok n)) is = refl
-in_memory (revoked (Err e)) is = absurd cc
-in_memory (kept (Ok u)) is = refl
-in_memory (kept (Err e)) is = absurd cc
-in_memory (released (Ok f)) is = refl
-in_memory (released (Err e)) is = absurd cc
-in_memory (closed (Ok n)) is = refl
-in_memory (closed (Err e)) is = absurd cc
 
 -- a reply that does not say that memory ran out is the book's own
 pub own_reply : (call : Call) (s t : Seat) (reply : Reply) → number_in t ≡ number_in s → IsReply call s t reply → ran_out reply ≡ false → IsOwnReply call s t reply

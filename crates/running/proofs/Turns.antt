@@ -16,7 +16,7 @@ use Rattle.book.specs.Replies.{Reply, is_accepted, reply_of, extended}
 use Rattle.desk.specs.Histories.{History}
 use Rattle.desk.specs.declared.desk.Seat.{Seat}
 use Rattle.desk.specs.Seats.{number_in, calls_in}
-use Rattle.side.specs.Acts.{call_of}
+use Rattle.book.specs.Acts.{call_of}
 use Rattle.running.specs.declared.acts.Act.{Act}
 use Rattle.running.specs.declared.acts.Act.TheVariants.{Update, Sign, Deliver, Close}
 use Rattle.running.specs.declared.endpoints.Endpoint.{Endpoint}

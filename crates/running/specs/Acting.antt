@@ -6,7 +6,6 @@ use Rattle.book.specs.declared.calls.Step.TheVariants.{Own}
 use Rattle.book.specs.declared.calls.Call.{Call}
 use Rattle.book.specs.declared.calls.Call.TheVariants.{Step as Stepping, Sign as Signing, Close as Closing}
 use Rattle.book.specs.Replies.{Reply, opened, stepped, signed, revoked, kept, released, closed, is_accepted, reply_of, history_after}
-use Rattle.book.specs.Refusals.{open_error_number, step_error_number, sign_error_number, keep_error_number, release_error_number, close_error_number}
 use Rattle.terms.specs.declared.sides.Side.{Side}
 use Rattle.terms.specs.declared.sides.Side.TheVariants as sides
 use Rattle.jobs.specs.declared.rule.Hand.{Hand}
@@ -19,7 +18,7 @@ use Rattle.desk.specs.Answers.{IsAnswered, IsHistoryFor, calls_after}
 use Rattle.node.specs.declared.work.Job.{Job}
 use Rattle.node.specs.declared.work.Job.TheVariants.{Keep, Claims}
 use Rattle.side.specs.declared.due.DueClaim.{DueClaim}
-use Rattle.side.specs.Acts.{call_of, messages_in}
+use Rattle.book.specs.Acts.{call_of, messages_in}
 use Rattle.running.specs.declared.acts.Act.{Act}
 use Rattle.running.specs.declared.acts.Act.TheVariants.{Update, Sign, Deliver, Close}
 use Rattle.running.specs.declared.endpoints.Endpoint.{Endpoint}
@@ -62,17 +61,6 @@ job_for channel reply = option_map (Keep channel) (revoked_in reply)
 -- a seat made a call, and got this reply: the book's own, or that memory ran out
 abbrev pub IsReply : Call → Seat → Seat → Reply → Type 0
 IsReply call before after reply = IsAnswered (number_in before) (calls_in before) (last_in before) call reply (calls_in after) (last_in after)
-
--- whether a reply says that memory ran out
-abbrev pub ran_out : Reply → Bool
-ran_out (opened (Err e)) = open_error_number e == 0
-ran_out (stepped (Err e)) = step_error_number e == 0
-ran_out (signed (Err e)) = sign_error_number e == 0
-ran_out (revoked (Err e)) = step_error_number e == 0
-ran_out (kept (Err e)) = keep_error_number e == 0
-ran_out (released (Err e)) = release_error_number e == 0
-ran_out (closed (Err e)) = close_error_number e == 0
-ran_out reply = false
 
 -- the book's own reply, at the end of a history that goes on from the one that the seat last saw; the seat keeps its number, and its calls and the history are those after it
 pub record IsOwnReply (call : Call) (before after : Seat) (reply : Reply) : Type 0 where

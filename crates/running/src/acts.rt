@@ -7,19 +7,18 @@ ghost use Rattle.book.specs.declared.calls.Call.TheVariants.{Sign as Signing};
 ghost use Rattle.desk.specs.Seats.{IsSeatOf, IsSameSeat};
 ghost use Rattle.jobs.specs.Ends.{PutsWith, hand_of};
 ghost use Rattle.node.specs.declared.work.Job.TheVariants.{Keep};
-ghost use Rattle.side.specs.Acts.{call_of, messages_in};
+ghost use Rattle.book.specs.Acts.{call_of, messages_in, ran_out};
 ghost use Rattle.running.specs.Threads.{IsEndpoint};
-ghost use Rattle.running.specs.Acting.{IsReply, IsSent, IsReceived, IsDelivered, IsActed, PutsIf, revoked_in, ran_out};
+ghost use Rattle.running.specs.Acting.{IsReply, IsSent, IsReceived, IsDelivered, IsActed, PutsIf, revoked_in};
 
 use crate::endpoints::{Endpoint, put};
 use crate::shared::SideState;
 use book::errors::SignError;
-use book::{Call, Reply, Step};
+use book::{Call, Reply, Step, call_of, message_of};
 use channel::Message;
 use desk::Seat;
 use jobs::{JobSender, Pass};
 use node::Job;
-use side::{call_of, message_of};
 use std::alloc::AllocError;
 use std::collections::VecDeque;
 use std::sync::Wait;
@@ -38,26 +37,8 @@ pub(crate) enum Act {
     Close,
 }
 
-// Whether a refused reply says that memory ran out.
-fn wants_memory(refused: &Reply) -> bool
-    ensures { result ≡ ran_out (reply_form refused.now) }
-{
-    match refused {
-        Reply::Opened(Err(error)) => error.number() == 0,
-        Reply::Stepped(Err(error)) => error.number() == 0,
-        Reply::Signed(Err(error)) => error.number() == 0,
-        Reply::Revoked(Err(error)) => error.number() == 0,
-        Reply::Kept(Err(error)) => error.number() == 0,
-        Reply::Released(Err(error)) => error.number() == 0,
-        Reply::Closed(Err(error)) => error.number() == 0,
-        Reply::Opened(Ok(_)) | Reply::Stepped(Ok(_)) | Reply::Signed(Ok(_)) => false,
-        Reply::Revoked(Ok(_)) | Reply::Kept(Ok(())) | Reply::Released(Ok(_)) => false,
-        Reply::Closed(Ok(_)) => false,
-    }
-}
-
 // Sends the message of an accepted reply. Returns whether the reply is accepted; the only error is that memory ran out, as the reply may say itself.
-#[tactic(auto, using(crate::proofs::Replying::silent, crate::proofs::Replying::in_memory))]
+#[tactic(auto, using(crate::proofs::Replying::silent, book::proofs::Answered::in_memory))]
 fn send_message(reply: Reply, inbox: &mut VecDeque<Message>) -> Result<bool, AllocError>
     ensures done { IfOk result (λ done. done ≡ is_accepted (reply_form reply)) }
     ensures sent { OnOk result (inbox.new.items
@@ -74,7 +55,7 @@ fn send_message(reply: Reply, inbox: &mut VecDeque<Message>) -> Result<bool, All
         },
         Ok(None) => Ok(true),
         Err(refused) => {
-            let wants = wants_memory(&refused);
+            let wants = refused.is_out_of_memory();
             drop(refused);
             if wants { Err(AllocError) } else { Ok(false) }
         }

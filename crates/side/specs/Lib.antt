@@ -2,6 +2,5 @@ pub mod Due
 pub mod Reading
 pub mod Following
 pub mod Batches
-pub mod Acts
 pub mod Broadcasting
 pub mod Marks

@@ -5,15 +5,13 @@
 //! that of `read`: barring out-of-memory, it finds exactly what each channel's watch finds with what is known
 //! (`IsRead`). [`DueClaim`] is a claim that fell due, with the preimages that its slots need. [`worth_of`] and
 //! [`batch_of`] make the batch by which due claims of a channel are released, and [`set_of`] builds the penalty set
-//! of a revoked commitment. [`call_of`] is the call by which a book takes a message, and [`message_of`] what a reply
-//! has for the peer. [`laws::known_publishes`] says that what is known of a channel suffices to broadcast what the
-//! channel itself would.
+//! of a revoked commitment. [`laws::known_publishes`] says that what is known of a channel suffices to broadcast what
+//! the channel itself would.
 //!
 //! It has two callers: `world`, which owns its books, and threads, which reach theirs through a lock. So its
 //! signatures have no book, no channel and no seat.
 //!
-//! A message comes from a peer's `channel`, and goes to `book` as a call. A block comes from `chain` to a `watch` for
-//! each channel; what these find goes to `book` as a batch to release.
+//! A block comes from `chain` to a `watch` for each channel; what these find goes to `book` as a batch to release.
 //!
 //! ```rust
 //! let asked = reader.to_ask(alloc, block)?;
@@ -26,7 +24,6 @@
 //! The test `reads_a_block` of `resolve_tests` has these calls.
 #![tactic(auto)]
 
-mod acts;
 pub mod batches;
 mod due;
 mod following;
@@ -37,7 +34,6 @@ mod reading;
 mod sets;
 mod spent;
 
-pub use acts::{call_of, message_of};
 pub use batches::{BatchError, batch_of, worth_of};
 pub use due::DueClaim;
 pub use reading::{ReadParts, Reader};

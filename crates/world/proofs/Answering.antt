@@ -17,7 +17,7 @@ use Rattle.world.specs.declared.errors.EventError.TheVariants as errors
 use Rattle.world.specs.declared.limits.TheConstants.{SEAT}
 use Rattle.book.specs.Accepted.{AreWhole}
 use Rattle.world.specs.Worlds.{Node, IsNode, answer_to, after_call, opens_none}
-use Rattle.side.specs.Acts.{messages_in}
+use Rattle.book.specs.Acts.{messages_in}
 use Rattle.world.specs.Refusing.{refusal_in, IsRefusal, IsAnswered}
 
 -- the first refusal is a refusal

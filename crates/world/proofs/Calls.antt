@@ -36,7 +36,7 @@ use Rattle.terms.specs.declared.sides.Side.TheVariants.{A, B}
 use Rattle.channel.specs.Agreeing.{IsPaired, PeersAgree}
 use Rattle.channel.specs.Playing.{placed}
 use Rattle.book.specs.declared.calls.Batch.{Batch}
-use Rattle.side.specs.Acts.{call_of, messages_in}
+use Rattle.book.specs.Acts.{call_of, messages_in}
 use Rattle.world.specs.Pairing.{ArePaired, AgreeBy, IsShutOut, DeliveriesAreTaken}
 use Rattle.world.proofs.Turns.{acted_at, unmoved}
 

@@ -13,7 +13,7 @@ use Rattle.book.specs.declared.calls.Call.{Call}
 use Rattle.book.specs.declared.calls.Call.TheVariants as calls
 use Rattle.book.specs.declared.calls.Entry.{Entry}
 use Rattle.book.specs.Replies.{is_accepted, reply_of, extended}
-use Rattle.side.specs.Acts.{call_of}
+use Rattle.book.specs.Acts.{call_of}
 use Rattle.world.specs.declared.errors.EventError.{EventError}
 use Rattle.world.specs.declared.limits.TheConstants.{SEAT}
 use Rattle.world.specs.declared.outcomes.Outcome.{Outcome}

@@ -19,7 +19,7 @@ use Rattle.book.specs.Accepted.{IsHistory}
 use Rattle.book.specs.Replies.{stepped, signed, reply_of, history_after}
 use Rattle.world.specs.declared.limits.TheConstants.{SEAT}
 use Rattle.world.specs.Worlds.{World, Node, node_of, with_node, with_nodes, inboxes}
-use Rattle.side.specs.Acts.{messages_in}
+use Rattle.book.specs.Acts.{messages_in}
 use Rattle.world.specs.Refusing.{refusal_in}
 use Rattle.world.specs.Pairing.{AgreeBy}
 use Rattle.world.specs.Theorem.{IsWorld}

@@ -32,7 +32,7 @@ use Rattle.world.specs.Releasing.{IsFillingIn}
 use Rattle.world.specs.Sources.{IsFrom, a_commitment, an_htlc_tx, a_filling, IsDueOf, of_own, of_peers, of_revoked, IsSide}
 use Rattle.world.specs.Worlds.{World, node_of, channel_of}
 use Rattle.world.specs.Theorem.{IsWorld}
-use Rattle.world.proofs.Growing.{Stays}
+use Rattle.book.specs.Growing.{Stays}
 use Rattle.world.proofs.Recorded.{none_in, cases_in}
 use Rattle.world.proofs.Sourced.{not_found, no_channel}
 use Rattle.world.proofs.TwoEnds.{end_of, AreBoth, Laws, found_at}

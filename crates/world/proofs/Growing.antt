@@ -1,27 +1,26 @@
 -- What a book records of its channels stays, whatever calls it gets.
-use Rattle.std.proofs.Common.{◌≡◌, ℕ, zero, suc, Bool, true, false, List, [], ◌∷◌, ◌++◌, Some, Result, Ok, Err, refl, sym, ap, ◌∙◌, subst}
+use Rattle.std.proofs.Common.{◌≡◌, ℕ, zero, suc, Bool, true, false, List, [], ◌∷◌, Some, Result, Ok, Err, refl, sym, ap, ◌∙◌, subst}
 use Rattle.std.specs.Prelude.{slice_get}
-use Rattle.std.proofs.lemmas.List.{reverse-append}
 use Rattle.std.proofs.lemmas.Option.{none-some, same_Some}
 use Rattle.tx.specs.Fields.{Transaction}
 use Rattle.terms.specs.declared.sides.Side.{Side}
 use Rattle.terms.specs.declared.sides.Side.TheVariants.{A, B}
 use Rattle.terms.specs.Sides.{other}
-use Rattle.keys.specs.declared.compressed.Key.{Key}
 use Rattle.channel.specs.declared.messages.Message.{Message}
 use Rattle.updates.specs.declared.messages.PeerStep.TheVariants.{Update as Updated, CommitmentSigned}
 use Rattle.channel.specs.declared.messages.Message.TheVariants.{Step as StepMessage, RevokeAndAck}
-use Rattle.channel.specs.States.{State, after_sign, after}
+use Rattle.channel.specs.States.{after_sign, after}
 use Rattle.channel.specs.Tokens.{peer_tokens}
 use Rattle.book.specs.declared.calls.Step.{Step}
-use Rattle.book.specs.declared.calls.Step.TheVariants.{Own, Peer}
 use Rattle.book.specs.declared.calls.Call.{Call}
 use Rattle.book.specs.declared.calls.Call.TheVariants as calls
 use Rattle.book.specs.declared.calls.Entry.{Entry}
-use Rattle.book.specs.Books.{ChannelBook, Channels, at_index, stepped, with_state, with_kept, with_closed, channels_after, replayed, replay}
+use Rattle.book.specs.Books.{ChannelBook, Channels, at_index, stepped, with_state, with_kept, with_closed, channels_after, replay}
+use Rattle.book.specs.Growing.{Grew, IsLater}
+use Rattle.book.proofs.Growing.{GrowsBy, unchanged, step_grew, sign_grew, revoke_grew, same_later, call_later, replay_more}
 use Rattle.book.specs.Replies.{is_accepted, reply_of, extended}
 use Rattle.scenario.specs.declared.events.Event.{Event}
-use Rattle.side.specs.Acts.{call_of}
+use Rattle.book.specs.Acts.{call_of}
 use Rattle.world.specs.declared.errors.EventError.{EventError}
 use Rattle.world.specs.declared.limits.TheConstants.{SEAT}
 use Rattle.world.specs.declared.outcomes.Outcome.{Outcome}
@@ -31,48 +30,7 @@ use Rattle.world.specs.Releasing.{with_taken}
 use Rattle.world.specs.Steps.{own_call, with_waiting, with_released, Happens, updates, signs, receives, keeps, broadcasts, broadcasts_htlc, mines, looks, takes, releases, reorganises, closes, WorldSteps, happens, refuses, runs_out}
 use Rattle.world.proofs.Fillings.{Grows, called_grows}
 
--- ---- one channel
-
--- what stands at a number in a list stands there in another
-abbrev pub Stays : {A : Type 0} → List A → List A → Type 0
-Stays {A} old new = (n : ℕ) (x : A) → slice_get old n ≡ Some x → slice_get new n ≡ Some x
-
-pub record Grew (old new : State) : Type 0 where
-  pub terms : new.held.terms ≡ old.held.terms
-  pub side : new.held.side ≡ old.held.side
-  pub mine : Stays old.mine new.mine
-  pub signed : Stays old.signed new.signed
-  pub secrets : Stays old.secrets new.secrets
-
-stay : {A : Type 0} (xs : List A) → Stays xs xs
-stay xs n x e = e
-
-before_last : {A : Type 0} (xs : List A) (y : A) → Stays xs (xs ++ y ∷ [])
-before_last [] y n x e = absurd (none-some x e)
-before_last (z ∷ xs) y zero x e = e
-before_last (z ∷ xs) y (suc n) x e = before_last xs y n x e
-
-pub unchanged : (s : State) → Grew s s
-unchanged s = record { terms = refl; side = refl; mine = stay s.mine; signed = stay s.signed; secrets = stay s.secrets }
-
-step_grew : (step : Step) (s : State) → Grew s (stepped step s)
-step_grew (Own u) s = record { terms = refl; side = refl; mine = stay s.mine; signed = stay s.signed; secrets = stay s.secrets }
-step_grew (Peer (Updated u)) s = record { terms = refl; side = refl; mine = stay s.mine; signed = stay s.signed; secrets = stay s.secrets }
-step_grew (Peer (CommitmentSigned tokens)) s = record { terms = refl; side = refl; mine = before_last s.mine _; signed = stay s.signed; secrets = stay s.secrets }
-
-sign_grew : (s : State) → Grew s (after_sign s)
-sign_grew s = record { terms = refl; side = refl; mine = stay s.mine; signed = before_last s.signed _; secrets = stay s.secrets }
-
-revoke_grew : (secret : List ℕ) (point : Key) (s : State) → Grew s (after s (RevokeAndAck (record { secret = secret; next_point = point })))
-revoke_grew secret point s = record { terms = refl; side = refl; mine = stay s.mine; signed = stay s.signed; secrets = before_last s.secrets secret }
-
 -- ---- the channels after a call
-
--- a channel is still there
-pub record IsLater (c : ℕ) (old : ChannelBook) (chs : Channels) : Type 0 where
-  pub new : ChannelBook
-  pub there : slice_get chs c ≡ Some new
-  pub grew : Grew old.state new.state
 
 -- a channel was there before
 pub record WasThere (c : ℕ) (new : ChannelBook) (chs : Channels) : Type 0 where
@@ -80,22 +38,8 @@ pub record WasThere (c : ℕ) (new : ChannelBook) (chs : Channels) : Type 0 wher
   pub there : slice_get chs c ≡ Some old
   pub grew : Grew old.state new.state
 
-same_later : (c : ℕ) (chs : Channels) (ch : ChannelBook) → slice_get chs c ≡ Some ch → IsLater c ch chs
-same_later c chs ch at = record { new = ch; there = at; grew = unchanged ch.state }
-
 same_there : (c : ℕ) (chs : Channels) (ch : ChannelBook) → slice_get chs c ≡ Some ch → WasThere c ch chs
 same_there c chs ch at = record { old = ch; there = at; grew = unchanged ch.state }
-
--- a change of one channel
-abbrev GrowsBy : (ChannelBook → ChannelBook) → Type 0
-GrowsBy f = (ch : ChannelBook) → Grew ch.state (f ch).state
-
-changed_later : (f : ChannelBook → ChannelBook) → GrowsBy f → (d c : ℕ) (chs : Channels) (ch : ChannelBook) → slice_get chs c ≡ Some ch → IsLater c ch (at_index f d chs)
-changed_later f grows d c [] ch at = absurd (none-some ch at)
-changed_later f grows zero zero (x ∷ xs) ch at = record { new = f x; there = refl; grew = subst (λ (y : ChannelBook). Grew y.state (f x).state) (same_Some x ch at) (grows x) }
-changed_later f grows zero (suc c) (x ∷ xs) ch at = same_later (suc c) (f x ∷ xs) ch at
-changed_later f grows (suc d) zero (x ∷ xs) ch at = same_later zero (x ∷ at_index f d xs) ch at
-changed_later f grows (suc d) (suc c) (x ∷ xs) ch at = let l = changed_later f grows d c xs ch at in record { new = l.new; there = l.there; grew = l.grew }
 
 changed_there : (f : ChannelBook → ChannelBook) → GrowsBy f → (d c : ℕ) (chs : Channels) (ch : ChannelBook) → slice_get (at_index f d chs) c ≡ Some ch → WasThere c ch chs
 changed_there f grows d c [] ch at = absurd (none-some ch at)
@@ -103,15 +47,6 @@ changed_there f grows zero zero (x ∷ xs) ch at = record { old = x; there = ref
 changed_there f grows zero (suc c) (x ∷ xs) ch at = same_there (suc c) (x ∷ xs) ch at
 changed_there f grows (suc d) zero (x ∷ xs) ch at = same_there zero (x ∷ xs) ch at
 changed_there f grows (suc d) (suc c) (x ∷ xs) ch at = let l = changed_there f grows d c xs ch at in record { old = l.old; there = l.there; grew = l.grew }
-
-pub call_later : (call : Call) (c : ℕ) (chs : Channels) (ch : ChannelBook) → slice_get chs c ≡ Some ch → IsLater c ch (channels_after call chs)
-call_later (calls.Open o) c chs ch at = same_later c (channels_after (calls.Open o) chs) ch (before_last chs _ c ch at)
-call_later (calls.Step d step) c chs ch at = changed_later (with_state (stepped step)) (λ x. step_grew step x.state) d c chs ch at
-call_later (calls.Sign d) c chs ch at = changed_later (with_state after_sign) (λ x. sign_grew x.state) d c chs ch at
-call_later (calls.Revoke d revocation) c chs ch at = changed_later (with_state (λ s. after s (RevokeAndAck revocation))) (λ x. revoke_grew revocation.secret revocation.next_point x.state) d c chs ch at
-call_later (calls.Keep d n claims) c chs ch at = changed_later (with_kept n) (λ x. unchanged x.state) d c chs ch at
-call_later (calls.Release d batch) c chs ch at = same_later c chs ch at
-call_later (calls.Close d) c chs ch at = changed_later with_closed (λ x. unchanged x.state) d c chs ch at
 
 pub call_there : (call : Call) (c : ℕ) (chs : Channels) (ch : ChannelBook) → opens_none call ≡ true → slice_get (channels_after call chs) c ≡ Some ch → WasThere c ch chs
 call_there (calls.Open o) c chs ch none at = absurd cc
@@ -136,9 +71,6 @@ pub record IsGrown (old new : List Entry) : Type 0 where
 
 pub same_grown : (history : List Entry) → IsGrown history history
 same_grown history = record { entries = λ e h. h; later = λ c ch at. same_later c (replay history) ch at; there = λ c ch at. same_there c (replay history) ch at }
-
-pub replay_more : (history : List Entry) (seat : ℕ) (call : Call) → replay (history ++ record { seat = seat; call = call } ∷ []) ≡ channels_after call (replay history)
-replay_more history seat call = ap replayed (reverse-append history (record { seat = seat; call = call } ∷ []))
 
 extended_later : (accepted : Bool) (history : List Entry) (seat : ℕ) (call : Call) → StayLater history (extended accepted history seat call)
 extended_later false history seat call = λ c ch at. same_later c (replay history) ch at

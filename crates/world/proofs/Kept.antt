@@ -24,7 +24,7 @@ use Rattle.world.specs.declared.errors.EventError.TheVariants.{NoSuchChannel}
 use Rattle.world.specs.declared.limits.TheConstants.{SEAT}
 use Rattle.world.specs.declared.outcomes.Outcome.{Outcome}
 use Rattle.world.specs.Worlds.{World, Line, Node, node_of, with_node, with_nodes, inboxes, answer_to, after_call, received_by}
-use Rattle.side.specs.Acts.{messages_in, call_of}
+use Rattle.book.specs.Acts.{messages_in, call_of}
 use Rattle.world.specs.Refusing.{refusal_in, sent_by, oldest_of, oldest_in, delivery_refusal, delivered, answered}
 use Rattle.world.specs.Keeping.{IsKept}
 use Rattle.world.specs.Releasing.{with_taken, without_taken, IsReleased}

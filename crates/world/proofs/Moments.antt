@@ -21,7 +21,7 @@ use Rattle.book.specs.Replies.{Reply, opened, stepped, signed, revoked, kept, re
 use Rattle.world.specs.declared.errors.EventError.{EventError}
 use Rattle.world.specs.declared.errors.EventError.TheVariants.{NoSuchChannel, NoMessage, ChannelClosed}
 use Rattle.world.specs.Worlds.{World, Line, Node, IsNode, node_of, channel_of, inboxes, answer_to}
-use Rattle.side.specs.Acts.{call_of}
+use Rattle.book.specs.Acts.{call_of}
 use Rattle.world.specs.Refusing.{refusal_in, oldest_of, oldest_in, delivery_refusal}
 use Rattle.world.specs.Pairing.{IsShutOut, DeliveriesAreTaken}
 use Rattle.safety.specs.Enforcement.{ClaimsSpend}

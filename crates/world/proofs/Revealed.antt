@@ -22,7 +22,7 @@ use Rattle.channel.specs.Reestablishing.{forgotten}
 use Rattle.channel.specs.Peers.{World as Pair, Acts, updates, signs, receives, Steps, by_a, by_b, IsReached, at_opening, then, IsLived, starts, updated_once, signed_once, received_once, forgot_once}
 use Rattle.channel.specs.Keeping.{one_if}
 use Rattle.channel.specs.Recording.{peers_newest, peers_signed, IsRecorded, SidesRecord}
-use Rattle.world.proofs.Growing.{Stays}
+use Rattle.book.specs.Growing.{Stays}
 use Rattle.world.proofs.Sides.{pushed_at}
 
 -- a secret at a number is that of the point of the peer's commitment of the number

@@ -13,7 +13,7 @@ use Rattle.world.specs.declared.errors.EventError.{EventError}
 use Rattle.world.specs.declared.errors.EventError.TheVariants.{NoSuchChannel}
 use Rattle.world.specs.Worlds.{Line, Node, answer_to, received_by, opens_none}
 use Rattle.world.specs.Acts.{TakesOldest}
-use Rattle.side.specs.Acts.{call_of, messages_in}
+use Rattle.book.specs.Acts.{call_of, messages_in}
 use Rattle.world.specs.Refusing.{refusal_in, sending_refusal, sent_by, IsRefusal, IsEvent}
 
 -- ---- lists

@@ -29,6 +29,7 @@ use Rattle.updates.specs.declared.messages.PeerStep.TheVariants.{Update as Updat
 use Rattle.channel.specs.declared.messages.Message.TheVariants.{Step as StepMessage, RevokeAndAck}
 use Rattle.channel.specs.Tokens.{contents_of, peer_tokens}
 use Rattle.channel.specs.States.{State}
+use Rattle.book.specs.Growing.{Grew}
 use Rattle.book.specs.declared.calls.Batch.{Batch}
 use Rattle.book.specs.declared.calls.Step.{Step}
 use Rattle.book.specs.declared.calls.Call.{Call}
@@ -39,7 +40,7 @@ use Rattle.book.specs.Books.{ChannelBook, Channels, replay, fundings_of}
 use Rattle.book.specs.Penalties.{revoked_contents, claimable_in, claimable_at}
 use Rattle.book.specs.Replies.{is_accepted, reply_of, extended}
 use Rattle.side.specs.declared.due.DueClaim.{DueClaim}
-use Rattle.side.specs.Acts.{call_of}
+use Rattle.book.specs.Acts.{call_of}
 use Rattle.side.specs.Batches.{are_of, claims_in}
 use Rattle.world.specs.declared.errors.EventError.{EventError}
 use Rattle.world.specs.declared.limits.TheConstants.{SEAT}
@@ -54,7 +55,7 @@ use Rattle.world.specs.Steps.{own_call, Happens, updates, signs, receives, keeps
 use Rattle.world.specs.Sources.{IsDueOf, of_own, of_peers, of_revoked, IsDueIn, IsSide}
 use Rattle.world.proofs.Whole.{all_append, all_drop, all_take}
 use Rattle.world.proofs.Unmade.{all_weaker, all_first, all_last}
-use Rattle.world.proofs.Growing.{Grew, StayLater, IsGrown, called_later, called_grown, message_opens_none}
+use Rattle.world.proofs.Growing.{StayLater, IsGrown, called_later, called_grown, message_opens_none}
 use Rattle.world.proofs.Recorded.{none_in, claimable_is}
 use Rattle.world.proofs.Found.{AreJobsIn, found_jobs}
 

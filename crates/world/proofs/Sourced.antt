@@ -13,6 +13,7 @@ use Rattle.channel.specs.declared.commitments.CommitmentState.{CommitmentState}
 use Rattle.channel.specs.Tokens.{contents_of}
 use Rattle.channel.specs.States.{State}
 use Rattle.publish.specs.Published.{signed_transaction, signed_commitment_of, signed_htlc_of, signed_htlc_tx_of}
+use Rattle.book.specs.Growing.{Grew}
 use Rattle.book.specs.declared.calls.Entry.{Entry}
 use Rattle.book.specs.declared.calls.Call.TheVariants as calls
 use Rattle.book.specs.Books.{ChannelBook, replay}
@@ -25,7 +26,7 @@ use Rattle.world.specs.Steps.{with_waiting, with_released, with_mined, Happens, 
 use Rattle.world.specs.Sources.{IsFrom, a_commitment, an_htlc_tx, a_filling, transactions_in}
 use Rattle.world.proofs.Whole.{all_append}
 use Rattle.world.proofs.Unmade.{all_weaker, all_first, all_last, AllIn, AllOn, all_mined, all_reorganised}
-use Rattle.world.proofs.Growing.{Grew, IsGrown, AreLater}
+use Rattle.world.proofs.Growing.{IsGrown, AreLater}
 use Rattle.world.proofs.Fillings.{AreReleased}
 
 -- ---- what is recorded can be broadcast later

@@ -13,7 +13,7 @@ use Rattle.channel.specs.Agreeing.{FirstOf, IsSoundState, IsPaired}
 use Rattle.book.specs.declared.calls.Entry.{Entry}
 use Rattle.book.specs.Books.{ChannelBook, Channels, is_closed, replay}
 use Rattle.book.specs.Replies.{is_accepted, reply_of}
-use Rattle.side.specs.Acts.{call_of}
+use Rattle.book.specs.Acts.{call_of}
 
 -- each channel of a side, the same one of its peer, and the messages between them are what steps of two honest peers make of a new channel
 abbrev pub ArePaired : Side → Channels → Channels → List (List Message) → List (List Message) → Type 0

@@ -21,7 +21,7 @@ use Rattle.book.specs.declared.errors.CloseError.TheVariants.{NoMemory as close_
 use Rattle.book.specs.Replies.{Reply, if_so, stepped, signed, revoked, kept, released, closed}
 use Rattle.side.specs.declared.batches.BatchError.{BatchError}
 use Rattle.side.specs.declared.batches.BatchError.TheVariants.{MixedChannels as mixed_channels, OverValue as over_value}
-use Rattle.side.specs.Acts.{call_of, messages_in}
+use Rattle.book.specs.Acts.{call_of, messages_in}
 use Rattle.world.specs.declared.errors.EventError.{EventError}
 use Rattle.world.specs.declared.errors.EventError.TheVariants.{NoMemory, NoSuchChannel, NoMessage, NoSuchTx, MixedChannels, OverValue, TooDeep, Channel, Sign, Keep, Fill, ChannelClosed}
 use Rattle.world.specs.Worlds.{Line, Node, answer_to, after_call, sent_to, received_by}

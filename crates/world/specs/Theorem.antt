@@ -34,7 +34,7 @@ use Rattle.world.specs.declared.errors.EventError.{EventError}
 use Rattle.world.specs.declared.errors.EventError.TheVariants.{NoSuchChannel, NoMessage, ChannelClosed}
 use Rattle.world.specs.declared.outcomes.Outcome.{Outcome}
 use Rattle.world.specs.Worlds.{World, Node, IsNode, node_of, channel_of, inboxes, answer_to}
-use Rattle.side.specs.Acts.{call_of}
+use Rattle.book.specs.Acts.{call_of}
 use Rattle.world.specs.Pairing.{AgreeBy, AreEnds, IsShutOut}
 use Rattle.world.specs.Releasing.{AreFillings}
 use Rattle.world.specs.Sources.{IsSide, IsFrom, transactions_in}

@@ -4,16 +4,15 @@ ghost use Rattle.std.specs.Prelude.{◌≡◌, ◌<◌, true, [], ◌++◌, drop
 ghost use Rattle.std.specs.VecDeque.{deque_len, deque_capacity};
 ghost use Rattle.std.specs.List.{cons_option};
 ghost use Rattle.book.specs.declared.calls.Call.TheVariants.{Step as Stepping, Sign as Signing};
-ghost use Rattle.side.specs.Acts.{messages_in};
+ghost use Rattle.book.specs.Acts.{messages_in};
 ghost use Rattle.world.specs.Worlds.{answer_to, after_call, received_by, opens_none};
 ghost use Rattle.world.specs.Acts.{IsOldest};
 ghost use Rattle.world.specs.Refusing.{refusal_in, sending_refusal, sent_by, oldest_in, delivery_refusal, delivered, answered, IsEvent};
 
 use crate::errors::EventError;
 use crate::nodes::Node;
-use book::{Call, Step};
+use book::{Call, Step, call_of};
 use channel::Message;
-use side::call_of;
 use std::collections::VecDeque;
 use updates::OwnUpdate;
 

@@ -3,9 +3,9 @@
 use crate::errors::EventError;
 use crate::limits::SEAT;
 use book::errors::{OpenError, ReleaseError};
-use book::{Batch, Book, Call, FilledTwice, Opening, Reply};
+use book::{Batch, Book, Call, FilledTwice, Opening, Reply, message_of};
 use channel::Message;
-use side::{DueClaim, message_of};
+use side::DueClaim;
 use std::alloc::Global;
 use std::collections::VecDeque;
 use std::marker::Model;

@@ -8,17 +8,17 @@ returns-then-len-gt-MAX_OUTPUTS-clause-err c = too_many c.args.spent.now c.args.
 
 pub returns-then-is_empty-clause-err : goal.returns-then-is_empty-clause-err
 returns-then-is_empty-clause-err c =
-    nothing_left c.args.spent.now c.args.outputs c.args.batch.now c.len.result c.values.result.now c.in-Ok.claims true c.len.ensures c.if-len-gt-MAX_OUTPUTS.false c.values.ensures c.in-Ok.ensures c.if-is_empty.ensures refl
+    nothing_left c.args.spent.now c.args.outputs c.args.batch.now c.len.result c.values.result.now c.in_ok-claims.claims true c.len.ensures c.if-len-gt-MAX_OUTPUTS.false c.values.ensures c.in_ok-claims.ensures c.if-is_empty.ensures refl
 
 pub returns-clause-ok : goal.returns-clause-ok
 returns-clause-ok c = record {
-  claims_is = c.in-Ok.ensures ∙ ap (without_spent c.args.spent.now) c.values.ensures;
+  claims_is = c.in_ok-claims.ensures ∙ ap (without_spent c.args.spent.now) c.values.ensures;
   outputs_is = refl;
-  preimages_is = c.in-Ok-copied.ensures;
+  preimages_is = c.in_ok-preimages.ensures;
 }
 
 pub invariant_of-result-clause-some : goal.invariant_of-result-clause-some
-invariant_of-result-clause-some c = some (length c.in-Ok.claims) false c.if-is_empty.ensures refl
+invariant_of-result-clause-some c = some (length c.in_ok-claims.claims) false c.if-is_empty.ensures refl
 
 pub invariant_of-result-clause-inputs : goal.invariant_of-result-clause-inputs
-invariant_of-result-clause-inputs c = few c.args.spent.now c.args.batch.now c.values.result.now c.in-Ok.claims c.values.ensures c.in-Ok.ensures
+invariant_of-result-clause-inputs c = few c.args.spent.now c.args.batch.now c.values.result.now c.in_ok-claims.claims c.values.ensures c.in_ok-claims.ensures

@@ -12,14 +12,14 @@ use Rattle.book.proofs.history.Book.close.Goals as goal
 pub invariant_of-self-2 : goal.invariant_of-self-2
 invariant_of-self-2 c =
     let i = c.self.inside in
-    let is = filed c.file.new.entries.items c.reserve.new.self.items i.entries.items _ _ c.file.ensures c.in-Ok.ensures.items refl in
+    let is = filed c.file.new.entries.items c.reserve.new.self.items i.entries.items _ _ c.file.ensures c.in_ok-reserve.ensures.items refl in
     called i.entries.items i.channels.entries _ c.self.invariant _ _ _ _ is refl
     (close_done i.entries.items c.file.new.entries.items i.channels.entries c.args.seat c.args.channel c.index_mut-open.result.now c.close-number.new.self c.close-number.result c.self.invariant.left c.index_mut-open.ensures.value c.close-number.ensures.number c.close-number.ensures.closed is).keeps
 
 pub returns : goal.returns
 returns c =
     let i = c.self.inside in
-    let is = filed c.file.new.entries.items c.reserve.new.self.items i.entries.items _ _ c.file.ensures c.in-Ok.ensures.items refl in
+    let is = filed c.file.new.entries.items c.reserve.new.self.items i.entries.items _ _ c.file.ensures c.in_ok-reserve.ensures.items refl in
     let done = close_done i.entries.items c.file.new.entries.items i.channels.entries c.args.seat c.args.channel c.index_mut-open.result.now c.close-number.new.self c.close-number.result c.self.invariant.left c.index_mut-open.ensures.value c.close-number.ensures.number c.close-number.ensures.closed is in
     subst (λ (h : List Entry). IsCall (closed (Ok c.close-number.result)) h c.file.new.entries.items c.args.seat (Close c.args.channel)) c.self.view_is done.called
 
@@ -34,4 +34,4 @@ pub invariant_of-self : goal.invariant_of-self
 invariant_of-self c = subst (λ (h : List Entry). AreBeside h c.self.inside.channels.entries (kept_by c.self.inside.fulfils)) (sym c.reserve.ensures.items) c.self.invariant
 
 pub file-requires : goal.file-requires
-file-requires c = one_fits _ _ c.in-Ok.ensures.ok
+file-requires c = one_fits _ _ c.in_ok-reserve.ensures.ok

@@ -20,7 +20,7 @@ use Rattle.book.proofs.history.Book.keep.Goals as goal
 pub invariant_of-self-2 : goal.invariant_of-self-2
 invariant_of-self-2 c =
     let i = c.self.inside in
-    let is = filed c.file.new.entries.items c.reserve.new.self.items i.entries.items _ _ c.file.ensures c.in-Ok.ensures.items refl in
+    let is = filed c.file.new.entries.items c.reserve.new.self.items i.entries.items _ _ c.file.ensures c.in_ok-reserve.ensures.items refl in
     let tested = subst (λ (cs : List ClaimParts). keep_refusal c.index_mut-open.result.now c.args.number cs ≡ None) c.values.ensures c.in_ok-keep.ensures.tested in
     let whole = subst (λ (cs : List ClaimParts). AllByRecursion IsWhole cs) c.values-2.ensures c.hold_whole.ensures in
     called i.entries.items i.channels.entries _ c.self.invariant _ _ _ _ is refl
@@ -29,7 +29,7 @@ invariant_of-self-2 c =
 pub returns-clause-call : goal.returns-clause-call
 returns-clause-call c =
     let i = c.self.inside in
-    let is = filed c.file.new.entries.items c.reserve.new.self.items i.entries.items _ _ c.file.ensures c.in-Ok.ensures.items refl in
+    let is = filed c.file.new.entries.items c.reserve.new.self.items i.entries.items _ _ c.file.ensures c.in_ok-reserve.ensures.items refl in
     let tested = subst (λ (cs : List ClaimParts). keep_refusal c.index_mut-open.result.now c.args.number cs ≡ None) c.values.ensures c.in_ok-keep.ensures.tested in
     let whole = subst (λ (cs : List ClaimParts). AllByRecursion IsWhole cs) c.values-2.ensures c.hold_whole.ensures in
     let done = keep_done i.entries.items c.file.new.entries.items i.channels.entries c.args.seat c.args.channel c.args.number c.index_mut-open.result.now c.keep.new.self c.args.claims c.self.invariant.left c.index_mut-open.ensures.value tested c.in_ok-keep.ensures.ok is whole in
@@ -38,7 +38,7 @@ returns-clause-call c =
 pub returns-clause-exact : goal.returns-clause-exact
 returns-clause-exact c =
     let i = c.self.inside in
-    let is = filed c.file.new.entries.items c.reserve.new.self.items i.entries.items _ _ c.file.ensures c.in-Ok.ensures.items refl in
+    let is = filed c.file.new.entries.items c.reserve.new.self.items i.entries.items _ _ c.file.ensures c.in_ok-reserve.ensures.items refl in
     let tested = subst (λ (cs : List ClaimParts). keep_refusal c.index_mut-open.result.now c.args.number cs ≡ None) c.values.ensures c.in_ok-keep.ensures.tested in
     let whole = subst (λ (cs : List ClaimParts). AllByRecursion IsWhole cs) c.values-2.ensures c.hold_whole.ensures in
     let done = keep_done i.entries.items c.file.new.entries.items i.channels.entries c.args.seat c.args.channel c.args.number c.index_mut-open.result.now c.keep.new.self c.args.claims c.self.invariant.left c.index_mut-open.ensures.value tested c.in_ok-keep.ensures.ok is whole in
@@ -48,15 +48,15 @@ returns-clause-exact c =
 pub invariant_of-self-in_err-keep : goal.invariant_of-self-in_err-keep
 invariant_of-self-in_err-keep c =
     let i = c.self.inside in
-    uncalled i.entries.items i.channels.entries _ c.self.invariant _ _ _ c.in-Ok.ensures.items refl
-    (left_alone i.entries.items i.channels.entries c.self.invariant.left c.reserve.new.self.items c.in-Ok.ensures.items c.args.channel c.index_mut-open.result.now c.keep.new.self c.index_mut-open.ensures.value c.in_err-keep.ensures.err)
+    uncalled i.entries.items i.channels.entries _ c.self.invariant _ _ _ c.in_ok-reserve.ensures.items refl
+    (left_alone i.entries.items i.channels.entries c.self.invariant.left c.reserve.new.self.items c.in_ok-reserve.ensures.items c.args.channel c.index_mut-open.result.now c.keep.new.self c.index_mut-open.ensures.value c.in_err-keep.ensures.err)
 
 pub returns-in_err-keep-clause-call : goal.returns-in_err-keep-clause-call
 returns-in_err-keep-clause-call c =
     let i = c.self.inside in
     let tested = subst (λ (cs : List ClaimParts). IsKeepRefusal (keep_refusal c.index_mut-open.result.now c.args.number cs) c.in_err-keep.field-0.0) c.values.ensures c.in_err-keep.ensures.tested in
-    let refused = keep_refused i.entries.items c.reserve.new.self.items i.channels.entries c.self.invariant.left c.in-Ok.ensures.items c.args.seat c.args.channel c.index_mut-open.result.now c.index_mut-open.ensures.value c.args.number c.args.claims c.in_err-keep.field-0.0 tested in
-    let p = err_from_is_err_and c.from_residual.result c.from_residual.ensures.1 in
+    let refused = keep_refused i.entries.items c.reserve.new.self.items i.channels.entries c.self.invariant.left c.in_ok-reserve.ensures.items c.args.seat c.args.channel c.index_mut-open.result.now c.index_mut-open.ensures.value c.args.number c.args.claims c.in_err-keep.field-0.0 tested in
+    let p = err_from_is_err_and c.from_residual-in_err-keep.result c.from_residual-in_err-keep.ensures.1 in
     rw (p.1, p.2) (subst (λ (h : List Entry). IsCall (kept (Err c.in_err-keep.field-0.0)) h c.reserve.new.self.items c.args.seat (Keep c.args.channel c.args.number c.args.claims)) c.self.view_is refused)
 
 pub returns-then-index-len-clause-call : goal.returns-then-index-len-clause-call
@@ -71,8 +71,10 @@ returns-then-index-len-clause-call c =
 pub invariant_of-self : goal.invariant_of-self
 invariant_of-self c = subst (λ (h : List Entry). AreBeside h c.self.inside.channels.entries (kept_by c.self.inside.fulfils)) (sym c.reserve.ensures.items) c.self.invariant
 
-pub returns-in-Err-clause-call : goal.returns-in-Err-clause-call
-returns-in-Err-clause-call c = subst (λ (h : List Entry). IsCall (kept (Err NoMemory)) h c.reserve.new.self.items c.args.seat (Keep c.args.channel c.args.number c.args.claims)) c.self.view_is (inl (refl, c.reserve.ensures.items))
+pub returns-in_err-reserve-clause-call : goal.returns-in_err-reserve-clause-call
+returns-in_err-reserve-clause-call c =
+    let p = err_from_is_err_and c.from_residual.result c.from_residual.ensures.1 in
+    rw (p.1, p.2) (subst (λ (h : List Entry). IsCall (kept (Err NoMemory)) h c.reserve.new.self.items c.args.seat (Keep c.args.channel c.args.number c.args.claims)) c.self.view_is (inl (refl, c.reserve.ensures.items)))
 
 pub file-requires : goal.file-requires
-file-requires c = one_fits _ _ c.in-Ok.ensures.ok
+file-requires c = one_fits _ _ c.in_ok-reserve.ensures.ok

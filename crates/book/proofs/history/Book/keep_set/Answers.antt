@@ -32,7 +32,7 @@ invariant_of-self-2 c =
     let i = c.self.inside in
     let claims = c.args.set.claims in
     let named = ap (λ (cs : List ClaimParts). entry c.args.seat (Keep c.args.channel c.args.number cs)) (c.from_vec.ensures ∙ c.into_claims.ensures.value) in
-    let is = filed c.file.new.entries.items c.reserve.new.self.items i.entries.items _ _ c.file.ensures c.in-Ok.ensures.items named in
+    let is = filed c.file.new.entries.items c.reserve.new.self.items i.entries.items _ _ c.file.ensures c.in_ok-reserve.ensures.items named in
     let tested = subst (λ (cs : List ClaimParts). keep_refusal c.index_mut-open.result.now c.args.number cs ≡ None) c.claims.ensures.value c.in_ok-keep.ensures.tested in
     let whole = subst (λ (cs : List ClaimParts). AllByRecursion IsWhole cs) c.claims-2.ensures.value c.hold_whole.ensures in
     called i.entries.items i.channels.entries _ c.self.invariant _ _ _ _ is refl
@@ -43,7 +43,7 @@ returns-clause-call c =
     let i = c.self.inside in
     let claims = c.args.set.claims in
     let named = ap (λ (cs : List ClaimParts). entry c.args.seat (Keep c.args.channel c.args.number cs)) (c.from_vec.ensures ∙ c.into_claims.ensures.value) in
-    let is = filed c.file.new.entries.items c.reserve.new.self.items i.entries.items _ _ c.file.ensures c.in-Ok.ensures.items named in
+    let is = filed c.file.new.entries.items c.reserve.new.self.items i.entries.items _ _ c.file.ensures c.in_ok-reserve.ensures.items named in
     let tested = subst (λ (cs : List ClaimParts). keep_refusal c.index_mut-open.result.now c.args.number cs ≡ None) c.claims.ensures.value c.in_ok-keep.ensures.tested in
     let whole = subst (λ (cs : List ClaimParts). AllByRecursion IsWhole cs) c.claims-2.ensures.value c.hold_whole.ensures in
     let done = keep_done i.entries.items c.file.new.entries.items i.channels.entries c.args.seat c.args.channel c.args.number c.index_mut-open.result.now c.keep.new.self claims c.self.invariant.left c.index_mut-open.ensures.value tested c.in_ok-keep.ensures.ok is whole in
@@ -54,7 +54,7 @@ returns-clause-exact c =
     let i = c.self.inside in
     let claims = c.args.set.claims in
     let named = ap (λ (cs : List ClaimParts). entry c.args.seat (Keep c.args.channel c.args.number cs)) (c.from_vec.ensures ∙ c.into_claims.ensures.value) in
-    let is = filed c.file.new.entries.items c.reserve.new.self.items i.entries.items _ _ c.file.ensures c.in-Ok.ensures.items named in
+    let is = filed c.file.new.entries.items c.reserve.new.self.items i.entries.items _ _ c.file.ensures c.in_ok-reserve.ensures.items named in
     let tested = subst (λ (cs : List ClaimParts). keep_refusal c.index_mut-open.result.now c.args.number cs ≡ None) c.claims.ensures.value c.in_ok-keep.ensures.tested in
     let whole = subst (λ (cs : List ClaimParts). AllByRecursion IsWhole cs) c.claims-2.ensures.value c.hold_whole.ensures in
     let done = keep_done i.entries.items c.file.new.entries.items i.channels.entries c.args.seat c.args.channel c.args.number c.index_mut-open.result.now c.keep.new.self claims c.self.invariant.left c.index_mut-open.ensures.value tested c.in_ok-keep.ensures.ok is whole in
@@ -64,16 +64,16 @@ returns-clause-exact c =
 pub invariant_of-self-in_err-keep : goal.invariant_of-self-in_err-keep
 invariant_of-self-in_err-keep c =
     let i = c.self.inside in
-    uncalled i.entries.items i.channels.entries _ c.self.invariant _ _ _ c.in-Ok.ensures.items refl
-    (left_alone i.entries.items i.channels.entries c.self.invariant.left c.reserve.new.self.items c.in-Ok.ensures.items c.args.channel c.index_mut-open.result.now c.keep.new.self c.index_mut-open.ensures.value c.in_err-keep.ensures.err)
+    uncalled i.entries.items i.channels.entries _ c.self.invariant _ _ _ c.in_ok-reserve.ensures.items refl
+    (left_alone i.entries.items i.channels.entries c.self.invariant.left c.reserve.new.self.items c.in_ok-reserve.ensures.items c.args.channel c.index_mut-open.result.now c.keep.new.self c.index_mut-open.ensures.value c.in_err-keep.ensures.err)
 
 pub returns-in_err-keep-clause-call : goal.returns-in_err-keep-clause-call
 returns-in_err-keep-clause-call c =
     let i = c.self.inside in
     let claims = c.args.set.claims in
     let tested = subst (λ (cs : List ClaimParts). IsKeepRefusal (keep_refusal c.index_mut-open.result.now c.args.number cs) c.in_err-keep.field-0.0) c.claims.ensures.value c.in_err-keep.ensures.tested in
-    let refused = keep_refused i.entries.items c.reserve.new.self.items i.channels.entries c.self.invariant.left c.in-Ok.ensures.items c.args.seat c.args.channel c.index_mut-open.result.now c.index_mut-open.ensures.value c.args.number claims c.in_err-keep.field-0.0 tested in
-    let p = err_from_is_err_and c.from_residual.result c.from_residual.ensures.1 in
+    let refused = keep_refused i.entries.items c.reserve.new.self.items i.channels.entries c.self.invariant.left c.in_ok-reserve.ensures.items c.args.seat c.args.channel c.index_mut-open.result.now c.index_mut-open.ensures.value c.args.number claims c.in_err-keep.field-0.0 tested in
+    let p = err_from_is_err_and c.from_residual-in_err-keep.result c.from_residual-in_err-keep.ensures.1 in
     rw (p.1, p.2) (subst (λ (h : List Entry). IsCall (kept (Err c.in_err-keep.field-0.0)) h c.reserve.new.self.items c.args.seat (Keep c.args.channel c.args.number claims)) c.self.view_is refused)
 
 pub returns-then-index-len-clause-call : goal.returns-then-index-len-clause-call
@@ -88,8 +88,10 @@ returns-then-index-len-clause-call c =
 pub invariant_of-self : goal.invariant_of-self
 invariant_of-self c = subst (λ (h : List Entry). AreBeside h c.self.inside.channels.entries (kept_by c.self.inside.fulfils)) (sym c.reserve.ensures.items) c.self.invariant
 
-pub returns-in-Err-clause-call : goal.returns-in-Err-clause-call
-returns-in-Err-clause-call c = subst (λ (h : List Entry). IsCall (kept (Err NoMemory)) h c.reserve.new.self.items c.args.seat (Keep c.args.channel c.args.number c.args.set.claims)) c.self.view_is (inl (refl, c.reserve.ensures.items))
+pub returns-in_err-reserve-clause-call : goal.returns-in_err-reserve-clause-call
+returns-in_err-reserve-clause-call c =
+    let p = err_from_is_err_and c.from_residual.result c.from_residual.ensures.1 in
+    rw (p.1, p.2) (subst (λ (h : List Entry). IsCall (kept (Err NoMemory)) h c.reserve.new.self.items c.args.seat (Keep c.args.channel c.args.number c.args.set.claims)) c.self.view_is (inl (refl, c.reserve.ensures.items)))
 
 pub file-requires : goal.file-requires
-file-requires c = one_fits _ _ c.in-Ok.ensures.ok
+file-requires c = one_fits _ _ c.in_ok-reserve.ensures.ok

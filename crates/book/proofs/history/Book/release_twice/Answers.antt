@@ -1,4 +1,5 @@
 use Rattle.std.proofs.Common.{◌≤◌, List, length, subst, sym, Err, Ok, refl, rules, inl}
+use Rattle.std.proofs.lemmas.Result.{err_from_is_err_and}
 use Rattle.std.specs.List.{AllByRecursion}
 use Rattle.claim.specs.Claims.{ClaimParts, IsWhole}
 use Rattle.filling.specs.declared.errors.FillError.TheVariants.{NoMemory}
@@ -16,24 +17,25 @@ use Rattle.book.proofs.history.Book.release_twice.Goals as goal
 pub invariant_of-self-2 : goal.invariant_of-self-2
 invariant_of-self-2 c =
     let i = c.self.inside in
-    let is = filed c.file.new.entries.items c.reserve.new.self.items i.entries.items _ _ c.file.ensures c.in-Ok.ensures.items refl in
+    let is = filed c.file.new.entries.items c.reserve.new.self.items i.entries.items _ _ c.file.ensures c.in_ok-reserve.ensures.items refl in
     let whole = subst (λ (cs : List ClaimParts). AllByRecursion IsWhole cs) c.values.ensures c.hold_whole.ensures in
     called i.entries.items i.channels.entries _ c.self.invariant _ _ _ _ is refl
-    (release_done i.entries.items c.file.new.entries.items i.channels.entries c.args.seat c.args.channel c.index-open.result.now c.args.batch c.in-Ok-release_twice.filled.filled c.self.invariant.left c.index-open.ensures c.in-Ok-release_twice.ensures.tested c.in-Ok-release_twice.ensures.ok is whole).keeps
+    (release_done i.entries.items c.file.new.entries.items i.channels.entries c.args.seat c.args.channel c.index-open.result.now c.args.batch c.in_ok-twice.twice.filled c.self.invariant.left c.index-open.ensures c.in_ok-twice.ensures.tested c.in_ok-twice.ensures.ok is whole).keeps
 
 pub returns-clause-call : goal.returns-clause-call
 returns-clause-call c =
     let i = c.self.inside in
-    let is = filed c.file.new.entries.items c.reserve.new.self.items i.entries.items _ _ c.file.ensures c.in-Ok.ensures.items refl in
+    let is = filed c.file.new.entries.items c.reserve.new.self.items i.entries.items _ _ c.file.ensures c.in_ok-reserve.ensures.items refl in
     let whole = subst (λ (cs : List ClaimParts). AllByRecursion IsWhole cs) c.values.ensures c.hold_whole.ensures in
-    let done = release_done i.entries.items c.file.new.entries.items i.channels.entries c.args.seat c.args.channel c.index-open.result.now c.args.batch c.in-Ok-release_twice.filled.filled c.self.invariant.left c.index-open.ensures c.in-Ok-release_twice.ensures.tested c.in-Ok-release_twice.ensures.ok is whole in
-    subst (λ (h : List Entry). IsCall (released (Ok c.in-Ok-release_twice.filled.filled)) h c.file.new.entries.items c.args.seat (Release c.args.channel c.args.batch)) c.self.view_is done.called
+    let done = release_done i.entries.items c.file.new.entries.items i.channels.entries c.args.seat c.args.channel c.index-open.result.now c.args.batch c.in_ok-twice.twice.filled c.self.invariant.left c.index-open.ensures c.in_ok-twice.ensures.tested c.in_ok-twice.ensures.ok is whole in
+    subst (λ (h : List Entry). IsCall (released (Ok c.in_ok-twice.twice.filled)) h c.file.new.entries.items c.args.seat (Release c.args.channel c.args.batch)) c.self.view_is done.called
 
-pub returns-in-Err-release_twice-clause-call : goal.returns-in-Err-release_twice-clause-call
-returns-in-Err-release_twice-clause-call c =
+pub returns-in_err-twice-clause-call : goal.returns-in_err-twice-clause-call
+returns-in_err-twice-clause-call c =
     let i = c.self.inside in
-    let refused = release_refused i.entries.items c.reserve.new.self.items i.channels.entries c.self.invariant.left c.in-Ok.ensures.items c.args.seat c.args.channel c.index-open.result.now c.index-open.ensures c.args.batch c.in-Err-release_twice.error c.in-Err-release_twice.ensures.tested in
-    subst (λ (h : List Entry). IsCall (released (Err (Unfilled c.in-Err-release_twice.error))) h c.reserve.new.self.items c.args.seat (Release c.args.channel c.args.batch)) c.self.view_is refused
+    let refused = release_refused i.entries.items c.reserve.new.self.items i.channels.entries c.self.invariant.left c.in_ok-reserve.ensures.items c.args.seat c.args.channel c.index-open.result.now c.index-open.ensures c.args.batch c.in_err-twice.field-0.0 c.in_err-twice.ensures.tested in
+    let p = err_from_is_err_and c.from_residual-in_err-twice.result c.from_residual-in_err-twice.ensures.1 in
+    rw (p.1, p.2) (subst (λ (h : List Entry). IsCall (released (Err (Unfilled c.in_err-twice.field-0.0))) h c.reserve.new.self.items c.args.seat (Release c.args.channel c.args.batch)) c.self.view_is refused)
 
 pub returns-then-index-len-clause-call : goal.returns-then-index-len-clause-call
 returns-then-index-len-clause-call c =
@@ -46,11 +48,13 @@ returns-then-index-len-clause-call c =
 pub invariant_of-self : goal.invariant_of-self
 invariant_of-self c = subst (λ (h : List Entry). AreBeside h c.self.inside.channels.entries (kept_by c.self.inside.fulfils)) (sym c.reserve.ensures.items) c.self.invariant
 
-pub invariant_of-self-in-Err-release_twice : goal.invariant_of-self-in-Err-release_twice
-invariant_of-self-in-Err-release_twice c = subst (λ (h : List Entry). AreBeside h c.self.inside.channels.entries (kept_by c.self.inside.fulfils)) (sym c.in-Ok.ensures.items) c.self.invariant
+pub invariant_of-self-in_err-twice : goal.invariant_of-self-in_err-twice
+invariant_of-self-in_err-twice c = subst (λ (h : List Entry). AreBeside h c.self.inside.channels.entries (kept_by c.self.inside.fulfils)) (sym c.in_ok-reserve.ensures.items) c.self.invariant
 
-pub returns-in-Err-clause-call : goal.returns-in-Err-clause-call
-returns-in-Err-clause-call c = subst (λ (h : List Entry). IsCall (released (Err (Unfilled NoMemory))) h c.reserve.new.self.items c.args.seat (Release c.args.channel c.args.batch)) c.self.view_is (inl (refl, c.reserve.ensures.items))
+pub returns-in_err-reserve-clause-call : goal.returns-in_err-reserve-clause-call
+returns-in_err-reserve-clause-call c =
+    let p = err_from_is_err_and c.from_residual.result c.from_residual.ensures.1 in
+    rw (p.1, p.2) (subst (λ (h : List Entry). IsCall (released (Err (Unfilled NoMemory))) h c.reserve.new.self.items c.args.seat (Release c.args.channel c.args.batch)) c.self.view_is (inl (refl, c.reserve.ensures.items)))
 
 pub file-requires : goal.file-requires
-file-requires c = one_fits _ _ c.in-Ok.ensures.ok
+file-requires c = one_fits _ _ c.in_ok-reserve.ensures.ok

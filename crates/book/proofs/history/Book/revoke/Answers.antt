@@ -1,4 +1,5 @@
 use Rattle.std.proofs.Common.{List, subst, Err, Ok, refl, ◌≤◌, length, sym, rules}
+use Rattle.std.proofs.lemmas.Result.{err_from_is_err_and}
 use Rattle.book.specs.declared.calls.Call.TheVariants.{Revoke}
 use Rattle.book.specs.declared.calls.Entry.{Entry}
 use Rattle.book.specs.declared.errors.StepError.TheVariants.{Refused, NoSuchChannel}
@@ -14,28 +15,29 @@ use Rattle.book.proofs.history.Book.revoke.Goals as goal
 pub invariant_of-self-2 : goal.invariant_of-self-2
 invariant_of-self-2 c =
     let i = c.self.inside in
-    let is = filed c.file.new.entries.items c.reserve.new.self.items i.entries.items _ _ c.file.ensures c.in-Ok.ensures.items refl in
+    let is = filed c.file.new.entries.items c.reserve.new.self.items i.entries.items _ _ c.file.ensures c.in_ok-reserve.ensures.items refl in
     called i.entries.items i.channels.entries _ c.self.invariant _ _ _ _ is refl
-    (revoke_done i.entries.items c.file.new.entries.items i.channels.entries c.args.seat c.args.channel c.index_mut-open.result.now c.revoke.new.self c.args.revocation.secret c.args.revocation.next_point c.in-Ok-revoke.number c.self.invariant.left c.index_mut-open.ensures.value c.in-Ok-revoke.ensures.tested c.in-Ok-revoke.ensures.number c.in-Ok-revoke.ensures.ok is).keeps
+    (revoke_done i.entries.items c.file.new.entries.items i.channels.entries c.args.seat c.args.channel c.index_mut-open.result.now c.revoke.new.self c.args.revocation.secret c.args.revocation.next_point c.in_ok-number.number c.self.invariant.left c.index_mut-open.ensures.value c.in_ok-number.ensures.tested c.in_ok-number.ensures.number c.in_ok-number.ensures.ok is).keeps
 
 pub returns : goal.returns
 returns c =
     let i = c.self.inside in
-    let is = filed c.file.new.entries.items c.reserve.new.self.items i.entries.items _ _ c.file.ensures c.in-Ok.ensures.items refl in
-    let done = revoke_done i.entries.items c.file.new.entries.items i.channels.entries c.args.seat c.args.channel c.index_mut-open.result.now c.revoke.new.self c.args.revocation.secret c.args.revocation.next_point c.in-Ok-revoke.number c.self.invariant.left c.index_mut-open.ensures.value c.in-Ok-revoke.ensures.tested c.in-Ok-revoke.ensures.number c.in-Ok-revoke.ensures.ok is in
-    subst (λ (h : List Entry). IsCall (revoked (Ok c.in-Ok-revoke.number)) h c.file.new.entries.items c.args.seat (Revoke c.args.channel c.args.revocation)) c.self.view_is done.called
+    let is = filed c.file.new.entries.items c.reserve.new.self.items i.entries.items _ _ c.file.ensures c.in_ok-reserve.ensures.items refl in
+    let done = revoke_done i.entries.items c.file.new.entries.items i.channels.entries c.args.seat c.args.channel c.index_mut-open.result.now c.revoke.new.self c.args.revocation.secret c.args.revocation.next_point c.in_ok-number.number c.self.invariant.left c.index_mut-open.ensures.value c.in_ok-number.ensures.tested c.in_ok-number.ensures.number c.in_ok-number.ensures.ok is in
+    subst (λ (h : List Entry). IsCall (revoked (Ok c.in_ok-number.number)) h c.file.new.entries.items c.args.seat (Revoke c.args.channel c.args.revocation)) c.self.view_is done.called
 
-pub invariant_of-self-in-Err-revoke : goal.invariant_of-self-in-Err-revoke
-invariant_of-self-in-Err-revoke c =
+pub invariant_of-self-in_err-number : goal.invariant_of-self-in_err-number
+invariant_of-self-in_err-number c =
     let i = c.self.inside in
-    uncalled i.entries.items i.channels.entries _ c.self.invariant _ _ _ c.in-Ok.ensures.items refl
-    (left_alone i.entries.items i.channels.entries c.self.invariant.left c.reserve.new.self.items c.in-Ok.ensures.items c.args.channel c.index_mut-open.result.now c.revoke.new.self c.index_mut-open.ensures.value c.in-Err-revoke.ensures.err)
+    uncalled i.entries.items i.channels.entries _ c.self.invariant _ _ _ c.in_ok-reserve.ensures.items refl
+    (left_alone i.entries.items i.channels.entries c.self.invariant.left c.reserve.new.self.items c.in_ok-reserve.ensures.items c.args.channel c.index_mut-open.result.now c.revoke.new.self c.index_mut-open.ensures.value c.in_err-number.ensures.err)
 
-pub returns-in-Err-revoke : goal.returns-in-Err-revoke
-returns-in-Err-revoke c =
+pub returns-in_err-number : goal.returns-in_err-number
+returns-in_err-number c =
     let i = c.self.inside in
-    let refused = revoke_refused i.entries.items c.reserve.new.self.items i.channels.entries c.self.invariant.left c.in-Ok.ensures.items c.args.seat c.args.channel c.index_mut-open.result.now c.index_mut-open.ensures.value c.args.revocation.secret c.args.revocation.next_point c.in-Err-revoke.refusal c.in-Err-revoke.ensures.tested in
-    subst (λ (h : List Entry). IsCall (revoked (Err (Refused c.in-Err-revoke.refusal))) h c.reserve.new.self.items c.args.seat (Revoke c.args.channel c.args.revocation)) c.self.view_is refused
+    let refused = revoke_refused i.entries.items c.reserve.new.self.items i.channels.entries c.self.invariant.left c.in_ok-reserve.ensures.items c.args.seat c.args.channel c.index_mut-open.result.now c.index_mut-open.ensures.value c.args.revocation.secret c.args.revocation.next_point c.in_err-number.field-0.0 c.in_err-number.ensures.tested in
+    let p = err_from_is_err_and c.from_residual-in_err-number.result c.from_residual-in_err-number.ensures.1 in
+    rw (p.1, p.2) (subst (λ (h : List Entry). IsCall (revoked (Err (Refused c.in_err-number.field-0.0))) h c.reserve.new.self.items c.args.seat (Revoke c.args.channel c.args.revocation)) c.self.view_is refused)
 
 pub returns-then-index-len : goal.returns-then-index-len
 returns-then-index-len c =
@@ -48,4 +50,4 @@ pub invariant_of-self : goal.invariant_of-self
 invariant_of-self c = subst (λ (h : List Entry). AreBeside h c.self.inside.channels.entries (kept_by c.self.inside.fulfils)) (sym c.reserve.ensures.items) c.self.invariant
 
 pub file-requires : goal.file-requires
-file-requires c = one_fits _ _ c.in-Ok.ensures.ok
+file-requires c = one_fits _ _ c.in_ok-reserve.ensures.ok

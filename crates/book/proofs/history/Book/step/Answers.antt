@@ -21,7 +21,7 @@ invariant_of-self-2 c =
     let i = c.self.inside in
     let t = c.in_ok-taken.taken in
     let named = ap (λ (s : Step). entry c.args.seat (Stepping c.args.channel s)) c.in_ok-taken.ensures.step in
-    let is = filed c.file.new.entries.items c.reserve.new.self.items i.entries.items _ _ c.file.ensures c.in-Ok.ensures.items named in
+    let is = filed c.file.new.entries.items c.reserve.new.self.items i.entries.items _ _ c.file.ensures c.in_ok-reserve.ensures.items named in
     let after = c.add_preimage.ensures ∙ ap (λ (x : Step). at_index (λ own. own ++ cons_option (preimage_in x) []) c.args.channel (kept_by c.reserve_preimage.new.self)) c.in_ok-taken.ensures.step
     ∙ ap (λ (ps : Preimages). at_index (λ own. own ++ cons_option (preimage_in c.args.step) []) c.args.channel ps) c.reserve_preimage.ensures.same in
     called i.entries.items i.channels.entries _ c.self.invariant _ _ _ _ is after
@@ -32,21 +32,21 @@ returns c =
     let i = c.self.inside in
     let t = c.in_ok-taken.taken in
     let named = ap (λ (s : Step). entry c.args.seat (Stepping c.args.channel s)) c.in_ok-taken.ensures.step in
-    let is = filed c.file.new.entries.items c.reserve.new.self.items i.entries.items _ _ c.file.ensures c.in-Ok.ensures.items named in
+    let is = filed c.file.new.entries.items c.reserve.new.self.items i.entries.items _ _ c.file.ensures c.in_ok-reserve.ensures.items named in
     let done = step_done i.entries.items c.file.new.entries.items i.channels.entries c.args.seat c.args.channel c.index_mut-open.result.now c.step.new.self c.args.step t.message c.self.invariant.left c.index_mut-open.ensures.value c.in_ok-taken.ensures.tested c.in_ok-taken.ensures.message c.in_ok-taken.ensures.ok is in
     subst (λ (h : List Entry). IsCall (stepped (Ok (cons_option t.message []))) h c.file.new.entries.items c.args.seat (Stepping c.args.channel c.args.step)) c.self.view_is done.called
 
 pub invariant_of-self-in_err-taken : goal.invariant_of-self-in_err-taken
 invariant_of-self-in_err-taken c =
     let i = c.self.inside in
-    uncalled i.entries.items i.channels.entries _ c.self.invariant _ _ _ c.in-Ok.ensures.items c.reserve_preimage.ensures.same
-    (left_alone i.entries.items i.channels.entries c.self.invariant.left c.reserve.new.self.items c.in-Ok.ensures.items c.args.channel c.index_mut-open.result.now c.step.new.self c.index_mut-open.ensures.value c.in_err-taken.ensures.err)
+    uncalled i.entries.items i.channels.entries _ c.self.invariant _ _ _ c.in_ok-reserve.ensures.items c.reserve_preimage.ensures.same
+    (left_alone i.entries.items i.channels.entries c.self.invariant.left c.reserve.new.self.items c.in_ok-reserve.ensures.items c.args.channel c.index_mut-open.result.now c.step.new.self c.index_mut-open.ensures.value c.in_err-taken.ensures.err)
 
 pub returns-in_err-taken : goal.returns-in_err-taken
 returns-in_err-taken c =
     let i = c.self.inside in
-    let refused = step_refused i.entries.items c.reserve.new.self.items i.channels.entries c.self.invariant.left c.in-Ok.ensures.items c.args.seat c.args.channel c.index_mut-open.result.now c.index_mut-open.ensures.value c.args.step c.in_err-taken.field-0.0 c.in_err-taken.ensures.tested in
-    let p = err_from_is_err_and c.from_residual.result c.from_residual.ensures.1 in
+    let refused = step_refused i.entries.items c.reserve.new.self.items i.channels.entries c.self.invariant.left c.in_ok-reserve.ensures.items c.args.seat c.args.channel c.index_mut-open.result.now c.index_mut-open.ensures.value c.args.step c.in_err-taken.field-0.0 c.in_err-taken.ensures.tested in
+    let p = err_from_is_err_and c.from_residual-in_err-taken.result c.from_residual-in_err-taken.ensures.1 in
     rw (p.1, p.2) (subst (λ (h : List Entry). IsCall (stepped (Err c.in_err-taken.field-0.0)) h c.reserve.new.self.items c.args.seat (Stepping c.args.channel c.args.step)) c.self.view_is refused)
 
 pub reserve_preimage-requires : goal.reserve_preimage-requires
@@ -72,7 +72,7 @@ pub invariant_of-self : goal.invariant_of-self
 invariant_of-self c = subst (λ (h : List Entry). AreBeside h c.self.inside.channels.entries (kept_by c.self.inside.fulfils)) (sym c.reserve.ensures.items) c.self.invariant
 
 pub file-requires : goal.file-requires
-file-requires c = one_fits _ _ c.in-Ok.ensures.ok
+file-requires c = one_fits _ _ c.in_ok-reserve.ensures.ok
 
 pub add_preimage-requires-clause-room : goal.add_preimage-requires-clause-room
-add_preimage-requires-clause-room c = c.in-Ok-reserve_preimage.ensures.room
+add_preimage-requires-clause-room c = c.in_ok-reserve_preimage.ensures.room

@@ -20,8 +20,8 @@ returns-then-is_kept-clause-tested c =
     in
     subst (λ (o : ChannelBook). keep_refusal o n c.args.claims.now ≡ Some AlreadyKept) c.self.view_is (already_kept ch i.flags.items i.below n flag c.args.claims.now c.self.invariant found c.if-is_kept.true)
 
-pub returns-then-not-are_its_own-clause-tested : goal.returns-then-not-are_its_own-clause-tested
-returns-then-not-are_its_own-clause-tested c =
+pub returns-then-not-branch-clause-tested : goal.returns-then-not-branch-clause-tested
+returns-then-not-branch-clause-tested c =
     let i = c.self.inside in
     let n = c.args.number in
     let flags = c.deref.result.now in
@@ -31,8 +31,8 @@ returns-then-not-are_its_own-clause-tested c =
     let found : slice_get i.flags.items n ≡ Some flag =
     ap (λ fs. slice_get fs n) (sym c.deref.ensures.value) ∙ slice_get_read flags (length flags) n flag refl c.in-Some.ensures.lookup.3.0 c.in-Some.ensures.lookup.1
     in
-    let no : c.in-Ok.are_its_own ≡ false = search rules in
-    let others = sym (subst (λ (o : ChannelBook). c.in-Ok.are_its_own ≡ is_penalty_set o.state n claims) (sym c.self.view_is) c.in-Ok.ensures) ∙ no in
+    let no : c.in_ok-are_its_own.field-0 ≡ false = search rules in
+    let others = sym (subst (λ (o : ChannelBook). c.in_ok-are_its_own.field-0 ≡ is_penalty_set o.state n claims) (sym c.self.view_is) c.in_ok-are_its_own.ensures) ∙ no in
     subst (λ (o : ChannelBook). keep_refusal o n claims ≡ Some OtherState) c.self.view_is (other_state ch i.flags.items i.below n flag claims c.self.invariant found c.if-is_kept.false others)
 
 pub returns-clause-tested : goal.returns-clause-tested
@@ -46,6 +46,6 @@ returns-clause-tested c =
     let found : slice_get i.flags.items n ≡ Some flag =
     ap (λ fs. slice_get fs n) (sym c.deref.ensures.value) ∙ slice_get_read flags (length flags) n flag refl c.in-Some.ensures.lookup.3.0 c.in-Some.ensures.lookup.1
     in
-    let yes : c.in-Ok.are_its_own ≡ true = search rules in
-    let own = sym (subst (λ (o : ChannelBook). c.in-Ok.are_its_own ≡ is_penalty_set o.state n claims) (sym c.self.view_is) c.in-Ok.ensures) ∙ yes in
+    let yes : c.in_ok-are_its_own.field-0 ≡ true = search rules in
+    let own = sym (subst (λ (o : ChannelBook). c.in_ok-are_its_own.field-0 ≡ is_penalty_set o.state n claims) (sym c.self.view_is) c.in_ok-are_its_own.ensures) ∙ yes in
     subst (λ (o : ChannelBook). keep_refusal o n claims ≡ None) c.self.view_is (none_refused ch i.flags.items i.below n flag claims c.self.invariant found c.if-is_kept.false own)

@@ -4,9 +4,10 @@ ghost use Rattle.std.specs.Prelude.{◌≡◌, true, false, [], IfOk, MatchResul
 ghost use Rattle.std.specs.List.{cons_option};
 ghost use Rattle.book.specs.Replies.{is_accepted};
 ghost use Rattle.book.specs.Dispatch.{reply_form};
-ghost use Rattle.side.specs.Acts.{call_of, messages_in};
+ghost use Rattle.book.specs.Acts.{call_of, messages_in, ran_out};
 
-use book::{Call, Reply, Step};
+use crate::calling::Reply;
+use crate::calls::{Call, Step};
 use channel::Message;
 use std::alloc::AllocError;
 
@@ -40,5 +41,25 @@ pub fn message_of(reply: Reply) -> Result<Option<Message>, Reply>
         Reply::Released(Ok(_)) => Ok(None),
         Reply::Closed(Ok(_)) => Ok(None),
         refused => Err(refused),
+    }
+}
+
+impl Reply {
+    /// Whether the call was refused since memory ran out. Refusals of every call have the number 0 for it.
+    pub fn is_out_of_memory(&self) -> bool
+        ensures { result ≡ ran_out (reply_form self.now) }
+    {
+        match self {
+            Reply::Opened(Err(error)) => error.number() == 0,
+            Reply::Stepped(Err(error)) => error.number() == 0,
+            Reply::Signed(Err(error)) => error.number() == 0,
+            Reply::Revoked(Err(error)) => error.number() == 0,
+            Reply::Kept(Err(error)) => error.number() == 0,
+            Reply::Released(Err(error)) => error.number() == 0,
+            Reply::Closed(Err(error)) => error.number() == 0,
+            Reply::Opened(Ok(_)) | Reply::Stepped(Ok(_)) | Reply::Signed(Ok(_)) => false,
+            Reply::Revoked(Ok(_)) | Reply::Kept(Ok(())) | Reply::Released(Ok(_)) => false,
+            Reply::Closed(Ok(_)) => false,
+        }
     }
 }
