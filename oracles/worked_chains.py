@@ -1,5 +1,5 @@
 #!/usr/bin/env python3
-"""Whether the bytes in crates/chain_examples are those of the channels and chains that are worked out there.
+"""Whether the bytes in crates/chain_examples are those of the channels and chains that are worked out there, and the four ends in crates/book_laws those of its history of two rounds.
 
 They are worked out here from BOLT 3, BIP 143 and the stand-ins of docs/DECISIONS.md for keys and signatures, and no program of this repository is asked: ids of grants and of transactions, keys, scripts,
 programs, what is signed, and the first four bytes of the hashes in the tables. The prover holds each to the definitions; here each is held to what stands outside of them.
@@ -72,7 +72,7 @@ class Channel:
         self.bases["B"].update(their_bases or {})
         keys = sorted(self.bases[side]["funding"] for side in "AB")
         self.script = b"\x52" + push(keys[0]) + push(keys[1]) + b"\x52\xae"
-        self.mask = int.from_bytes(sha256(self.bases["A"]["payment"] + self.bases["B"]["payment"])[26:], "big")
+        self.index, self.mask = 0, int.from_bytes(sha256(self.bases["A"]["payment"] + self.bases["B"]["payment"])[26:], "big")
 
 
 def to_local_script(keys, delay):
@@ -104,7 +104,7 @@ class Commitment:
         self.outputs = self.sorted_outputs(balances, offered)
         hidden = n ^ channel.mask
         self.lock_time, self.sequence = 0x20000000 + hidden % 2**24, 0x80000000 + hidden // 2**24 % 2**24
-        self.tx = Tx((channel.grant, 0), self.sequence, [(it.value, it.program) for it in self.outputs], self.lock_time)
+        self.tx = Tx((channel.grant, channel.index), self.sequence, [(it.value, it.program) for it in self.outputs], self.lock_time)
         self.stages = {at: self.stage(at, it) for at, it in enumerate(self.outputs) if it.htlc}
 
     def sorted_outputs(self, balances, offered):
@@ -390,6 +390,44 @@ def own_stages():
     return it.tables()
 
 
+# ---- a history of two rounds, in crates/book_laws
+
+
+def rounds_channel():
+    """The channel: the node's base keys are of its seed, and the funding output is output 7 of a transaction that spends a grant."""
+    it = Channel(0, 0x10, 0x20, {"A": 2, "B": 3}, {"A": 546, "B": 1500}, {"funding": b"\x03" + filled_bytes(0x20)})
+    it.bases["A"] = {name: point(seed_secret(SEED, at)) for at, name in enumerate(BASES)}
+    it.script = b"\x52" + b"".join(push(it.bases[side]["funding"]) for side in "AB") + b"\x52\xae"
+    it.mask = int.from_bytes(sha256(it.bases["A"]["payment"] + it.bases["B"]["payment"])[26:], "big")
+    opens = Tx((it.grant, 0), 0, [(1000, b"")] * 7 + [(CAPACITY, script_program(it.script))], 0)
+    it.grant, it.index = opens.txid(), 7
+    return it
+
+
+def rounds_ends():
+    """What the node claims at each of four ends, by the output's value; the first byte of the commitment's id beside it."""
+    channel = rounds_channel()
+    ours, theirs, trimmed, more = Htlc(10000, 7, 3), Htlc(12000, 8, 4), Htlc(1200, 10, 5), Htlc(4000, 9, 6)
+    ends = {
+        "revoked": Commitment(channel, "B", 1, point(filled_bytes(0x51)), {"A": 69999, "B": 20000}, {"A": [ours]}),
+        "newest": Commitment(channel, "B", 2, key(0x52), {"A": 69999, "B": 7999}, {"A": [ours], "B": [theirs]}),
+        "next": Commitment(channel, "B", 3, key(0x53), {"A": 68799, "B": 7999}, {"A": [ours, trimmed], "B": [theirs]}),
+        "own": Commitment(channel, "A", 3, point(secret_at(SEED, 3)), {"A": 69999, "B": 3999}, {"A": [ours], "B": [theirs, more]}),
+    }
+    claims = {name: [it.value for it in k.outputs if name == "revoked" or it.kind != "ToLocal"] for name, k in ends.items()}
+    claims["own"] = [it.value for it in ends["own"].outputs if it.kind == "ToLocal"] + [tx.outputs[0][0] for tx in ends["own"].stages.values()]
+    return {**{f"{name}_claims": sorted(it) for name, it in claims.items()}, **{f"{name}_begins": [k.tx.txid()[0]] for name, k in ends.items()}}
+
+
+def rounds_facts():
+    """The same as the facts say it."""
+    found = {}
+    for file, form in (("RoundsWorth", r"^(\w+_claims) : .* ≡ ([\d +]+)$"), ("RoundsChains", r"^((?!grant|opens)\w+_begins) : .* ≡ (0x[0-9a-f]{2})$")):
+        with open(f"{TOP}/crates/book_laws/proofs/{file}.antt", encoding="utf-8") as it:
+            found.update({name: sorted(int(n, 0) for n in row.split(" + ")) for name, row in re.findall(form, it.read(), re.M)})
+    return found
+
+
 def file_tables(file):
     """The tables that stand in a file, by their names."""
     with open(f"{PROOFS}/{file}.antt", encoding="utf-8") as it:
@@ -415,6 +453,12 @@ def main():
             if list(made.get(name, ())) != stand.get(name):
                 wrong += 1
                 print(f"{file}: {name} {'is another' if name in made and name in stand else 'stands nowhere' if name in made else 'is not worked out'}")
+    made, stand = rounds_ends(), rounds_facts()
+    for name in sorted({*made, *stand}):
+        count += 1
+        if made.get(name) != stand.get(name):
+            wrong += 1
+            print(f"rounds: {name} is {made.get(name)} and not {stand.get(name)}")
     print(f"worked_chains: {count} tables, {wrong} wrong")
     return 1 if wrong else 0
 

@@ -3,10 +3,11 @@ use Rattle.std.proofs.Common.{◌≡◌, ◌≢◌, ℕ, ◌+◌, ◌*◌, ◌<�
 use Rattle.std.specs.Prelude.{◌↔◌, slice_get, sum_by}
 use Rattle.std.specs.List.{Contains, AllPairs}
 use Rattle.std.proofs.lemmas.Bool.{true≢false}
-use Rattle.std.proofs.lemmas.Option.{same_Some}
+use Rattle.std.proofs.lemmas.Option.{same_Some, slice_get_past}
 use Rattle.std.proofs.lemmas.List.Elements.{All-nil, All-cons}
 use Rattle.std.proofs.lemmas.List.Kept.{AllPairs-cons}
 use Rattle.std.proofs.lemmas.List.Sums.{sum_by-cons}
+use Rattle.tx.specs.Fields.{Transaction}
 use Rattle.chain.specs.Blocks.{Contents as Block, Coin, coin_at}
 use Rattle.terms.specs.declared.amounts.TheConstants.{MSAT_PER_SAT}
 use Rattle.terms.specs.declared.htlcs.Htlc.{Htlc}
@@ -27,8 +28,9 @@ use Rattle.safety.specs.Resolutions.{Resolution, IsSlept, IsPaidOrLate}
 use Rattle.safety.proofs.Slots.{contains_first, contains_later}
 use Rattle.safety.proofs.Lists.{none_some, contains_none}
 use Rattle.balance_laws.specs.Claims.{AreWorth, AllAreWorth, ShareIsWorth}
-use Rattle.balance_laws.specs.Own.{IsOwnPaidOrLate, OwnResolution, HasOwnShare}
-use Rattle.balance_laws.specs.Balances.{HasAll, HasShare, HasNewest, BalanceIsThere, absent, unclosed, by_revoked, by_newest, by_next, by_own, broken}
+use Rattle.balance_laws.specs.OwnBreaks.{OwnBreaks}
+use Rattle.balance_laws.specs.Own.{HasOwnShare}
+use Rattle.balance_laws.specs.Balances.{HasAll, HasShare, HasNewest, BalanceIsThere, unclosed, by_revoked, by_newest, by_next, by_own, broken}
 use Rattle.balance_laws.proofs.Apart.{AreApart}
 use Rattle.balance_laws.proofs.Peers.{no_stage}
 
@@ -123,8 +125,8 @@ module _ (h : Holding) (known : Htlc → Bool) (o p : Claimable) (three : o.plac
   -- what is lost of the two is neither there nor taken
   module _ (hs : List Holding) (blocks : List Block) (k : CommitmentState) where
     -- no: HasShare
-    second_of_two_is_lost : counted false known (λ _. false) (contents_of (terms_in h) k) ≡ two → (Resolution hs blocks (IsPaidOrLate (contents_of (terms_in h) k) p) p → ⊥) → HasShare hs blocks h known k → ⊥
-    second_of_two_is_lost = one_of_two_is_lost (λ x. Resolution hs blocks (IsPaidOrLate (contents_of (terms_in h) k) x) x) k (λ _. false) false
+    second_of_two_is_lost : counted false known (λ _. false) (contents_of (terms_in h) k) ≡ two → (Resolution Breaks hs blocks (IsPaidOrLate false (contents_of (terms_in h) k) p) p → ⊥) → HasShare hs blocks h known k → ⊥
+    second_of_two_is_lost = one_of_two_is_lost (λ x. Resolution Breaks hs blocks (IsPaidOrLate false (contents_of (terms_in h) k) x) x) k (λ _. false) false
 
 -- ---- a commitment without outputs, since all that there is is dust
 
@@ -197,32 +199,32 @@ module _ (h : Holding) (known : Htlc → Bool) (k : CommitmentState) (none : (co
     has_all_of_dust e l = record {
       stands = no_stage;
       those = λ x i. absurd (contains_none x (subst (λ (xs : List HtlcOutput). Contains xs x) no_htlcs i));
-      claims = all_is_dust (λ o. Resolution hs blocks (IsSlept c o) o) no_stage e l;
+      claims = all_is_dust (λ o. Resolution Breaks hs blocks (IsSlept c o) o) no_stage e l;
     }
 
     -- no: HasAll
     has_not_all : deducted_msat (all_deductions (terms_in h) k.view (peer_in h)) + MSAT_PER_SAT ≡ MSAT_PER_SAT * (terms_in h).capacity_sat → HasAll hs blocks h known k → ⊥
-    has_not_all e a = satoshi_of_all_is_gone (λ o. Resolution hs blocks (IsSlept c o) o) a.stands e a.claims
+    has_not_all e a = satoshi_of_all_is_gone (λ o. Resolution Breaks hs blocks (IsSlept c o) o) a.stands e a.claims
 
     -- yes: HasShare
     has_share_of_dust : deducted_msat (deductions (terms_in h) k.view false h.state.held.side known) ≡ counted_msat known h.state.held.side k.view → at_least_sat known h.state ≡ 0 → HasShare hs blocks h known k
-    has_share_of_dust e l = share_is_dust (λ o. Resolution hs blocks (IsPaidOrLate c o) o) no_stage false e l
+    has_share_of_dust e l = share_is_dust (λ o. Resolution Breaks hs blocks (IsPaidOrLate false c o) o) no_stage false e l
 
     -- no: HasShare
     has_no_share : deducted_msat (deductions (terms_in h) k.view false h.state.held.side known) + MSAT_PER_SAT ≡ counted_msat known h.state.held.side k.view → HasShare hs blocks h known k → ⊥
-    has_no_share e a = satoshi_of_the_share_is_gone (λ o. Resolution hs blocks (IsPaidOrLate c o) o) no_stage false e a
+    has_no_share e a = satoshi_of_the_share_is_gone (λ o. Resolution Breaks hs blocks (IsPaidOrLate false c o) o) no_stage false e a
 
     -- yes: HasOwnShare
     has_own_share_of_dust : deducted_msat (deductions (terms_in h) k.view true h.state.held.side known) ≡ counted_msat known h.state.held.side k.view → at_least_sat known h.state ≡ 0 → HasOwnShare hs blocks h known k
     has_own_share_of_dust e l = record {
       stands = no_stage;
       those = λ x i. absurd (contains_none x (subst (λ (xs : List HtlcOutput). Contains xs x) no_htlcs i));
-      claims = share_is_dust (λ o. OwnResolution hs blocks (IsOwnPaidOrLate c o) o) no_stage true e l;
+      claims = share_is_dust (λ o. Resolution OwnBreaks hs blocks (IsPaidOrLate true c o) o) no_stage true e l;
     }
 
     -- no: HasOwnShare
     has_no_own_share : deducted_msat (deductions (terms_in h) k.view true h.state.held.side known) + MSAT_PER_SAT ≡ counted_msat known h.state.held.side k.view → HasOwnShare hs blocks h known k → ⊥
-    has_no_own_share e a = satoshi_of_the_share_is_gone (λ o. OwnResolution hs blocks (IsOwnPaidOrLate c o) o) a.stands true e a.claims
+    has_no_own_share e a = satoshi_of_the_share_is_gone (λ o. Resolution OwnBreaks hs blocks (IsPaidOrLate true c o) o) a.stands true e a.claims
 
 -- ---- an HTLC transaction that stands
 
@@ -262,9 +264,17 @@ not_ready blocks h known n has = n has.ready
 
 -- ---- a channel
 
--- yes: BalanceIsThere
-not_yet_opened : (hs : List Holding) (h : Holding) (known : Htlc → Bool) → BalanceIsThere hs [] h known
-not_yet_opened hs h known = absent refl
+nothing_there : (t : Transaction) → IsOnChain [] t → ⊥
+nothing_there t on = none_some on.stands.block (sym (slice_get_past [] on.height (omega arith)) ∙ on.stands.there)
+
+-- no: BalanceIsThere
+not_yet_opened : (hs : List Holding) (h : Holding) (known : Htlc → Bool) → (Breaks hs [] → ⊥) → BalanceIsThere hs [] h known → ⊥
+not_yet_opened hs h known whole (unclosed coin at free has) = none_some coin at
+not_yet_opened hs h known whole (by_revoked n k l at s on has) = nothing_there (transaction_of (contents_of (terms_in h) k)) on
+not_yet_opened hs h known whole (by_newest k at on has) = nothing_there (transaction_of (contents_of (terms_in h) k)) on
+not_yet_opened hs h known whole (by_next k e at on has) = nothing_there (transaction_of (contents_of (terms_in h) k)) on
+not_yet_opened hs h known whole (by_own k e at on has) = nothing_there (transaction_of (contents_of (terms_in h) k)) on
+not_yet_opened hs h known whole (broken b) = whole b
 
 module _ (hs : List Holding) (blocks : List Block) (h : Holding) (known : Htlc → Bool) (coin : Coin) (there : coin_at blocks (terms_in h).funding ≡ Some coin) where
   -- yes: BalanceIsThere
@@ -281,7 +291,6 @@ module _ (hs : List Holding) (blocks : List Block) (h : Holding) (known : Htlc �
     open_but_not_ready : coin.spent ≡ false → h.closed ≡ None → ((n : ℕ) (k : CommitmentState) → slice_get h.state.signed n ≡ Some k → IsOnChain blocks (transaction_of (contents_of (terms_in h) k)) → ⊥)
         → (HasNewest blocks h known → ⊥)
         → BalanceIsThere hs blocks h known → ⊥
-    open_but_not_ready free not_closed n r (absent e) = none_some coin (sym e ∙ there)
     open_but_not_ready free not_closed n r (unclosed c at f has) = r has
     open_but_not_ready free not_closed n r (by_revoked i k l at s on p) = n i k at on
     open_but_not_ready free not_closed n r (by_newest k at on p) = n h.state.peer_number k at on
@@ -293,7 +302,6 @@ module _ (hs : List Holding) (blocks : List Block) (h : Holding) (known : Htlc �
     -- no: BalanceIsThere
     output_is_lost : coin.spent ≡ true → h.closed ≡ None → ((n : ℕ) (k : CommitmentState) → slice_get h.state.signed n ≡ Some k → IsOnChain blocks (transaction_of (contents_of (terms_in h) k)) → n ≡ h.state.peer_number)
         → ((k : CommitmentState) → slice_get h.state.signed h.state.peer_number ≡ Some k → HasShare hs blocks h known k → ⊥) → BalanceIsThere hs blocks h known → ⊥
-    output_is_lost taken not_closed n lost (absent e) = none_some coin (sym e ∙ there)
     output_is_lost taken not_closed n lost (unclosed c at f has) = true≢false (sym taken ∙ ap (λ (x : Coin). x.spent) (same_Some coin c (sym there ∙ at)) ∙ f)
     output_is_lost taken not_closed n lost (by_revoked i k l at s on p) = let e = n i k at on in omega (arith, e, l)
     output_is_lost taken not_closed n lost (by_newest k at on p) = lost k at p
@@ -305,7 +313,6 @@ module _ (hs : List Holding) (blocks : List Block) (h : Holding) (known : Htlc �
     -- no: BalanceIsThere
     own_output_is_lost : coin.spent ≡ true → ((n : ℕ) (k : CommitmentState) → slice_get h.state.signed n ≡ Some k → IsOnChain blocks (transaction_of (contents_of (terms_in h) k)) → ⊥)
         → ((k : CommitmentState) → slice_get h.state.mine h.state.number ≡ Some k → HasOwnShare hs blocks h known k → ⊥) → BalanceIsThere hs blocks h known → ⊥
-    own_output_is_lost taken n lost (absent e) = none_some coin (sym e ∙ there)
     own_output_is_lost taken n lost (unclosed c at f has) = true≢false (sym taken ∙ ap (λ (x : Coin). x.spent) (same_Some coin c (sym there ∙ at)) ∙ f)
     own_output_is_lost taken n lost (by_revoked i k l at s on p) = n i k at on
     own_output_is_lost taken n lost (by_newest k at on p) = n h.state.peer_number k at on

@@ -26,10 +26,10 @@ use Rattle.safety.specs.Whereabouts.{IsOnChain}
 use Rattle.safety.specs.Holdings.{Holding, terms_in, peer_in, KeepsRules}
 use Rattle.safety.specs.Closers.{IsCloser, revoked as is_revoked, newest as is_newest, next as is_next, own as is_own, IsFunded, IsWatched}
 use Rattle.safety.specs.Passing.{IsReady}
-use Rattle.safety.specs.Everybody.{PeersHold, ChannelStands, absent as is_absent, unclosed as is_unclosed, closed as is_closed, broken as is_broken, EachChannelStands}
+use Rattle.safety.specs.Everybody.{PeersHold, ChannelStands, unclosed as is_unclosed, closed as is_closed, broken as is_broken, EachChannelStands}
 use Rattle.safety.proofs.Lists.{none_some}
 use Rattle.safety.proofs.Own.{kept_one}
-use Rattle.balance_laws.specs.Balances.{HasAll, HasShare, HasNewest, BalanceIsThere, absent, unclosed, by_revoked, by_newest, by_next, broken, BalancesAreThere, ClosersMayClose}
+use Rattle.balance_laws.specs.Balances.{HasAll, HasShare, HasNewest, BalanceIsThere, unclosed, by_revoked, by_newest, by_next, broken, BalancesAreThere, ClosersMayClose}
 use Rattle.balance_laws.proofs.Peers.{no_stage, is_peers, counted_apart}
 
 -- ---- which of the peer's commitments it is, by its number
@@ -156,7 +156,6 @@ module _ (order : ThereIsOneOrder) (shares : SharesAreWorth) (all : AllIsTheCapa
       by_closer k (is_own at there) on hold = owned k at there on
 
       by : ChannelStands hs blocks h → BalanceIsThere hs blocks h known
-      by (is_absent e) = absent e
       by (is_unclosed coin at free ready) = unclosed coin at free (has_newest blocks h kept known ready)
       by (is_closed k closer on hold) = by_closer k closer on hold
       by (is_broken z) = broken z

@@ -24,12 +24,12 @@ use Rattle.safety.specs.Signing.{Signed}
 use Rattle.safety.specs.Spending.{ItemCollides}
 use Rattle.safety.specs.Whereabouts.{IsNamedBy, IsCoinOf}
 use Rattle.safety.specs.Holdings.{Holding, terms_in, peer_in}
-use Rattle.safety.specs.Breaks.{IsSpendOn, IsHashOfItem, Breaks, by_strings, by_script, by_key, by_digest, by_preimage}
-use Rattle.safety.specs.Resolutions.{WasReleased, ShowsPreimage, IsOnHtlc}
+use Rattle.safety.specs.Breaks.{IsSpendOn, IsHashOfItem, Breaks, by_ids, by_keys, by_script, by_key, by_digest, by_preimage}
+use Rattle.safety.specs.Resolutions.{WasReleased, Resolution, unspent, ours, lost, broken, ShowsPreimage, IsOnHtlc, IsPaidOrLate, paid, late}
 use Rattle.safety.proofs.Lists.{contains_none}
 use Rattle.safety.proofs.Places.{contains_one}
 use Rattle.balance_laws.specs.OwnBreaks.{IsOwnNewest, IsHashedForHtlcKey, IsOwnPaymentHash, OwnBreaks, by_breaks, by_htlc_keys, by_revocation_key, by_own_preimage}
-use Rattle.balance_laws.specs.Own.{KeepsOwnRules, IsOwnPaidOrLate, paid, late, OwnResolution, unspent, ours, lost, broken}
+use Rattle.balance_laws.specs.Own.{KeepsOwnRules}
 use Rattle.balance_laws.specs.Times.{IsTakenBelow, DelayIsKept, ExpiryIsKept, IsPaid}
 
 -- ---- what is hashed for the newest own commitment
@@ -102,7 +102,8 @@ nothing_spent : (blocks : List Block) (s : Signed) → IsSpendOn [] blocks s →
 nothing_spent blocks s on = contains_none on.lock on.locked
 
 unbroken_peers : (blocks : List Block) → Breaks [] blocks → ⊥
-unbroken_peers blocks (by_strings c) = contains_none c.of_first.holding c.of_first.held
+unbroken_peers blocks (by_ids c) = contains_none c.of_first.holding c.of_first.held
+unbroken_peers blocks (by_keys c) = contains_none c.of_first.holding c.of_first.held
 unbroken_peers blocks (by_script s on c) = nothing_spent blocks s on
 unbroken_peers blocks (by_key s on key k c) = nothing_spent blocks s on
 unbroken_peers blocks (by_digest s on a) = nothing_spent blocks s on
@@ -158,13 +159,13 @@ module _ (c : Contents) (o : Claimable) (coin : Coin) (input : TxIn) (x : HtlcOu
   at_expiry y e = ap (λ (z : HtlcOutput). z.htlc.expiry_height) e ∙ expiry
 
   module _ (offered : x.direction ≡ Offered) where
-    -- yes: IsOwnPaidOrLate
-    shown : (height : ℕ) → ShowsPreimage input.witness x.htlc.hash → IsOwnPaidOrLate c o coin height input
+    -- yes: IsPaidOrLate
+    shown : (height : ℕ) → ShowsPreimage input.witness x.htlc.hash → IsPaidOrLate true c o coin height input
     shown height s = paid x on offered s
 
     -- with no preimage, however late
-    -- no: IsOwnPaidOrLate
-    not_shown : (height : ℕ) → (ShowsPreimage input.witness x.htlc.hash → ⊥) → IsOwnPaidOrLate c o coin height input → ⊥
+    -- no: IsPaidOrLate
+    not_shown : (height : ℕ) → (ShowsPreimage input.witness x.htlc.hash → ⊥) → IsPaidOrLate true c o coin height input → ⊥
     not_shown height n (paid y i d s) = n (subst (λ (z : HtlcOutput). ShowsPreimage input.witness z.htlc.hash) (alone y i) s)
     not_shown height n (late y i d l) = other_direction (sym d ∙ ap (λ (z : HtlcOutput). z.direction) (alone y i) ∙ offered)
       where
@@ -180,13 +181,13 @@ module _ (c : Contents) (o : Claimable) (coin : Coin) (input : TxIn) (x : HtlcOu
     not_paid n p = n (subst (λ (z : HtlcOutput). ShowsPreimage input.witness z.htlc.hash) (alone p.htlc p.on) p.shows)
 
   module _ (received : x.direction ≡ Received) where
-    -- yes: IsOwnPaidOrLate
-    above_expiry : IsOwnPaidOrLate c o coin 501 input
+    -- yes: IsPaidOrLate
+    above_expiry : IsPaidOrLate true c o coin 501 input
     above_expiry = late x on received (let e = expiry in omega (arith, e))
 
     -- whatever is shown
-    -- no: IsOwnPaidOrLate
-    at_its_expiry : IsOwnPaidOrLate c o coin 500 input → ⊥
+    -- no: IsPaidOrLate
+    at_its_expiry : IsPaidOrLate true c o coin 500 input → ⊥
     at_its_expiry (paid y i d s) = other_direction (sym d ∙ ap (λ (z : HtlcOutput). z.direction) (alone y i) ∙ received)
       where
         other_direction : Offered ≡ Received → ⊥
@@ -229,22 +230,22 @@ module _ (blocks : List Block) (c : Contents) (o : Claimable) (form : o.form ≡
   taken_at_seven t input n k = let l = k coin is form 7 t input n in omega (arith, l, two, five)
 
 module _ (hs : List Holding) (blocks : List Block) (Lost : Coin → ℕ → TxIn → Type 0) (o : Claimable) where
-  -- yes: OwnResolution
-  still_there : (coin : Coin) → IsCoinOf blocks o coin → coin.spent ≡ false → OwnResolution hs blocks Lost o
+  -- yes: Resolution
+  still_there : (coin : Coin) → IsCoinOf blocks o coin → coin.spent ≡ false → Resolution OwnBreaks hs blocks Lost o
   still_there coin is free = unspent coin is free
 
-  -- yes: OwnResolution
-  taken_by_a_release : (height : ℕ) (t : Transaction) (input : TxIn) → IsNamedBy blocks o height t input → WasReleased hs t → OwnResolution hs blocks Lost o
+  -- yes: Resolution
+  taken_by_a_release : (height : ℕ) (t : Transaction) (input : TxIn) → IsNamedBy blocks o height t input → WasReleased hs t → Resolution OwnBreaks hs blocks Lost o
   taken_by_a_release height t input n r = ours height t input n r
 
-  -- yes: OwnResolution
-  taken_by_another : (coin : Coin) → IsCoinOf blocks o coin → (height : ℕ) (t : Transaction) (input : TxIn) → IsNamedBy blocks o height t input → Lost coin height input → OwnResolution hs blocks Lost o
+  -- yes: Resolution
+  taken_by_another : (coin : Coin) → IsCoinOf blocks o coin → (height : ℕ) (t : Transaction) (input : TxIn) → IsNamedBy blocks o height t input → Lost coin height input → Resolution OwnBreaks hs blocks Lost o
   taken_by_another coin is height t input n l = lost coin is height t input n l
 
 -- a node that released nothing: whoever took the output is a thief, unless `Lost` holds of the input
 module _ (blocks : List Block) (Lost : Coin → ℕ → TxIn → Type 0) (o : Claimable) (coin : Coin) (there : coin_at blocks o.place.outpoint ≡ Some coin) (taken : coin.spent ≡ true) where
-  -- no: OwnResolution
-  stolen : ((found : Coin) (height : ℕ) (t : Transaction) (input : TxIn) → IsNamedBy blocks o height t input → Lost found height input → ⊥) → OwnResolution [] blocks Lost o → ⊥
+  -- no: Resolution
+  stolen : ((found : Coin) (height : ℕ) (t : Transaction) (input : TxIn) → IsNamedBy blocks o height t input → Lost found height input → ⊥) → Resolution OwnBreaks [] blocks Lost o → ⊥
   stolen never (unspent found is free) = true≢false (sym taken ∙ ap (λ (x : Coin). x.spent) (same_Some coin found (sym there ∙ is.there)) ∙ free)
   stolen never (ours height t input n r) = contains_none r.holding r.held
   stolen never (lost found is height t input n l) = never found height t input n l

@@ -9,14 +9,11 @@ use Rattle.std.proofs.lemmas.Option.{same_Some}
 use Rattle.std.proofs.lemmas.Slice.Eq.{bytes_eq-Decides}
 use Rattle.digest.specs.Hash.{sha256d}
 use Rattle.script.specs.Spelling.{spelling}
-use Rattle.script.specs.Run.{Clean}
 use Rattle.tx.specs.declared.input.TxIn.{TxIn}
 use Rattle.tx.specs.declared.limits.TheConstants.{MAX_VALUE}
-use Rattle.tx.specs.Parts.{Output}
 use Rattle.tx.specs.Fields.{Transaction}
 use Rattle.tx.specs.Spelling.{stripped_spelling, transaction_id}
 use Rattle.tx.proofs.Witnesses.{same_id}
-use Rattle.sighash.specs.Programs.{run_of}
 use Rattle.chain.specs.Blocks.{Contents as Block, Coin}
 use Rattle.terms.specs.declared.agreement.Terms.{Terms}
 use Rattle.terms.specs.Scripts.{to_local}
@@ -38,7 +35,6 @@ use Rattle.safety.specs.Recorded.{IsPayable, of_htlc}
 use Rattle.safety.specs.Places.{place_at, IsAt, IsHtlcAt}
 use Rattle.safety.specs.Holdings.{Holding, terms_in}
 use Rattle.safety.specs.Premises.{output_lock, locks_of, outputs_in, outputs_by, none_revokes}
-use Rattle.safety.specs.Ledgers.{keeps_locks}
 use Rattle.safety.specs.Closers.{IsWatched}
 use Rattle.safety.proofs.Slots.{contains_first, contains_later}
 use Rattle.safety.proofs.Lists.{none_some, contained, contains_map, any_found, at_reversed}
@@ -56,7 +52,8 @@ use Rattle.safety.proofs.Whereabouts.{commitment_pays, second_pays}
 use Rattle.safety.proofs.Recorded.{limited, recorded_limits}
 use Rattle.safety.proofs.Places.{Rule}
 use Rattle.safety.proofs.Handed.{own_payable}
-use Rattle.safety.proofs.Own.{kept_one, made_locked, Names, ledger_says}
+use Rattle.safety.proofs.Own.{kept_one, made_locked, Names}
+use Rattle.safety.proofs.Reading.{IsRead, read}
 use Rattle.balance_laws.specs.Own.{KeepsOwnRules}
 
 -- ---- what the lemmas are given
@@ -177,29 +174,15 @@ settled blocks P o coin is free named = by coin.spent refl
         let n = naming blocks o.place.outpoint (sym (spent_is blocks o.place.outpoint coin is.there) ∙ e) in
         named n.height n.transaction n.input (record { stands = n.stands; within = n.within; names = n.named })
 
--- what the input is known to have done
-pub record Ran (blocks : List Block) (o : Claimable) (coin : Coin) (height : ℕ) (t : Transaction) (input : TxIn) : Type 0 where
-  pub counted : ℕ
-  pub tallest : ℕ
-  pub clean : run_of t input (output_at o.place) ≡ Some (Clean counted tallest)
-  pub locks : keeps_locks height t input coin.height ≡ true
-
 pub names : (hs : List Holding) (blocks : List Block) (o : Claimable) → Contains (outputs_by hs) (output_lock o) → (coin : Coin) → IsCoinOf blocks o coin
     → (height : ℕ) (t : Transaction) (input : TxIn) → IsNamedBy blocks o height t input → Names hs blocks (output_lock o) height t input
 names hs blocks o lock coin is height t input n =
     record { locked = made_locked hs (output_lock o) lock; coin = coin; there = record { there = is.there; output = is.output }; stands = n.stands; within = n.within; names = n.names }
 
 pub ran : (hs : List Holding) (blocks : List Block) (s : OwnClose hs blocks) (o : Claimable) → Contains (outputs_by hs) (output_lock o) → (coin : Coin) → IsCoinOf blocks o coin
-    → (height : ℕ) (t : Transaction) (input : TxIn) → IsNamedBy blocks o height t input → Ran blocks o coin height t input
+    → (height : ℕ) (t : Transaction) (input : TxIn) → IsNamedBy blocks o height t input → IsRead hs (output_lock o) height t input coin.height
 unfolding names
-ran hs blocks s o lock coin is height t input n =
-    let spends = (ledger_says hs blocks s.watched.ledger (output_lock o) height t input (names hs blocks o lock coin is height t input n)).1 in
-    record {
-      counted = spends.counted;
-      tallest = spends.tallest;
-      clean = subst (λ (x : Output). run_of t input x ≡ Some (Clean spends.counted spends.tallest)) is.output spends.clean;
-      locks = spends.locks;
-    }
+ran hs blocks s o lock coin is height t input n = read hs blocks s.watched.ledger (output_lock o) height t input (names hs blocks o lock coin is height t input n)
 
 -- ---- which HTLC transactions stand
 

@@ -12,7 +12,7 @@ use Rattle.script.specs.Spelling.{spelling}
 use Rattle.script.specs.Run.{Clean}
 use Rattle.tx.specs.declared.input.TxIn.{TxIn}
 use Rattle.tx.specs.declared.limits.TheConstants.{MAX_VALUE}
-use Rattle.tx.specs.Fields.{Transaction}
+use Rattle.tx.specs.Fields.{Transaction, signed_input}
 use Rattle.sighash.specs.Programs.{run_of, script_hash_program}
 use Rattle.forms.proofs.Forms.{key_length}
 use Rattle.chain.specs.Blocks.{Contents as Block, Coin}
@@ -39,9 +39,8 @@ use Rattle.safety.specs.Whereabouts.{IsNamedBy, IsCoinOf}
 use Rattle.safety.specs.Places.{place_at, IsAt, IsHtlcAt}
 use Rattle.safety.specs.Holdings.{Holding, terms_in}
 use Rattle.safety.specs.Premises.{output_lock, outputs_by, spend}
-use Rattle.safety.specs.Ledgers.{keeps_locks}
 use Rattle.safety.specs.Breaks.{IsSpendOn, by_script}
-use Rattle.safety.specs.Resolutions.{IsOnHtlc}
+use Rattle.safety.specs.Resolutions.{Resolution, unspent, ours, lost, broken, IsOnHtlc, IsPaidOrLate, paid, late}
 use Rattle.safety.proofs.Slots.{contains_first}
 use Rattle.safety.proofs.Limits.{htlc_short}
 use Rattle.safety.proofs.Seconds.{standing}
@@ -49,16 +48,17 @@ use Rattle.safety.proofs.Recorded.{limited_htlc}
 use Rattle.safety.proofs.Takers.{short}
 use Rattle.safety.proofs.Handed.{peers_payable, keys_good}
 use Rattle.safety.proofs.Own.{kept_one, Names, spend_on_chain}
+use Rattle.safety.proofs.Reading.{IsRead, read_key, read_preimage}
+use Rattle.safety.proofs.Opening.{OpensLocal, by_revoked, by_delayed, by_local_script, opens_local}
 use Rattle.safety.proofs.Closing.{first_byte, no_funding, htlc_no_funding}
 use Rattle.balance_laws.specs.OwnBreaks.{OwnBreaks, by_breaks, by_revocation_key, by_own_preimage}
-use Rattle.balance_laws.specs.Own.{IsOwnPaidOrLate, paid, late, OwnResolution, unspent, ours, lost, broken}
-use Rattle.balance_laws.proofs.OwnScripts.{OpensLocal, by_revocation, by_delayed, by_script as by_local_script, opens_local, OpensOwn, by_revocation_key as opens_by_revocation, by_own_key, by_preimage, by_expiry, by_htlc_script, by_other_key, opens_own, past_expiry, same_remote}
+use Rattle.balance_laws.proofs.OwnScripts.{OpensOwn, by_revocation_key as opens_by_revocation, by_own_key, by_preimage, by_expiry, by_htlc_script, by_other_key, opens_own, past_expiry, same_remote}
 use Rattle.balance_laws.proofs.OwnOutputs.{OwnClose, contents, payable, stood, kind_made, htlc_made, second_made, first_coin, second_coin, settled, names, ran, standing_there, local_short, htlc_low}
 use Rattle.balance_laws.proofs.OwnTokens.{not_revoked, IsOwnersInput, by_release, by_peers_htlc, by_break, owners_input, one_key}
 
 -- what became of a claim on a commitment
 abbrev pub IsResolved : (hs : List Holding) (blocks : List Block) → Contents → Claimable → Type 0
-IsResolved hs blocks c o = OwnResolution hs blocks (IsOwnPaidOrLate c o) o
+IsResolved hs blocks c o = Resolution OwnBreaks hs blocks (IsPaidOrLate true c o) o
 
 -- ---- an output in to_local's form
 
@@ -93,22 +93,22 @@ in_local hs blocks s place lock low program coin is =
     by_token height t input n (by_peers_htlc g also j m at x i k code) = absurd (no_htlc (contents s) place (contents_of (terms_in g) m).keys x.direction x.htlc code)
     by_token height t input n (by_break z) = broken (by_breaks z)
 
-    by_way : (height : ℕ) (t : Transaction) (input : TxIn) → IsNamedBy blocks (delayed_on (contents s) place) height t input → OpensLocal (contents s) place t input
-        → IsResolved hs blocks (contents s) (delayed_on (contents s) place)
-    by_way height t input n (by_revocation signed) = absurd (not_revoked hs blocks s (output_lock (delayed_on (contents s) place)) height t input (named height t input n) signed)
-    by_way height t input n (by_delayed signed) =
+    by_way : (height : ℕ) (t : Transaction) (input : TxIn) → IsNamedBy blocks (delayed_on (contents s) place) height t input → (r : IsRead hs (output_lock (delayed_on (contents s) place)) height t input coin.height)
+        → OpensLocal (contents s) place.value t (signed_input input r.items) → IsResolved hs blocks (contents s) (delayed_on (contents s) place)
+    by_way height t input n r (by_revoked signed) = absurd (not_revoked hs blocks s (output_lock (delayed_on (contents s) place)) height t input (named height t input n) coin.height r signed)
+    by_way height t input n r (by_delayed signed waits) =
         by_token height t input n
         (owners_input hs blocks s (output_lock (delayed_on (contents s) place)) height t input (named height t input n) (λ terms e. no_funding (spelling (delayed_on (contents s) place).form.ops) 0x63 refl (inl refl) terms e)
         (local_short (contents s) (keys_good (terms_in s.holding) s.commitment) (short (terms_in s.holding) s.commitment)) (omega (arith, low)) (contents s).keys.delayed (delayed_long (terms_in s.holding) s.commitment)
-        (0, omega arith, refl) signed)
-    by_way height t input n (by_local_script z) =
-        broken (by_breaks (by_script (spend_on (delayed_on (contents s) place) t input) (spend_on_chain hs blocks (output_lock (delayed_on (contents s) place)) height t input (named height t input n)) z))
+        (0, omega arith, refl) coin.height r signed)
+    by_way height t input n r (by_local_script z) =
+        broken (by_breaks (by_script (spend_on (delayed_on (contents s) place) t input) (spend_on_chain hs blocks (output_lock (delayed_on (contents s) place)) height t input (named height t input n)) (r.script _ z)))
 
     by_name : (height : ℕ) (t : Transaction) (input : TxIn) → IsNamedBy blocks (delayed_on (contents s) place) height t input → IsResolved hs blocks (contents s) (delayed_on (contents s) place)
     by_name height t input n =
         let r = ran hs blocks s (delayed_on (contents s) place) lock coin is height t input n in
         let good = keys_good (terms_in s.holding) s.commitment in
-        by_way height t input n (opens_local (contents s) place (short (terms_in s.holding) s.commitment) good.revocation good.delayed program t input r.counted r.tallest r.clean)
+        by_way height t input n r (opens_local (contents s) place (short (terms_in s.holding) s.commitment) good.revocation good.delayed program t (signed_input input r.items) r.counted r.tallest r.clean)
 
 -- to_local
 pub resolved_local : (hs : List Holding) (blocks : List Block) (s : OwnClose hs blocks) (index : ℕ) (output : CommitmentOutput) → IsAt (contents s) index output ToLocal
@@ -192,23 +192,26 @@ in_htlc hs blocks s x output a coin is = settled blocks (Resolved hs blocks (con
           collide = (λ d. false≢true (sym e ∙ (bytes_eq-Decides (sha256 p.preimage) x.htlc.hash).1 d), p.hashed);
         }))
 
-    by_way : (height : ℕ) (t : Transaction) (input : TxIn) → IsNamedBy blocks (claim_of (contents s) x output) height t input → keeps_locks height t input coin.height ≡ true
-        → OpensOwn (contents s) x.direction x.htlc output.value t input → Resolved hs blocks (contents s) x output
-    by_way height t input n locks (opens_by_revocation signed) = absurd (not_revoked hs blocks s (output_lock (claim_of (contents s) x output)) height t input (named height t input n) signed)
-    by_way height t input n locks (by_own_key signed) =
+    by_way : (height : ℕ) (t : Transaction) (input : TxIn) → IsNamedBy blocks (claim_of (contents s) x output) height t input → (r : IsRead hs (output_lock (claim_of (contents s) x output)) height t input coin.height)
+        → OpensOwn (contents s) x.direction x.htlc output.value t (signed_input input r.items) → Resolved hs blocks (contents s) x output
+    by_way height t input n r (opens_by_revocation signed) = absurd (not_revoked hs blocks s (output_lock (claim_of (contents s) x output)) height t input (named height t input n) coin.height r signed)
+    by_way height t input n r (by_own_key signed) =
         let value = htlc_low hs blocks s x output a in
         let height_low : x.htlc.expiry_height < 2 ^ 32 = let l = low in omega (arith, l) in
         by_token height t input n
         (owners_input hs blocks s (output_lock (claim_of (contents s) x output)) height t input (named height t input n) (λ terms e. htlc_no_funding (contents s).keys x.direction x.htlc terms e)
         (htlc_short (contents s) x.direction x.htlc (keys_good (terms_in s.holding) s.commitment) height_low) (omega (arith, value)) (contents s).keys.local_htlc (htlc_long (terms_in s.holding) s.commitment)
-        (1, omega arith, refl) signed)
-    by_way height t input n locks (by_preimage d p) = by_shown height t input n d p (bytes_eq (sha256 p.preimage) x.htlc.hash) refl
-    by_way height t input n locks (by_expiry d lock) =
+        (1, omega arith, refl) coin.height r signed)
+    by_way height t input n r (by_preimage d p) =
+        let q = read_preimage hs (output_lock (claim_of (contents s) x output)) height t input coin.height r (ripemd160 x.htlc.hash) p in
+        by_shown height t input n d q (bytes_eq (sha256 q.preimage) x.htlc.hash) refl
+    by_way height t input n r (by_expiry d lock) =
         lost coin is height t input n
-        (late x output_of d (past_expiry height t input coin.height (spelling (htlc_form (contents s).keys x.direction x.htlc).ops) output.value x.htlc.expiry_height low n.within lock locks))
-    by_way height t input n locks (by_htlc_script z) = broken (by_breaks (by_script (spend_on (claim_of (contents s) x output) t input) (on_chain height t input n) z))
-    by_way height t input n locks (by_other_key z) =
-        broken (by_revocation_key (spend_on (claim_of (contents s) x output) t input) (on_chain height t input n) s.holding s.commitment (record { held = s.held; recorded = s.there }) z)
+        (late x output_of d (past_expiry height t input r.items coin.height (spelling (htlc_form (contents s).keys x.direction x.htlc).ops) output.value x.htlc.expiry_height low n.within lock r.locks))
+    by_way height t input n r (by_htlc_script z) = broken (by_breaks (by_script (spend_on (claim_of (contents s) x output) t input) (on_chain height t input n) (r.script _ z)))
+    by_way height t input n r (by_other_key z) =
+        broken (by_revocation_key (spend_on (claim_of (contents s) x output) t input) (on_chain height t input n) s.holding s.commitment (record { held = s.held; recorded = s.there })
+        (read_key hs (output_lock (claim_of (contents s) x output)) height t input coin.height r (contents s).keys.revocation z))
 
     by_name : (height : ℕ) (t : Transaction) (input : TxIn) → IsNamedBy blocks (claim_of (contents s) x output) height t input → Resolved hs blocks (contents s) x output
     by_name height t input n =
@@ -218,9 +221,9 @@ in_htlc hs blocks s x output a coin is = settled blocks (Resolved hs blocks (con
         let r = ran hs blocks s (claim_of c x output) lock coin is height t input n in
         let program : output.program ≡ script_hash_program (htlc_script c.keys x.direction x.htlc) = st.program ∙ ap (program_of c.delay_blocks c.keys) a.at.kind in
         let height_low : x.htlc.expiry_height < 2 ^ 32 = let l = low in omega (arith, l) in
-        by_way height t input n r.locks
-        (opens_own c x.direction x.htlc good.local_htlc good.remote_htlc height_low output.value t input r.counted r.tallest
-        (subst (λ (q : List ℕ). run_of t input (record { value = output.value; script = q }) ≡ Some (Clean r.counted r.tallest)) program r.clean))
+        by_way height t input n r
+        (opens_own c x.direction x.htlc good.local_htlc good.remote_htlc height_low output.value t (signed_input input r.items) r.counted r.tallest
+        (subst (λ (q : List ℕ). run_of t (signed_input input r.items) (record { value = output.value; script = q }) ≡ Some (Clean r.counted r.tallest)) program r.clean))
 
 -- at either stage
 pub resolved_htlc : (hs : List Holding) (blocks : List Block) (s : OwnClose hs blocks) (x : HtlcOutput) (output : CommitmentOutput) → IsHtlcAt (contents s) x output → (b : Bool) → standing blocks (contents s) x.index ≡ b

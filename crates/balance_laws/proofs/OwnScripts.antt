@@ -1,11 +1,10 @@
--- Who takes the outputs of the node's own commitment, and of its HTLC transactions, by their scripts.
+-- Who takes the outputs of the HTLCs of the node's own commitment, by their scripts.
 use Rattle.std.proofs.Common.{◌≡◌, ℕ, ◌%◌, ◌+◌, ◌^◌, ◌<◌, Bool, true, false, List, [], ◌∷◌, length, Option, Some, sym, ap, ◌∙◌, refl, subst, inl, inr, ⊎_elim, arith}
 use Rattle.std.specs.Prelude.{not, ◌&&◌, ◌||◌, ◌==◌, nat_lt, nat_le, slice_get}
 use Rattle.std.specs.List.{Contains, list_all}
 use Rattle.std.specs.Str.{bytes_eq}
 use Rattle.std.proofs.lemmas.Bool.{false≢true, and_parts, lt-leb, lt-ltb, ltb-true, leb-true}
 use Rattle.std.proofs.lemmas.Slice.Eq.{bytes_eq-Decides}
-use Rattle.sha2.specs.Sha256.{sha256}
 use Rattle.digest.specs.Hash.{hash160}
 use Rattle.digest.specs.Ripemd160.{ripemd160}
 use Rattle.digest.proofs.OutsideVectors.{length-ripemd160}
@@ -17,59 +16,26 @@ use Rattle.script.specs.Token.{token_of, is_key}
 use Rattle.script.specs.Step.{bit_at, alike, lock_passes}
 use Rattle.script.specs.Run.{Clean}
 use Rattle.tx.specs.declared.input.TxIn.{TxIn}
-use Rattle.tx.specs.Fields.{Transaction}
+use Rattle.tx.specs.Fields.{Transaction, signed_input}
 use Rattle.sighash.specs.Programs.{run_of, script_ops, spend_of, script_hash_program}
 use Rattle.terms.specs.declared.htlcs.Htlc.{Htlc}
-use Rattle.terms.specs.Scripts.{to_local}
-use Rattle.claim.specs.declared.parts.Place.{Place}
-use Rattle.claim.specs.Fitting.{output_at}
 use Rattle.commit.specs.declared.fees.Direction.{Direction}
 use Rattle.commit.specs.declared.fees.Direction.TheVariants.{Offered, Received}
 use Rattle.commit.specs.Keys.{KeyBytes}
-use Rattle.commit.specs.Outputs.{to_local_script, htlc_script}
+use Rattle.commit.specs.Outputs.{htlc_script}
 use Rattle.commit.specs.Commitments.{Contents}
 use Rattle.penalty.specs.Claimable.{htlc_form}
 use Rattle.penalty.proofs.Programs.{same_htlc}
-use Rattle.resolve.specs.Due.{delayed_on}
 use Rattle.safety.specs.Signing.{digest_of}
-use Rattle.safety.specs.Satisfying.{HasKeyOf, HasPreimage, SatisfiesToLocal, SatisfiesOffered, SatisfiesReceived}
-use Rattle.safety.specs.Spending.{spend_on, IsSignedBy, ItemCollides}
+use Rattle.safety.specs.Satisfying.{HasKeyOf, HasPreimage, SatisfiesOffered, SatisfiesReceived}
+use Rattle.safety.specs.Spending.{IsSignedBy}
 use Rattle.safety.specs.Ledgers.{keeps_locks}
 use Rattle.safety.proofs.Slots.{contains_cases, same_bytes}
 use Rattle.safety.proofs.Lists.{some_is, contains_none}
-use Rattle.safety.proofs.Satisfied.{to_local_satisfied, offered_satisfied, received_satisfied}
-use Rattle.safety.proofs.Spelt.{to_local_ops, offered_ops, received_ops}
-use Rattle.safety.proofs.Ran.{Ran, ran_script}
+use Rattle.safety.proofs.Satisfied.{offered_satisfied, received_satisfied}
+use Rattle.safety.proofs.Spelt.{offered_ops, received_ops}
+use Rattle.safety.proofs.Ran.{LastCollides, KeyCollides, Ran, ran_last}
 use Rattle.safety.proofs.Opening.{on_htlc}
-
--- ---- to_local, and the output of an HTLC transaction
-
-abbrev local_ops : Contents → List Op
-local_ops c = to_local c.keys.revocation c.delay_blocks c.keys.delayed
-
--- what takes it has a token of the revocation key, or of the delayed key; or it shows other bytes with the hash of the script
-pub data OpensLocal (c : Contents) (place : Place) (t : Transaction) (input : TxIn) : Type 0 where
-  by_revocation : IsSignedBy c.keys.revocation (spend_on (delayed_on c place) t input) → OpensLocal c place t input
-  by_delayed : IsSignedBy c.keys.delayed (spend_on (delayed_on c place) t input) → OpensLocal c place t input
-  by_script : ItemCollides sha256 (spelling (to_local c.keys.revocation c.delay_blocks c.keys.delayed)) input.witness → OpensLocal c place t input
-
-same_to_local : (c : Contents) → script_hash_program (to_local_script c.delay_blocks c.keys) ≡ script_hash_program (spelling (local_ops c))
-unfolding to_local_script
-same_to_local c = refl
-
-pub opens_local : (c : Contents) (place : Place) → c.delay_blocks < 2 ^ 16 → is_key c.keys.revocation ≡ true → is_key c.keys.delayed ≡ true → place.program ≡ script_hash_program (to_local_script c.delay_blocks c.keys)
-    → (t : Transaction) (input : TxIn) (counted tallest : ℕ) → run_of t input (output_at place) ≡ Some (Clean counted tallest) → OpensLocal c place t input
-opens_local c place l k d e t input counted tallest run =
-    ⊎_elim {C = OpensLocal c place t input} (λ (w : ItemCollides sha256 (spelling (local_ops c)) input.witness). by_script w)
-    (λ (r : Ran t input (spelling (local_ops c)) place.value (local_ops c) counted tallest).
-    opened r.items r.among (to_local_satisfied c.keys.revocation c.delay_blocks c.keys.delayed l k d (spend_of t input (spelling (local_ops c)) place.value) r.items counted tallest r.clean))
-    (ran_script t input (spelling (local_ops c)) place.value (local_ops c) counted tallest (to_local_ops c.keys.revocation c.delay_blocks c.keys.delayed l k d)
-    (subst (λ (p : List ℕ). run_of t input (record { value = place.value; script = p }) ≡ Some (Clean counted tallest)) (e ∙ same_to_local c) run))
-  where
-    opened : (items : List (List ℕ)) → ((x : List ℕ) → Contains items x → Contains input.witness x)
-        → SatisfiesToLocal c.keys.revocation c.delay_blocks c.keys.delayed (spend_of t input (spelling (local_ops c)) place.value) items → OpensLocal c place t input
-    opened items among (inl a) = by_revocation (among _ a)
-    opened items among (inr b) = by_delayed (among _ b.0)
 
 -- ---- the output of an HTLC
 
@@ -80,8 +46,8 @@ pub data OpensOwn (c : Contents) (direction : Direction) (h : Htlc) (value : ℕ
   by_own_key : IsSignedBy c.keys.local_htlc (on_htlc c direction h value t input) → OpensOwn c direction h value t input
   by_preimage : direction ≡ Offered → HasPreimage input.witness (ripemd160 h.hash) → OpensOwn c direction h value t input
   by_expiry : direction ≡ Received → lock_passes (spend_of t input (spelling (htlc_form c.keys direction h).ops) value) h.expiry_height ≡ true → OpensOwn c direction h value t input
-  by_htlc_script : ItemCollides sha256 (spelling (htlc_form c.keys direction h).ops) input.witness → OpensOwn c direction h value t input
-  by_other_key : ItemCollides hash160 c.keys.revocation input.witness → OpensOwn c direction h value t input
+  by_htlc_script : LastCollides (spelling (htlc_form c.keys direction h).ops) input.witness → OpensOwn c direction h value t input
+  by_other_key : KeyCollides c.keys.revocation input.witness → OpensOwn c direction h value t input
 
 -- a key of the revocation key's hash, and its token
 by_hash : (c : Contents) (direction : Direction) (h : Htlc) (value : ℕ) (t : Transaction) (input : TxIn) (items : List (List ℕ)) → ((x : List ℕ) → Contains items x → Contains input.witness x)
@@ -93,18 +59,18 @@ by_hash c direction h value t input items among k = by (bytes_eq k.key c.keys.re
         let i = same_bytes k.key c.keys.revocation e in
         by_revocation_key (among _ (subst (λ (x : List ℕ). Contains items (token_of x (digest_of (on_htlc c direction h value t input)))) i k.token))
     by false e =
-        by_other_key (record { first = k.key; second = c.keys.revocation; of_first = among k.key k.given; of_second = refl; collide = (λ d. false≢true (sym e ∙ (bytes_eq-Decides k.key c.keys.revocation).1 d), k.hashed) })
+        by_other_key (record { item = k.key; given = among k.key k.given; form = k.form; collide = (λ d. false≢true (sym e ∙ (bytes_eq-Decides k.key c.keys.revocation).1 d), k.hashed) })
 
 opens_offered : (c : Contents) (h : Htlc) → is_key c.keys.local_htlc ≡ true → is_key c.keys.remote_htlc ≡ true → (value : ℕ) (t : Transaction) (input : TxIn) (counted tallest : ℕ)
     → run_of t input (record { value = value; script = script_hash_program (spelling (htlc_form c.keys Offered h).ops) }) ≡ Some (Clean counted tallest) → OpensOwn c Offered h value t input
 opens_offered c h k l value t input counted tallest run =
     let r : length (hash160 c.keys.revocation) ≡ 20 = length-ripemd160 _ in
     let p : length (ripemd160 h.hash) ≡ 20 = length-ripemd160 _ in
-    ⊎_elim {C = OpensOwn c Offered h value t input} (λ (w : ItemCollides sha256 (spelling (htlc_form c.keys Offered h).ops) input.witness). by_htlc_script w)
+    ⊎_elim {C = OpensOwn c Offered h value t input} (λ (w : LastCollides (spelling (htlc_form c.keys Offered h).ops) input.witness). by_htlc_script w)
     (λ (x : Ran t input (spelling (htlc_form c.keys Offered h).ops) value (htlc_form c.keys Offered h).ops counted tallest).
     opened x.items x.among
     (offered_satisfied (hash160 c.keys.revocation) c.keys.remote_htlc c.keys.local_htlc (ripemd160 h.hash) r p l k (spend_of t input (spelling (htlc_form c.keys Offered h).ops) value) x.items counted tallest x.clean))
-    (ran_script t input (spelling (htlc_form c.keys Offered h).ops) value (htlc_form c.keys Offered h).ops counted tallest
+    (ran_last t input (spelling (htlc_form c.keys Offered h).ops) value (htlc_form c.keys Offered h).ops counted tallest
     (offered_ops (hash160 c.keys.revocation) c.keys.remote_htlc c.keys.local_htlc (ripemd160 h.hash) r p l k) run)
   where
     opened : (items : List (List ℕ)) → ((x : List ℕ) → Contains items x → Contains input.witness x)
@@ -119,12 +85,12 @@ opens_received : (c : Contents) (h : Htlc) → is_key c.keys.local_htlc ≡ true
 opens_received c h k l low value t input counted tallest run =
     let r : length (hash160 c.keys.revocation) ≡ 20 = length-ripemd160 _ in
     let p : length (ripemd160 h.hash) ≡ 20 = length-ripemd160 _ in
-    ⊎_elim {C = OpensOwn c Received h value t input} (λ (w : ItemCollides sha256 (spelling (htlc_form c.keys Received h).ops) input.witness). by_htlc_script w)
+    ⊎_elim {C = OpensOwn c Received h value t input} (λ (w : LastCollides (spelling (htlc_form c.keys Received h).ops) input.witness). by_htlc_script w)
     (λ (x : Ran t input (spelling (htlc_form c.keys Received h).ops) value (htlc_form c.keys Received h).ops counted tallest).
     opened x.items x.among
     (received_satisfied (hash160 c.keys.revocation) c.keys.remote_htlc c.keys.local_htlc (ripemd160 h.hash) h.expiry_height low r p l k (spend_of t input (spelling (htlc_form c.keys Received h).ops) value) x.items counted tallest
     x.clean))
-    (ran_script t input (spelling (htlc_form c.keys Received h).ops) value (htlc_form c.keys Received h).ops counted tallest
+    (ran_last t input (spelling (htlc_form c.keys Received h).ops) value (htlc_form c.keys Received h).ops counted tallest
     (received_ops (hash160 c.keys.revocation) c.keys.remote_htlc c.keys.local_htlc (ripemd160 h.hash) h.expiry_height low r p l k) run)
   where
     opened : (items : List (List ℕ)) → ((x : List ℕ) → Contains items x → Contains input.witness x)
@@ -193,10 +159,10 @@ lock_kept height lock last l f e = ltb-true lock height (by (nat_le LOCKTIME_THR
     by false false true h i e = absurd (false≢true (sym i))
     by false false false h i e = absurd (false≢true e)
 
-pub past_expiry : (height : ℕ) (t : Transaction) (input : TxIn) (since : ℕ) (script : List ℕ) (value expiry_height : ℕ) → expiry_height < LOCKTIME_THRESHOLD → Contains t.inputs input
-    → lock_passes (spend_of t input script value) expiry_height ≡ true → keeps_locks height t input since ≡ true → expiry_height < height
-past_expiry height t input since script value expiry_height l i e locks =
-    let k = locked t input script value expiry_height (lt-ltb expiry_height LOCKTIME_THRESHOLD l) e in
+pub past_expiry : (height : ℕ) (t : Transaction) (input : TxIn) (items : List (List ℕ)) (since : ℕ) (script : List ℕ) (value expiry_height : ℕ) → expiry_height < LOCKTIME_THRESHOLD → Contains t.inputs input
+    → lock_passes (spend_of t (signed_input input items) script value) expiry_height ≡ true → keeps_locks height t input since ≡ true → expiry_height < height
+past_expiry height t input items since script value expiry_height l i e locks =
+    let k = locked t (signed_input input items) script value expiry_height (lt-ltb expiry_height LOCKTIME_THRESHOLD l) e in
     let parts = and_parts (nat_le LOCKTIME_THRESHOLD t.lock_time || nat_lt t.lock_time height || list_all is_last t.inputs)
     (nat_lt t.version 2 || bit_at 31 input.sequence || bit_at 22 input.sequence || nat_le (since + input.sequence % 2 ^ 16) height) locks in
     let above = leb-true expiry_height t.lock_time k.above in

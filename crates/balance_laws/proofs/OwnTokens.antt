@@ -7,7 +7,7 @@ use Rattle.std.proofs.lemmas.List.Elements.{Contains-append_right}
 use Rattle.sha2.specs.Sha256.{sha256}
 use Rattle.script.specs.Token.{token_of}
 use Rattle.tx.specs.declared.input.TxIn.{TxIn}
-use Rattle.tx.specs.Fields.{Transaction}
+use Rattle.tx.specs.Fields.{Transaction, signed_input}
 use Rattle.keys.specs.Derivation.{derived_key, revocation_key}
 use Rattle.chain.specs.Blocks.{Contents as Block}
 use Rattle.terms.specs.declared.sides.Side.{Side}
@@ -27,14 +27,15 @@ use Rattle.safety.specs.Spending.{IsSignedBy, peer_keys}
 use Rattle.safety.specs.Fates.{htlc_signed}
 use Rattle.safety.specs.Holdings.{Holding, terms_in, funding_key_in, claim_signed}
 use Rattle.safety.specs.Given.{GivenToken, commitment_signed}
-use Rattle.safety.specs.Premises.{LockedOutput, spend, locks_by, owner_keys, keys_in, keys_by, each_spend, has_item, shows_none, newest_revocation}
+use Rattle.safety.specs.Premises.{LockedOutput, spend, locks_by, owner_keys, keys_in, keys_by, each_spend, has_item, shows_none, newest_revocation, secret_keys}
 use Rattle.safety.specs.Breaks.{Breaks}
 use Rattle.safety.specs.Resolutions.{WasReleased}
 use Rattle.safety.proofs.Slots.{contains_later}
 use Rattle.safety.proofs.Lists.{contained, contains_map}
 use Rattle.safety.proofs.Tests.{flat_in, all_hold, has, on_input, on_spend}
-use Rattle.safety.proofs.Handed.{IsFrom, with_peers, with_htlc, with_released, with_own}
+use Rattle.safety.proofs.Handed.{keys_good, IsFrom, with_peers, with_htlc, with_released, with_own}
 use Rattle.safety.proofs.Own.{kept_one, Names, IsNoFunding, ShowsOwn, shows_own}
+use Rattle.safety.proofs.Reading.{secret_key, newest_secret, IsRead}
 use Rattle.balance_laws.specs.OwnBreaks.{OwnBreaks, by_htlc_keys}
 use Rattle.balance_laws.proofs.OwnOutputs.{OwnClose, contents}
 
@@ -54,10 +55,12 @@ its_revocation hs blocks s =
     let st = s.holding.state in
     revocation_of (terms_in s.holding) s.commitment st.held.side (point_at st.seed st.number).bytes (owner_is hs blocks s) (s.rules.point s.commitment s.there)
 
--- so no input that takes one of the node's outputs has a token of its revocation key
+-- so no input that takes one of the node's outputs has a token of its revocation key, nor is one read there
 pub not_revoked : (hs : List Holding) (blocks : List Block) (s : OwnClose hs blocks) → (w : LockedOutput) (height : ℕ) (t : Transaction) (input : TxIn) → Names hs blocks w height t input
-    → IsSignedBy (contents s).keys.revocation (spend w t input) → ⊥
-not_revoked hs blocks s w height t input n signed =
+    → (since : ℕ) (r : IsRead hs w height t input since) → IsSignedBy (contents s).keys.revocation (spend w t (signed_input input r.items)) → ⊥
+not_revoked hs blocks s w height t input n since r read =
+    let secret : Contains (secret_keys hs) (contents s).keys.revocation = subst (λ (x : List ℕ). Contains (secret_keys hs) x) (sym (its_revocation hs blocks s)) (newest_secret hs s.holding s.held) in
+    let signed = r.signed (contents s).keys.revocation secret (key_length (contents s).keys.revocation (keys_good (terms_in s.holding) s.commitment).revocation) read in
     let digest = digest_of (spend w t input) in
     let key = newest_revocation s.holding in
     let a = on_input (each_spend (shows_none (map newest_revocation hs)) (locks_by hs)) blocks s.unrevoked height t input n.stands n.within in
@@ -87,12 +90,13 @@ pub data IsOwnersInput (hs : List Holding) (blocks : List Block) (key : List ℕ
   by_break : Breaks hs blocks → IsOwnersInput hs blocks key s
 
 pub owners_input : (hs : List Holding) (blocks : List Block) (s : OwnClose hs blocks) → (w : LockedOutput) (height : ℕ) (t : Transaction) (input : TxIn) → Names hs blocks w height t input → IsNoFunding w
-    → length w.code ≤ 10000 → w.place.value < 2 ^ 64 → (key : List ℕ) → length key ≡ 33 → Contains (owner_keys (contents s)) key → IsSignedBy key (spend w t input) → IsOwnersInput hs blocks key (spend w t input)
-owners_input hs blocks s w height t input names plain short low key long i signed =
+    → length w.code ≤ 10000 → w.place.value < 2 ^ 64 → (key : List ℕ) → length key ≡ 33 → Contains (owner_keys (contents s)) key
+    → (since : ℕ) (r : IsRead hs w height t input since) → IsSignedBy key (spend w t (signed_input input r.items)) → IsOwnersInput hs blocks key (spend w t input)
+owners_input hs blocks s w height t input names plain short low key long i since r read =
     ⊎_elim {C = IsOwnersInput hs blocks key (spend w t input)}
     (λ (x : ShowsOwn hs key (spend w t input)). by x.holding x.held x.token x.from x.key_is x.same)
     (λ (z : Breaks hs blocks). by_break z)
-    (shows_own hs blocks s.watched w height t input names short low key long (owner_key hs blocks s key i) signed)
+    (shows_own hs blocks s.watched w height t input names short low key long (owner_key hs blocks s key i) (r.signed key (secret_key hs key (owner_key hs blocks s key i)) long read))
   where
     by : (g : Holding) → Contains hs g → (z : GivenToken) → IsFrom g z → key ≡ z.key → AreSame (spend w t input) z.over → IsOwnersInput hs blocks key (spend w t input)
     by g also z (with_peers j m at e) of same =

@@ -27,11 +27,11 @@ use Rattle.balance_laws.specs.Own.{KeepsOwnRules, HasOwnShare}
 pub record HasAll (hs : List Holding) (blocks : List Block) (h : Holding) (known : Htlc → Bool) (k : CommitmentState) : Type 0 where
   pub stands : ℕ → Bool
   pub those : (x : HtlcOutput) → Contains (htlcs_of (contents_of (terms_in h) k)) x → (stands x.index ≡ true) ↔ IsOnChain blocks (htlc_tx_of (contents_of (terms_in h) k) x)
-  pub claims : AllAreWorth h known stands k (λ o. Resolution hs blocks (IsSlept (contents_of (terms_in h) k) o) o)
+  pub claims : AllAreWorth h known stands k (λ o. Resolution Breaks hs blocks (IsSlept (contents_of (terms_in h) k) o) o)
 
 -- Of one that the peer has not revoked, to_remote and each HTLC on which the node counts: each is unspent, or the node took it; or it is an HTLC that was paid or that is late
 abbrev pub HasShare : List Holding → List Block → Holding → (Htlc → Bool) → CommitmentState → Type 0
-HasShare hs blocks h known k = ShareIsWorth h false known (λ _. false) k (λ o. Resolution hs blocks (IsPaidOrLate (contents_of (terms_in h) k) o) o)
+HasShare hs blocks h known k = ShareIsWorth h false known (λ _. false) k (λ o. Resolution Breaks hs blocks (IsPaidOrLate false (contents_of (terms_in h) k) o) o)
 
 -- ---- before a close
 
@@ -43,10 +43,9 @@ pub record HasNewest (blocks : List Block) (h : Holding) (known : Htlc → Bool)
 
 -- ---- both
 
--- What a node has of a channel on a chain. The funding output is not there; or it is unspent; or a commitment of the peer's took it, one that is revoked, its newest, or the one after it; or the node's own newest
+-- What a node has of a channel on a chain. The funding output is unspent; or a commitment of the peer's took it, one that is revoked, its newest, or the one after it; or the node's own newest
 -- one did, with which it closed the channel
 pub data BalanceIsThere (hs : List Holding) (blocks : List Block) (h : Holding) (known : Htlc → Bool) : Type 0 where
-  absent : coin_at blocks (terms_in h).funding ≡ None → BalanceIsThere hs blocks h known
   unclosed : (coin : Coin) → coin_at blocks (terms_in h).funding ≡ Some coin → coin.spent ≡ false → HasNewest blocks h known → BalanceIsThere hs blocks h known
   by_revoked : (n : ℕ) (k : CommitmentState) → n < h.state.peer_number → slice_get h.state.signed n ≡ Some k → IsRevealed h n k
       → IsOnChain blocks (transaction_of (contents_of (terms_in h) k)) → HasAll hs blocks h known k → BalanceIsThere hs blocks h known

@@ -1,5 +1,5 @@
 -- What is left of a balance where each deadline was kept. What is asked is of outputs and heights alone: that it was the node that took them is what follows.
-use Rattle.std.specs.Prelude.{◌≡◌, ℕ, ◌+◌, ◌<◌, Bool, true, false, List}
+use Rattle.std.specs.Prelude.{◌≡◌, ℕ, ◌+◌, ◌<◌, Bool, not, List}
 use Rattle.std.specs.List.{Contains}
 use Rattle.tx.specs.declared.input.TxIn.{TxIn}
 use Rattle.tx.specs.Fields.{Transaction}
@@ -7,7 +7,6 @@ use Rattle.chain.specs.Blocks.{Contents as Block, Coin}
 use Rattle.terms.specs.declared.htlcs.Htlc.{Htlc}
 use Rattle.forms.specs.Forms.{to_local_form}
 use Rattle.commit.specs.declared.fees.Direction.{Direction}
-use Rattle.commit.specs.declared.fees.Direction.TheVariants.{Offered, Received}
 use Rattle.commit.specs.declared.outputs.HtlcOutput.{HtlcOutput}
 use Rattle.commit.specs.Commitments.{Contents}
 use Rattle.penalty.specs.Claimable.{Claimable}
@@ -17,9 +16,8 @@ use Rattle.channel.specs.Tokens.{contents_of}
 use Rattle.worth_laws.specs.Counted.{counted}
 use Rattle.safety.specs.Whereabouts.{IsNamedBy, IsCoinOf}
 use Rattle.safety.specs.Holdings.{Holding, terms_in}
-use Rattle.safety.specs.Resolutions.{Resolution, IsSlept, ShowsPreimage, IsOnHtlc, IsPaidOrLate}
+use Rattle.safety.specs.Resolutions.{Resolution, IsSlept, ShowsPreimage, IsOnHtlc, outgoing, IsPaidOrLate}
 use Rattle.balance_laws.specs.Claims.{AllAreWorth, ShareIsWorth}
-use Rattle.balance_laws.specs.Own.{OwnResolution, IsOwnPaidOrLate}
 
 -- whatever took the output stands below this height
 abbrev pub IsTakenBelow : List Block → Claimable → ℕ → Type 0
@@ -40,16 +38,12 @@ pub record IsPaid (c : Contents) (direction : Direction) (o : Claimable) (input 
   pub mine : htlc.direction ≡ direction
   pub shows : ShowsPreimage input.witness htlc.htlc.hash
 
--- Then nothing is lost of what the claims are worth. A penalty is unspent, or the node took it. Any other claim is so too, or it is an HTLC that was paid
-pub record NothingIsLate : Type 0 where
-  pub revoked : (hs : List Holding) (blocks : List Block) (h : Holding) (known : Htlc → Bool) (stands : ℕ → Bool) (k : CommitmentState) → AllAreWorth h known stands k (λ o. Resolution hs blocks (IsSlept (contents_of (terms_in h) k) o) o)
+-- Then nothing is lost of what the claims are worth, but where strings collide (`Broken`). A penalty is unspent, or the node took it. Any other claim is so too, or it is an HTLC that was paid
+pub record NothingIsLate (Broken : List Holding → List Block → Type 0) : Type 0 where
+  pub revoked : (hs : List Holding) (blocks : List Block) (h : Holding) (known : Htlc → Bool) (stands : ℕ → Bool) (k : CommitmentState) → AllAreWorth h known stands k (λ o. Resolution Broken hs blocks (IsSlept (contents_of (terms_in h) k) o) o)
       → ((o : Claimable) → Contains (staged stands (contents_of (terms_in h) k)) o → DelayIsKept blocks (contents_of (terms_in h) k) o)
-      → AllAreWorth h known stands k (λ o. Resolution hs blocks (λ coin height input. ⊥) o)
-  pub peers : (hs : List Holding) (blocks : List Block) (h : Holding) (known : Htlc → Bool) (stands : ℕ → Bool) (k : CommitmentState)
-      → ShareIsWorth h false known stands k (λ o. Resolution hs blocks (IsPaidOrLate (contents_of (terms_in h) k) o) o)
-      → ((o : Claimable) → Contains (counted false known stands (contents_of (terms_in h) k)) o → ExpiryIsKept blocks (contents_of (terms_in h) k) Offered o)
-      → ShareIsWorth h false known stands k (λ o. Resolution hs blocks (λ coin height input. IsPaid (contents_of (terms_in h) k) Received o input) o)
-  pub own : (hs : List Holding) (blocks : List Block) (h : Holding) (known : Htlc → Bool) (stands : ℕ → Bool) (k : CommitmentState)
-      → ShareIsWorth h true known stands k (λ o. OwnResolution hs blocks (IsOwnPaidOrLate (contents_of (terms_in h) k) o) o)
-      → ((o : Claimable) → Contains (counted true known stands (contents_of (terms_in h) k)) o → ExpiryIsKept blocks (contents_of (terms_in h) k) Received o)
-      → ShareIsWorth h true known stands k (λ o. OwnResolution hs blocks (λ coin height input. IsPaid (contents_of (terms_in h) k) Offered o input) o)
+      → AllAreWorth h known stands k (λ o. Resolution Broken hs blocks (λ coin height input. ⊥) o)
+  pub unrevoked : (hs : List Holding) (blocks : List Block) (h : Holding) (own : Bool) (known : Htlc → Bool) (stands : ℕ → Bool) (k : CommitmentState)
+      → ShareIsWorth h own known stands k (λ o. Resolution Broken hs blocks (IsPaidOrLate own (contents_of (terms_in h) k) o) o)
+      → ((o : Claimable) → Contains (counted own known stands (contents_of (terms_in h) k)) o → ExpiryIsKept blocks (contents_of (terms_in h) k) (outgoing (not own)) o)
+      → ShareIsWorth h own known stands k (λ o. Resolution Broken hs blocks (λ coin height input. IsPaid (contents_of (terms_in h) k) (outgoing own) o input) o)

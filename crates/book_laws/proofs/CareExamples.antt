@@ -31,8 +31,8 @@ use Rattle.commit.specs.Outputs.{outputs_of}
 use Rattle.penalty.specs.Claimable.{Claimable, htlc_form}
 use Rattle.penalty.specs.Sets.{claimed_by}
 use Rattle.channel.specs.States.{State, state_at_opening as opened_state, peers_next, after_update, after_sign}
-use Rattle.channel.specs.Tokens.{contents_of}
-use Rattle.channel.proofs.Samples.{key, point_key, tokens_of}
+use Rattle.channel.specs.Tokens.{contents_of, peer_tokens}
+use Rattle.channel.proofs.Samples.{key, point_key}
 use Rattle.safety.specs.Holdings.{Holding, IsOnRecorded, on_own, on_peers, on_revoked, IsRightful, KeepsRules, EachKeepsRules}
 use Rattle.safety.specs.Places.{IsOwnersClaim, delayed, second_stage, delayed_second, IsPeersClaim, payment, direct, IsRevokedClaim, penalty, own_payment, htlc_penalty, second_penalty, OwnersPlaces, PeersPlaces, RevokedPlaces}
 use Rattle.safety.specs.Recorded.{IsOutPoint}
@@ -49,13 +49,13 @@ use Rattle.book.specs.Accepted.{AreWhole, all_accepted, IsHistory, AcceptedMeans
 use Rattle.book.specs.Releasing.{IsKeptIn}
 use Rattle.book_laws.specs.Holdings.{releases_in, holding_of}
 use Rattle.book_laws.specs.Keeping.{TakesCare, IsCareful}
-use Rattle.book_laws.proofs.Samples.{path, entry, hash, htlc, stray, batch, release, first_terms, first_opening}
+use Rattle.book_laws.proofs.Samples.{path, entry, hash, htlc, stray, batch, release, first_terms, first_signed, first_opening}
 
 -- ---- calls
 
 -- no: IsHistory
-signed_in_no_channel : AcceptedMeans → IsHistory tokens_of (entry 1 (Sign 0) ∷ []) → ⊥
-signed_in_no_channel law called = true≢false (sym ((law.accepted_exactly tokens_of (entry 1 (Sign 0) ∷ [])).0 called))
+signed_in_no_channel : AcceptedMeans → IsHistory peer_tokens (entry 1 (Sign 0) ∷ []) → ⊥
+signed_in_no_channel law called = true≢false (sym ((law.accepted_exactly peer_tokens (entry 1 (Sign 0) ∷ [])).0 called))
 
 -- ---- offers
 
@@ -168,8 +168,8 @@ module _ (bases theirs : BaseKeys) (seed : List ℕ) (own : IsSeedOf seed bases)
   abbrev offered : List Entry
   offered = entry 3 (Open (first_opening bases theirs seed own (replicate 32 5))) ∷ entry 1 (Stepping 0 (Own (Offer 1000000 hash 0))) ∷ entry 1 (Sign 0) ∷ []
 
-  offered_accepted : all_accepted tokens_of offered ≡ true
-  offered_accepted = refl
+  offered_accepted : all_accepted peer_tokens offered ≡ true
+  offered_accepted = rw (first_signed bases theirs seed own (replicate 32 5)) refl
 
   abbrev before : State
   before = after_update (Add (htlc 1000000 0)) (opened_state (first_terms bases theirs seed own (replicate 32 5)) A seed point_key (key 1))
@@ -202,16 +202,16 @@ module _ (bases theirs : BaseKeys) (seed : List ℕ) (own : IsSeedOf seed bases)
   offered_otherwise = (tt, record { txid = refl; index = lit< tt })
 
   -- no: IsCareful
-  offered_carelessly : IsCareful tokens_of offered 0 offered_book → ⊥
+  offered_carelessly : IsCareful offered 0 offered_book → ⊥
   offered_carelessly c = let l : 0 < 0 = c.cares.1.0 refl in omega (arith, l)
 
   -- the node releases a claim on what no channel of its book has: a book takes that
   abbrev strayed : List Entry
   strayed = entry 3 (Open (first_opening bases theirs seed own (replicate 32 5))) ∷ entry 2 (Releasing 0 (batch stray 900)) ∷ []
 
-  strayed_accepted : all_accepted tokens_of strayed ≡ true
+  strayed_accepted : all_accepted peer_tokens strayed ≡ true
   unfolding fill_refusal
-  strayed_accepted = refl
+  strayed_accepted = rw (first_signed bases theirs seed own (replicate 32 5)) refl
 
   abbrev strayed_book : ChannelBook
   strayed_book = record { state = opened_state (first_terms bases theirs seed own (replicate 32 5)) A seed point_key (key 1); kept = []; closed = None }
@@ -234,11 +234,11 @@ module _ (bases theirs : BaseKeys) (seed : List ℕ) (own : IsSeedOf seed bases)
   released_astray owners peers revoked r = stray_is_on_none owners peers revoked with_stray r.releases.0.recorded.0
 
   -- no: IsCareful
-  strayed_carelessly : OwnersPlaces → PeersPlaces → RevokedPlaces → IsCareful tokens_of strayed 0 strayed_book → ⊥
+  strayed_carelessly : OwnersPlaces → PeersPlaces → RevokedPlaces → IsCareful strayed 0 strayed_book → ⊥
   strayed_carelessly owners peers revoked c = stray_is_on_none owners peers revoked with_stray c.due.0.0
 
   -- no: IsCareful
-  strayed_from_nowhere : IsCareful tokens_of strayed 1 strayed_book → ⊥
+  strayed_from_nowhere : IsCareful strayed 1 strayed_book → ⊥
   strayed_from_nowhere c = none-some strayed_book c.there
 
   -- the node pays more than all bitcoins
@@ -246,15 +246,15 @@ module _ (bases theirs : BaseKeys) (seed : List ℕ) (own : IsSeedOf seed bases)
   lavish = entry 3 (Open (first_opening bases theirs seed own (replicate 32 5))) ∷ entry 2 (Releasing 0 (batch stray 2100000000000001)) ∷ []
 
   -- no: IsCareful
-  paid_carelessly : IsCareful tokens_of lavish 0 strayed_book → ⊥
+  paid_carelessly : IsCareful lavish 0 strayed_book → ⊥
   paid_carelessly c = let l = (c.cares.1.0 refl).0.value in omega (arith, l)
 
   -- the funding output's id has 31 bytes
   abbrev short : List Entry
   short = entry 3 (Open (first_opening bases theirs seed own (replicate 31 5))) ∷ []
 
-  short_accepted : all_accepted tokens_of short ≡ true
-  short_accepted = refl
+  short_accepted : all_accepted peer_tokens short ≡ true
+  short_accepted = rw (first_signed bases theirs seed own (replicate 31 5)) refl
 
   abbrev short_book : ChannelBook
   short_book = record { state = opened_state (first_terms bases theirs seed own (replicate 31 5)) A seed point_key (key 1); kept = []; closed = None }
@@ -267,10 +267,10 @@ module _ (bases theirs : BaseKeys) (seed : List ℕ) (own : IsSeedOf seed bases)
   short_funding r = let e : 31 ≡ 32 = r.each.0.funding.txid in omega (arith, e)
 
   -- no: IsCareful
-  short_carelessly : IsCareful tokens_of short 0 short_book → ⊥
+  short_carelessly : IsCareful short 0 short_book → ⊥
   short_carelessly c = let e : 31 ≡ 32 = c.funding.txid in omega (arith, e)
 
--- an output that is worth more than all bitcoins does not fit into its transaction
+-- an output whose value is beyond eight bytes does not fit into its transaction
 -- no: IsRightful
-rich : (h : Holding) → IsRightful h (release stray 2100000000000001) → ⊥
-rich h r = let l = r.signable.0.transaction.outputs.each.0.value in omega (arith, l)
+rich : (h : Holding) → IsRightful h (release stray 18446744073709551616) → ⊥
+rich h r = let l = r.signable.0.transaction.outputs.0.0 in omega (arith, l)

@@ -11,7 +11,8 @@ use Rattle.channel.specs.declared.messages.Message.TheVariants.{Step as StepMess
 use Rattle.channel.specs.Points.{is_foreign}
 use Rattle.channel.specs.Rights.{rights_of}
 use Rattle.channel.specs.States.{State, state_at_opening as opened_state, after_update, after_sign, after}
-use Rattle.channel.proofs.Samples.{key, secret, point_is, point_key, tokens_of}
+use Rattle.channel.specs.Tokens.{peer_tokens}
+use Rattle.channel.proofs.Samples.{key, secret, point_is, point_key}
 use Rattle.safety.specs.Holdings.{Holding, EachKeepsRules}
 use Rattle.book.specs.declared.calls.Step.TheVariants.{Own, Peer}
 use Rattle.book.specs.declared.calls.Call.TheVariants.{Open, Step as Stepping, Sign, Revoke, Keep, Release as Releasing, Close}
@@ -22,7 +23,7 @@ use Rattle.book.specs.Signers.{fill_refusal}
 use Rattle.book.specs.Accepted.{all_accepted, AreWhole, IsHistory, AcceptedMeans}
 use Rattle.book_laws.specs.Holdings.{releases_in, holding_of}
 use Rattle.book_laws.specs.Keeping.{IsCareful, BooksKeepRules, KeptAreRecorded}
-use Rattle.book_laws.proofs.Samples.{entry, hash, htlc, stray, pays, batch, release, first_terms, second_terms, first_opening, second_opening}
+use Rattle.book_laws.proofs.Samples.{entry, hash, htlc, stray, pays, batch, release, first_terms, second_terms, first_signed, second_signed, first_opening, second_opening}
 
 -- what is released stays in its channel, in order
 module _ (x y z : ClaimParts) where
@@ -80,16 +81,16 @@ module _ (bases theirs : BaseKeys) (seed : List ℕ) (own : IsSeedOf seed bases)
   second_held : holding_of history 1 second_book ≡ second
   second_held = refl
 
-  accepted : all_accepted tokens_of history ≡ true
+  accepted : all_accepted peer_tokens history ≡ true
   unfolding is_foreign
-  accepted = rw point_is refl
+  accepted = rw (first_signed bases theirs seed own (replicate 32 5), second_signed bases theirs seed own, point_is) refl
 
   -- yes: IsHistory
-  called : AcceptedMeans → IsHistory tokens_of history
-  called law = (law.accepted_exactly tokens_of history).1 accepted
+  called : AcceptedMeans → IsHistory peer_tokens history
+  called law = (law.accepted_exactly peer_tokens history).1 accepted
 
   -- yes: IsCareful
-  pub careful : AcceptedMeans → IsCareful tokens_of history 0 first_book
+  pub careful : AcceptedMeans → IsCareful history 0 first_book
   careful law = record {
     called = called law;
     there = refl;
@@ -99,7 +100,7 @@ module _ (bases theirs : BaseKeys) (seed : List ℕ) (own : IsSeedOf seed bases)
   }
 
   -- yes: IsCareful
-  pub careful_too : AcceptedMeans → IsCareful tokens_of history 1 second_book
+  pub careful_too : AcceptedMeans → IsCareful history 1 second_book
   careful_too law = record {
     called = called law;
     there = refl;
@@ -110,7 +111,7 @@ module _ (bases theirs : BaseKeys) (seed : List ℕ) (own : IsSeedOf seed bases)
 
   -- so both keep the rules
   keep_rules : AcceptedMeans → BooksKeepRules → EachKeepsRules (first ∷ []) × EachKeepsRules (second ∷ [])
-  keep_rules law keeps = (keeps tokens_of history 0 first_book (careful law), keeps tokens_of history 1 second_book (careful_too law))
+  keep_rules law keeps = (keeps history 0 first_book (careful law), keeps history 1 second_book (careful_too law))
 
   -- in the second channel the node offers an HTLC that expires at 0, and releases a claim on what no channel has: of the first it takes care all the same
   module _ (fills : fill_refusal (stray ∷ []) (pays 900) (rights_of second_opened) [] ≡ None) where
@@ -123,13 +124,13 @@ module _ (bases theirs : BaseKeys) (seed : List ℕ) (own : IsSeedOf seed bases)
         ∷ entry 2 (Stepping 1 (Own (Offer 1000000 hash 0)))
         ∷ []
 
-    careless_accepted : all_accepted tokens_of careless ≡ true
-    careless_accepted = rw fills refl
+    careless_accepted : all_accepted peer_tokens careless ≡ true
+    careless_accepted = rw (first_signed bases theirs seed own (replicate 32 5), second_signed bases theirs seed own, fills) refl
 
     -- yes: IsCareful
-    careful_of_first : AcceptedMeans → IsCareful tokens_of careless 0 offered_book
+    careful_of_first : AcceptedMeans → IsCareful careless 0 offered_book
     careful_of_first law = record {
-      called = (law.accepted_exactly tokens_of careless).1 careless_accepted;
+      called = (law.accepted_exactly peer_tokens careless).1 careless_accepted;
       there = refl;
       cares = (tt, (tt, ((λ e. lit< tt), ((λ (e : 1 ≡ 0). omega (arith, e)), ((λ (e : 1 ≡ 0). omega (arith, e)), tt)))));
       due = tt;
@@ -137,11 +138,11 @@ module _ (bases theirs : BaseKeys) (seed : List ℕ) (own : IsSeedOf seed bases)
     }
 
     -- no: IsCareful
-    careless_of_second : (ch : ChannelBook) → IsCareful tokens_of careless 1 ch → ⊥
+    careless_of_second : (ch : ChannelBook) → IsCareful careless 1 ch → ⊥
     careless_of_second ch c = let l : 0 < 0 = c.cares.1.1.1.1.0 refl in omega (arith, l)
 
     first_keeps_rules : AcceptedMeans → BooksKeepRules → EachKeepsRules (record { state = offered_book.state; releases = []; closed = None } ∷ [])
-    first_keeps_rules law keeps = keeps tokens_of careless 0 offered_book (careful_of_first law)
+    first_keeps_rules law keeps = keeps careless 0 offered_book (careful_of_first law)
 
   -- a penalty that was kept is released: by `KeptAreRecorded` it is on a recorded commitment
   module _ (x : ClaimParts) (whole : IsWhole x) (is_set : is_penalty_set first_state 0 (x ∷ []) ≡ true) (fills : fill_refusal (x ∷ []) (pays 900) (rights_of first_state) [] ≡ None) where
@@ -161,25 +162,25 @@ module _ (bases theirs : BaseKeys) (seed : List ℕ) (own : IsSeedOf seed bases)
     released : holding_of with_release 0 kept_book ≡ record { state = first_state; releases = release x 900 ∷ []; closed = None }
     released = refl
 
-    released_accepted : all_accepted tokens_of with_release ≡ true
+    released_accepted : all_accepted peer_tokens with_release ≡ true
     unfolding is_foreign
-    released_accepted = rw (point_is, is_set, fills) refl
+    released_accepted = rw (first_signed bases theirs seed own (replicate 32 5), point_is, is_set, fills) refl
 
-    release_called : AcceptedMeans → IsHistory tokens_of with_release
-    release_called law = (law.accepted_exactly tokens_of with_release).1 released_accepted
+    release_called : AcceptedMeans → IsHistory peer_tokens with_release
+    release_called law = (law.accepted_exactly peer_tokens with_release).1 released_accepted
 
     all_whole : AreWhole with_release
     all_whole = (tt, (tt, (tt, (tt, ((whole, tt), ((whole, tt), tt))))))
 
     -- yes: IsCareful
-    careful_release : AcceptedMeans → KeptAreRecorded → IsCareful tokens_of with_release 0 kept_book
+    careful_release : AcceptedMeans → KeptAreRecorded → IsCareful with_release 0 kept_book
     careful_release law recorded = record {
       called = release_called law;
       there = refl;
       cares = (tt, ((λ e. lit< tt), (tt, (tt, (tt, ((λ e. (record { value = omega arith; script = omega arith }, tt)), tt))))));
-      due = ((recorded tokens_of with_release 0 kept_book x (release_called law) all_whole refl (record { seat = 1; number = 0; set = x ∷ []; kept = (4, lit< tt, refl); within = (0, lit< tt, refl) }), tt), tt);
+      due = ((recorded peer_tokens with_release 0 kept_book x (release_called law) all_whole refl (record { seat = 1; number = 0; set = x ∷ []; kept = (4, lit< tt, refl); within = (0, lit< tt, refl) }), tt), tt);
       funding = record { txid = refl; index = lit< tt };
     }
 
     keep_rules_too : AcceptedMeans → KeptAreRecorded → BooksKeepRules → EachKeepsRules (record { state = first_state; releases = release x 900 ∷ []; closed = None } ∷ [])
-    keep_rules_too law recorded keeps = keeps tokens_of with_release 0 kept_book (careful_release law recorded)
+    keep_rules_too law recorded keeps = keeps with_release 0 kept_book (careful_release law recorded)

@@ -10,6 +10,7 @@ use Rattle.channel.specs.declared.commitments.CommitmentState.{CommitmentState}
 use Rattle.channel.specs.Learning.{HasLearnt, SidesLearn, SidesAreLimited, OffersOwn, SidesOfferOwn}
 use Rattle.channel.specs.Recording.{SidesNumber}
 use Rattle.channel.specs.States.{Signing, State}
+use Rattle.channel.specs.Tokens.{peer_tokens}
 use Rattle.safety.specs.Everybody.{EachChannelStands}
 use Rattle.safety.specs.Holdings.{Holding, IsRevealed, KeepsRules, EachKeepsRules}
 use Rattle.safety.specs.Places.{OwnersPlaces, PeersPlaces, RevokedPlaces}
@@ -93,17 +94,17 @@ pub kept_are_recorded : AllLaws → KeptAreRecorded
 kept_are_recorded laws tokens_of history c ch x called whole there k =
     on_kept laws.releases tokens_of history c ch x ((laws.channels.accepted.accepted_exactly tokens_of history).0 called) whole there (sure_at laws tokens_of history called c ch there) k
 
-module _ (laws : AllLaws) (tokens_of : Signing) (history : List Entry) (c : ℕ) (ch : ChannelBook) (careful : IsCareful tokens_of history c ch) where
+module _ (laws : AllLaws) (history : List Entry) (c : ℕ) (ch : ChannelBook) (careful : IsCareful history c ch) where
   abbrev it : Holding
   it = holding_of history c ch
 
-  accepted : all_accepted tokens_of history ≡ true
-  accepted = (laws.channels.accepted.accepted_exactly tokens_of history).0 careful.called
+  accepted : all_accepted peer_tokens history ≡ true
+  accepted = (laws.channels.accepted.accepted_exactly peer_tokens history).0 careful.called
 
   keeps_rules : KeepsRules it
   keeps_rules =
-      let sure : IsSure ch.state = sure_at laws tokens_of history careful.called c ch careful.there in
-      let own = laws.states.offers tokens_of ch.state (laws.channels.lived tokens_of history c ch careful.called careful.there) in
+      let sure : IsSure ch.state = sure_at laws peer_tokens history careful.called c ch careful.there in
+      let own = laws.states.offers peer_tokens ch.state (laws.channels.lived peer_tokens history c ch careful.called careful.there) in
       let later : (k : CommitmentState) → Contains ch.state.signed k → AreLater ch.state.held.side k
       = λ k i. offers_later history c careful.cares ch.state (laws.channels.asked history c ch careful.there) k (of_each (OffersOwn ch.state) ch.state.signed k own i) in
       record {
@@ -113,7 +114,7 @@ module _ (laws : AllLaws) (tokens_of : Signing) (history : List Entry) (c : ℕ)
         peer_number = sure.limited.peer_number;
         revealed = revealed it sure.learnt;
         releases = all_rightful laws.releases history c ch careful.funding sure history careful.cares careful.due;
-        newest = λ m e. laws.channels.closes tokens_of history c m ch accepted careful.there e;
+        newest = λ m e. laws.channels.closes peer_tokens history c m ch accepted careful.there e;
         expiries = λ m k at x i received. expires_later ch.state.held.terms ch.state.held.side k (sure.numbered.signed.each m k at).owner (later k (contained ch.state.signed m k at)) x i received;
       }
 
@@ -122,12 +123,12 @@ only_one : {X : Type 0} (x y : X) → Contains (x ∷ []) y → x ≡ y
 only_one x y i = ⊎_elim {C = x ≡ y} (λ (e : x ≡ y). e) (λ (j : Contains [] y). absurd (contains_none y j)) (contains_cases x [] y i)
 
 pub books_keep_rules : AllLaws → BooksKeepRules
-books_keep_rules laws tokens_of history c ch careful = record {
-  each = (keeps_rules laws tokens_of history c ch careful, tt);
+books_keep_rules laws history c ch careful = record {
+  each = (keeps_rules laws history c ch careful, tt);
   apart = λ h g i j funded. sym (only_one (holding_of history c ch) h i) ∙ only_one (holding_of history c ch) g j;
 }
 
 pub books_stand : BooksKeepRules → EachChannelStands → BooksStand
-books_stand keeps stands tokens_of history c ch blocks careful h same ledger own funded =
-    let kept : EachKeepsRules (h ∷ []) = subst (λ (x : Holding). EachKeepsRules (x ∷ [])) same (keeps tokens_of history c ch careful) in
+books_stand keeps stands history c ch blocks careful h same ledger own funded =
+    let kept : EachKeepsRules (h ∷ []) = subst (λ (x : Holding). EachKeepsRules (x ∷ [])) same (keeps history c ch careful) in
     stands (h ∷ []) blocks (record { kept = kept; ledger = ledger; own = own }) h (contains_first h []) funded

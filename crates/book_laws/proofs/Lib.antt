@@ -4,7 +4,16 @@ pub mod Fields
 pub mod Complete
 pub mod Released
 pub mod Keeping
+pub mod Received
 pub mod Samples
+pub mod Going
 pub mod Books
 mod HoldingExamples
 mod CareExamples
+pub mod ReceivedExamples
+pub mod KeptClaims
+pub mod RoundsExamples
+mod RoundsWorth
+pub mod RoundsTokens
+pub mod RoundsChains
+mod RoundsEnds

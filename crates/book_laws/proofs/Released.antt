@@ -5,6 +5,7 @@ use Rattle.std.specs.List.{AllByRecursion, Contains, cons_option}
 use Rattle.std.proofs.lemmas.Bool.{eqb-true}
 use Rattle.std.proofs.lemmas.Option.{same_Some, none-some, slice_get_within}
 use Rattle.tx.specs.Parts.{IsOutput}
+use Rattle.filling.specs.Filling.{transaction_for}
 use Rattle.keys.specs.Derivation.{point_of}
 use Rattle.terms.specs.declared.sides.Side.{Side}
 use Rattle.terms.specs.Sides.{other}
@@ -26,6 +27,7 @@ use Rattle.safety.specs.Signing.{IsSignable}
 use Rattle.safety.specs.Taken.{ChannelRecord, NumberedAreOwn}
 use Rattle.safety.proofs.Slots.{contains_first, contains_later, contains_cases}
 use Rattle.safety.proofs.Lists.{contains_none}
+use Rattle.safety.proofs.Signing.{limits_fit}
 use Rattle.book.specs.declared.calls.Batch.{Batch}
 use Rattle.book.specs.declared.calls.Call.{Call}
 use Rattle.book.specs.declared.calls.Call.TheVariants.{Release as Releasing}
@@ -133,11 +135,11 @@ module _ (laws : Laws) (history : List Entry) (c : ℕ) (ch : ChannelBook) (fund
   rightful : (batch : Batch) → AllByRecursion IsOutput batch.outputs → AllByRecursion (IsOnRecorded it) batch.claims → IsRightful it (record { claims = batch.claims; outputs = batch.outputs })
   rightful batch outputs on =
       let fit = all_from (IsOnRecorded it) (λ (x : ClaimParts). IsFit (claimed_by x)) (fits laws it funding sure) batch.claims on in
-      let keeps = transaction_keeps batch.claims batch.outputs batch.some batch.inputs batch.given fit outputs in
+      let fit_together = limits_fit (transaction_for batch.claims batch.outputs) (transaction_keeps batch.claims batch.outputs batch.some batch.inputs batch.given fit outputs) in
       record {
         recorded = on;
         signable = all_from (λ (x : ClaimParts). IsFit (claimed_by x)) (λ (x : ClaimParts). IsSignable (claim_signed (record { claims = batch.claims; outputs = batch.outputs }) x))
-            (λ x f. let short = f.code in let low = f.placed.value in record { transaction = keeps; input = input_of x f; code = omega (arith, short); value = omega (arith, low) }) batch.claims fit;
+            (λ x f. let short = f.code in let low = f.placed.value in record { transaction = fit_together; input = input_of x f; code = omega (arith, short); value = omega (arith, low) }) batch.claims fit;
       }
 
   -- all that entries release in the channel

@@ -1,5 +1,7 @@
 -- Two channels of a node, their openings, and a claim on a script that no channel has, for the worked histories.
-use Rattle.std.proofs.Common.{ℕ, List, [], ◌∷◌, replicate, None, refl, lit≤, lit<}
+use Rattle.std.proofs.Common.{◌≡◌, ℕ, true, List, [], ◌∷◌, replicate, None, refl, lit≤, lit<}
+use Rattle.std.specs.Str.{bytes_eq}
+use Rattle.std.proofs.lemmas.Slice.Eq.{bytes_eq-Decides}
 use Rattle.script.specs.declared.opcode.Op.TheVariants.{Number}
 use Rattle.tx.specs.Parts.{Output}
 use Rattle.paths.specs.declared.state.Path.{Path}
@@ -12,6 +14,9 @@ use Rattle.terms.specs.Bases.{IsSeedOf}
 use Rattle.claim.specs.declared.parts.Place.{Place}
 use Rattle.claim.specs.declared.parts.Shell.TheVariants.{Open}
 use Rattle.claim.specs.Claims.{ClaimParts}
+use Rattle.channel.specs.Points.{point_at}
+use Rattle.channel.specs.States.{first_of}
+use Rattle.channel.specs.Tokens.{peer_tokens}
 use Rattle.channel.proofs.Samples.{key, point_key}
 use Rattle.safety.specs.Holdings.{Release}
 use Rattle.book.specs.declared.calls.Batch.{Batch}
@@ -65,8 +70,21 @@ module _ (bases theirs : BaseKeys) (seed : List ℕ) (own : IsSeedOf seed bases)
   abbrev pub second_terms : Terms
   second_terms = record { funding = record { txid = replicate 32 6; index = 9 }; capacity_sat = 50000; opener = B; feerate_per_kw = 0; a = side 10000000 theirs; b = side 40000000 bases; limited = lit≤ tt; whole = refl; short_a = lit< tt; short_b = lit< tt }
 
+  -- the peer's token on the node's commitment 0 in each
+  abbrev pub first_token : List ℕ → List ℕ
+  first_token txid = (peer_tokens (first_terms txid) (first_of (first_terms txid) A (point_at seed 0))).commitment
+
+  abbrev pub second_token : List ℕ
+  second_token = (peer_tokens second_terms (first_of second_terms B (point_at seed 0))).commitment
+
+  pub first_signed : (txid : List ℕ) → bytes_eq (first_token txid) (first_token txid) ≡ true
+  first_signed txid = (bytes_eq-Decides (first_token txid) (first_token txid)).1 refl
+
+  pub second_signed : bytes_eq second_token second_token ≡ true
+  second_signed = (bytes_eq-Decides second_token second_token).1 refl
+
   abbrev pub first_opening : List ℕ → Opening
-  first_opening txid = record { terms = first_terms txid; side = A; seed = seed; first_point = point_key; next_point = key 1; token = 0 ∷ []; own = own }
+  first_opening txid = record { terms = first_terms txid; side = A; seed = seed; first_point = point_key; next_point = key 1; token = first_token txid; own = own }
 
   abbrev pub second_opening : Opening
-  second_opening = record { terms = second_terms; side = B; seed = seed; first_point = point_key; next_point = key 3; token = 0 ∷ []; own = own }
+  second_opening = record { terms = second_terms; side = B; seed = seed; first_point = point_key; next_point = key 3; token = second_token; own = own }

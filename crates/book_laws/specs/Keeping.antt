@@ -1,5 +1,5 @@
 -- That a channel of a book keeps the rules of `safety`, and what is asked of the book's owner in that channel.
-use Rattle.std.specs.Prelude.{◌≡◌, ℕ, ◌<◌, true, List, [], ◌∷◌, Some, slice_get}
+use Rattle.std.specs.Prelude.{◌≡◌, ℕ, ◌<◌, true, List, [], ◌∷◌, ◌++◌, Some, slice_get}
 use Rattle.std.specs.List.{AllByRecursion, Contains}
 use Rattle.tx.specs.Parts.{IsOutput}
 use Rattle.chain.specs.Blocks.{Contents as Block}
@@ -8,10 +8,11 @@ use Rattle.penalty.specs.Claimable.{Claimable}
 use Rattle.penalty.specs.Sets.{claimed_by}
 use Rattle.updates.specs.declared.changes.OwnUpdate.TheVariants.{Offer}
 use Rattle.channel.specs.States.{Signing}
+use Rattle.channel.specs.Tokens.{peer_tokens}
 use Rattle.safety.specs.Recorded.{IsOutPoint}
 use Rattle.safety.specs.Holdings.{Holding, terms_in, IsOnRecorded, EachKeepsRules}
-use Rattle.safety.specs.Premises.{outputs_by, locks_by, are_own}
-use Rattle.safety.specs.Ledgers.{IsLedgerOf}
+use Rattle.safety.specs.Premises.{are_own}
+use Rattle.safety.specs.Ledgers.{IsLedger}
 use Rattle.safety.specs.Closers.{IsFunded}
 use Rattle.safety.specs.Everybody.{ChannelStands}
 use Rattle.book.specs.declared.calls.Step.TheVariants.{Own}
@@ -32,10 +33,10 @@ TakesCare c (Stepping d (Own (Offer amount_msat hash expiry_height))) = d ≡ c 
 TakesCare c (Releasing d batch) = d ≡ c → AllByRecursion IsOutput batch.outputs
 TakesCare c call = Unit {0}
 
--- A history of calls, whatever the peers sent, in which the node took care of one channel, whatever it did in others. Each claim that it released there is on what a recorded commitment of the channel gives it. The funding
+-- A history of calls, whatever the peers sent, of a book that takes no signature but the peer's, in which the node took care of one channel, whatever it did in others. Each claim that it released there is on what a recorded commitment of the channel gives it. The funding
 -- output has an id of 32 bytes and an index of 32 bits, as their types ensure
-pub record IsCareful (tokens_of : Signing) (history : List Entry) (c : ℕ) (ch : ChannelBook) : Type 0 where
-  pub called : IsHistory tokens_of history
+pub record IsCareful (history : List Entry) (c : ℕ) (ch : ChannelBook) : Type 0 where
+  pub called : IsHistory peer_tokens history
   pub there : slice_get (replay history) c ≡ Some ch
   pub cares : AllByRecursion (λ e. TakesCare c e.call) history
   pub due : AllByRecursion (λ r. AllByRecursion (IsOnRecorded (holding_of history c ch)) r.claims) (releases_in c history)
@@ -45,7 +46,7 @@ pub record IsCareful (tokens_of : Signing) (history : List Entry) (c : ℕ) (ch 
 
 -- the channel keeps the rules
 abbrev pub BooksKeepRules : Type 0
-BooksKeepRules = (tokens_of : Signing) (history : List Entry) (c : ℕ) (ch : ChannelBook) → IsCareful tokens_of history c ch → EachKeepsRules (holding_of history c ch ∷ [])
+BooksKeepRules = (history : List Entry) (c : ℕ) (ch : ChannelBook) → IsCareful history c ch → EachKeepsRules (holding_of history c ch ∷ [])
 
 -- what a revoked commitment of a channel's peer lets the node claim is on that commitment as the channel recorded it
 abbrev pub ClaimablesAreRecorded : Type 0
@@ -62,6 +63,13 @@ KeptAreRecorded =
 -- so it stands on a chain as `safety` says of one node against everybody: the chain is a ledger of this channel's outputs, and on the inputs that name them nobody forged a token of the node's
 abbrev pub BooksStand : Type 0
 BooksStand =
-    (tokens_of : Signing) (history : List Entry) (c : ℕ) (ch : ChannelBook) (blocks : List Block) → IsCareful tokens_of history c ch
-    → (h : Holding) → holding_of history c ch ≡ h → IsLedgerOf (locks_by (h ∷ [])) (outputs_by (h ∷ [])) blocks → are_own (h ∷ []) blocks ≡ true → IsFunded blocks (terms_in h)
+    (history : List Entry) (c : ℕ) (ch : ChannelBook) (blocks : List Block) → IsCareful history c ch
+    → (h : Holding) → holding_of history c ch ≡ h → IsLedger (h ∷ []) blocks → are_own (h ∷ []) blocks ≡ true → IsFunded blocks (terms_in h)
     → ChannelStands (h ∷ []) blocks h
+
+-- a careful history with one more accepted call that takes care is careful. What that call releases in the channel is on what a recorded commitment gave the node before it
+abbrev pub CareGoesOn : Type 0
+CareGoesOn =
+    (history : List Entry) (c : ℕ) (ch new : ChannelBook) (e : Entry) → IsCareful history c ch → IsHistory peer_tokens (history ++ e ∷ []) → slice_get (replay (history ++ e ∷ [])) c ≡ Some new
+    → TakesCare c e.call → AllByRecursion (λ r. AllByRecursion (IsOnRecorded (holding_of history c ch)) r.claims) (releases_in c (e ∷ []))
+    → IsCareful (history ++ e ∷ []) c new

@@ -1,3 +1,4 @@
 pub mod Holdings
 pub mod Keeping
+pub mod Received
 pub mod Books

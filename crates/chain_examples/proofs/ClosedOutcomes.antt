@@ -6,6 +6,7 @@ use Rattle.commit.specs.Commitments.{htlcs_from}
 use Rattle.penalty.specs.Claimable.{Claimable, penalty_on, payment_on}
 use Rattle.resolve.specs.Due.{direct_on}
 use Rattle.safety.specs.Standing.{StandsAt}
+use Rattle.safety.specs.Breaks.{Breaks}
 use Rattle.safety.specs.Resolutions.{Resolution, unspent, ours, lost, IsSlept, IsOnHtlc, IsPaidOrLate, paid, late}
 use Rattle.safety.proofs.WorkedChannels.{htlc, first_htlc, second_htlc, block}
 use Rattle.claim.specs.declared.parts.Place.{Place}
@@ -25,7 +26,7 @@ to_remote = payment_on first_newest_contents on_remote
 swept_stands : StandsAt chain 2 swept
 swept_stands = record { block = block (punished ∷ succeeds ∷ swept ∷ []); there = refl; within = (2, lit< tt, refl) }
 
-was_ours : Resolution channels chain (IsPaidOrLate first_newest_contents to_remote) to_remote
+was_ours : Resolution Breaks channels chain (IsPaidOrLate false first_newest_contents to_remote) to_remote
 was_ours =
     ours 2 swept swept_input (record { stands = swept_stands; within = (0, lit< tt, refl); names = refl })
     (record { holding = first; held = (0, lit< tt, refl); release = sweep; among = (0, lit< tt, refl); same = refl })
@@ -43,7 +44,7 @@ on_first : IsOnHtlc first_newest_contents first_htlc offered
 unfolding htlcs_from
 on_first = record { among = (0, lit< tt, refl); at = ap (λ (id : List ℕ). record { txid = id; index = 0 }) (sym first_newest_named) }
 
-was_paid : Resolution channels chain (IsPaidOrLate first_newest_contents offered) offered
+was_paid : Resolution Breaks channels chain (IsPaidOrLate false first_newest_contents offered) offered
 was_paid =
     lost (spent_coin 1 10000 first_newest_htlc_0_program) (record { there = offered_there; output = refl }) 2 succeeds succeeds_input (record { stands = succeeds_stands; within = (0, lit< tt, refl); names = refl })
     (paid first_htlc on_first refl (record { item = replicate 32 7; shown = (3, lit< tt, refl); long = refl; hashed = refl }))
@@ -61,7 +62,7 @@ on_second : IsOnHtlc first_newest_contents second_htlc received
 unfolding htlcs_from
 on_second = record { among = (1, lit< tt, refl); at = ap (λ (id : List ℕ). record { txid = id; index = 1 }) (sym first_newest_named) }
 
-was_late : Resolution channels chain (IsPaidOrLate first_newest_contents received) received
+was_late : Resolution Breaks channels chain (IsPaidOrLate false first_newest_contents received) received
 was_late =
     lost (spent_coin 1 12000 first_newest_htlc_1_program) (record { there = received_there; output = refl }) 4 expires expires_input (record { stands = expires_stands; within = (0, lit< tt, refl); names = refl })
     (late second_htlc on_second refl (lit< tt))
@@ -75,7 +76,7 @@ second_there = rw (first_granted, second_granted, closes_first_is, closes_second
 slept_stands : StandsAt chain 6 slept
 slept_stands = record { block = block (slept ∷ []); there = refl; within = (0, lit< tt, refl) }
 
-was_slept_on : Resolution channels chain (IsSlept second_opened_contents second_stage) second_stage
+was_slept_on : Resolution Breaks channels chain (IsSlept second_opened_contents second_stage) second_stage
 was_slept_on =
     lost (spent_coin 4 11337 second_opened_delayed_program) (record { there = second_there; output = refl }) 6 slept slept_input (record { stands = slept_stands; within = (0, lit< tt, refl); names = refl })
     (record { form = refl; late = lit≤ tt })
@@ -86,5 +87,5 @@ other_remote = payment_on second_opened_contents (place second_opened_id 2 79104
 is_there : coin_at chain other_remote.place.outpoint ≡ Some (record (spent_coin 1 79104 second_home_program) { spent = false })
 is_there = rw (first_granted, second_granted, closes_first_is, closes_second_is) refl
 
-is_unspent : Resolution channels chain (IsSlept second_opened_contents other_remote) other_remote
+is_unspent : Resolution Breaks channels chain (IsSlept second_opened_contents other_remote) other_remote
 is_unspent = unspent (record (spent_coin 1 79104 second_home_program) { spent = false }) (record { there = is_there; output = refl }) refl

@@ -31,7 +31,9 @@ use Rattle.safety.proofs.Slots.{contains_cases}
 use Rattle.safety.proofs.Lists.{contains_none}
 use Rattle.safety.proofs.WorkedChannels.{block}
 use Rattle.balance_laws.specs.Claims.{AreWorth}
-use Rattle.balance_laws.specs.Own.{IsOwnPaidOrLate, OwnResolution, HasOwnShare, OwnAreResolved}
+use Rattle.safety.specs.Resolutions.{Resolution, IsPaidOrLate}
+use Rattle.balance_laws.specs.OwnBreaks.{OwnBreaks}
+use Rattle.balance_laws.specs.Own.{HasOwnShare, OwnAreResolved}
 use Rattle.balance_laws.proofs.Apart.{AreApart}
 use Rattle.chain_examples.proofs.SeededChannels.{seeded_terms, seeded_view, seeded_own, back_htlc, paid_htlc, received_htlc, knows_all, seeded}
 use Rattle.chain_examples.proofs.SeededRecorded.{seeded_own_contents, seeded_own_is, seeded_own_named, seeded_own_delayed_program, seeded_own_stage_1_id, seeded_own_stage_1_named}
@@ -132,7 +134,7 @@ least_is = refl
 abbrev WorthOf : Contents → Type 0
 WorthOf c =
     AreWorth (seeded releases) knows_all (counted true knows_all stands c) (fees_counted true knows_all stands c) (counted_msat knows_all A seeded_view) (deductions seeded_terms seeded_view true A knows_all)
-    (λ o. OwnResolution channels chain (IsOwnPaidOrLate c o) o)
+    (λ o. Resolution OwnBreaks channels chain (IsPaidOrLate true c o) o)
 
 worth_of : WorthOf seeded_own_contents
 worth_of = record {

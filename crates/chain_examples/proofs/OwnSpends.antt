@@ -36,7 +36,7 @@ use Rattle.safety.specs.Whereabouts.{IsOnChain}
 use Rattle.safety.specs.Holdings.{Holding, terms_in}
 use Rattle.safety.specs.Premises.{LockedOutput, locks_by, each_input, each_spend, shows_none, newest_revocation, none_revokes}
 use Rattle.safety.specs.Breaks.{IsSpendOn, Breaks}
-use Rattle.safety.specs.Resolutions.{WasReleased}
+use Rattle.safety.specs.Resolutions.{WasReleased, Resolution, unspent, ours, lost, broken, IsPaidOrLate, paid, late}
 use Rattle.safety.proofs.Slots.{contains_first}
 use Rattle.safety.proofs.Lists.{none_some, contains_map, any_holds, both}
 use Rattle.safety.proofs.Tests.{flat_in, all_hold, or_then, on_input, on_spend}
@@ -45,7 +45,6 @@ use Rattle.safety.proofs.Passed.{last_cases}
 use Rattle.safety.proofs.Worked.{at_each}
 use Rattle.balance_laws.specs.OwnBreaks.{IsOwnNewest, IsHashedForHtlcKey, IsOwnPaymentHash, OwnBreaks, by_breaks, by_htlc_keys, by_revocation_key, by_own_preimage}
 use Rattle.balance_laws.specs.Times.{IsTakenBelow}
-use Rattle.balance_laws.specs.Own.{IsOwnPaidOrLate, paid, late, OwnResolution, unspent, ours, lost, broken}
 use Rattle.chain_examples.proofs.Marks.{NoneCollide}
 use Rattle.chain_examples.proofs.Spends.{Naming, naming, digest_over, namings, is_naming, shows, each_shows, items_of}
 
@@ -173,7 +172,7 @@ on_htlc c o x height input i at e =
     any_holds (λ (y : HtlcOutput). same_outpoint o.place.outpoint (record { txid = id_of c; index = y.index }) && is_fair y.direction y.htlc height input) (htlcs_of c) x i
     (both (same_outpoint o.place.outpoint (record { txid = id_of c; index = x.index })) (is_fair x.direction x.htlc height input) here e)
 
-fair_is : (c : Contents) (o : Claimable) (coin : Coin) (height : ℕ) (input : TxIn) → IsOwnPaidOrLate c o coin height input → own_paid_or_late c o height input ≡ true
+fair_is : (c : Contents) (o : Claimable) (coin : Coin) (height : ℕ) (input : TxIn) → IsPaidOrLate true c o coin height input → own_paid_or_late c o height input ≡ true
 fair_is c o coin height input (paid x on d p) =
     on_htlc c o x height input on.among on.at
     (subst (λ (y : Direction). is_fair y x.htlc height input ≡ true) (sym d)
@@ -208,7 +207,7 @@ negated true e f = false≢true e
 negated false e f = false≢true f
 
 -- of a node that released nothing
-pub stolen : (hs : List Holding) (blocks : List Block) (c : Contents) (o : Claimable) → ((t : Transaction) → WasReleased hs t → ⊥) → is_taken_unfairly blocks c o ≡ true → OwnResolution hs blocks (IsOwnPaidOrLate c o) o → OwnBreaks hs blocks
+pub stolen : (hs : List Holding) (blocks : List Block) (c : Contents) (o : Claimable) → ((t : Transaction) → WasReleased hs t → ⊥) → is_taken_unfairly blocks c o ≡ true → Resolution OwnBreaks hs blocks (IsPaidOrLate true c o) o → OwnBreaks hs blocks
 stolen hs blocks c o none e (unspent coin at free) =
     let parts = and_parts (is_named blocks o.place.outpoint) (at_each (is_unfair (own_paid_or_late c o) o) blocks) e in absurd (false≢true (sym free ∙ spent_is blocks o.place.outpoint coin at.there ∙ parts.0))
 stolen hs blocks c o none e (ours height t input n r) = absurd (none t r)

@@ -20,7 +20,8 @@ use Rattle.safety.specs.Holdings.{released}
 use Rattle.safety.proofs.Slots.{contains_cases}
 use Rattle.safety.proofs.Lists.{contains_none}
 use Rattle.safety.proofs.WorkedChannels.{block}
-use Rattle.balance_laws.specs.Own.{IsOwnPaidOrLate, paid, OwnResolution, unspent, ours, lost}
+use Rattle.safety.specs.Resolutions.{Resolution, unspent, ours, lost, IsPaidOrLate, paid}
+use Rattle.balance_laws.specs.OwnBreaks.{OwnBreaks}
 use Rattle.chain_examples.proofs.Recorded.{first_granted, second_granted}
 use Rattle.chain_examples.proofs.SeededChannels.{back_htlc, paid_htlc, received_htlc, seeded, knows_all}
 use Rattle.chain_examples.proofs.SeededRecorded.{seeded_own_id, seeded_own_contents, seeded_own_named, seeded_own_delayed_program, seeded_own_htlc_1_program, seeded_own_stage_0_id, seeded_own_stage_0_named, seeded_own_stage_2_id, seeded_own_stage_2_named}
@@ -45,7 +46,7 @@ local_same : unsigned_transaction claims_local ≡ unsigned_transaction (release
 unfolding number_push minimal_bytes_of digits
 local_same = refl
 
-local_taken : OwnResolution channels chain (IsOwnPaidOrLate seeded_own_contents to_local) to_local
+local_taken : Resolution OwnBreaks channels chain (IsPaidOrLate true seeded_own_contents to_local) to_local
 local_taken =
     ours 3 claims_local claims_local_input (record { stands = local_stands; within = (0, lit< tt, refl); names = refl })
     (record { holding = seeded releases; held = (0, lit< tt, refl); release = local_release; among = (2, lit< tt, refl); same = local_same })
@@ -57,7 +58,7 @@ back = delayed_on seeded_own_contents (place seeded_own_stage_0_id 0 1337 seeded
 back_there : coin_at chain back.place.outpoint ≡ Some (coin 4 1337 seeded_own_delayed_program false)
 back_there = rw (first_granted, second_granted, closes_is, succeeds_is, pays_is, claims_local_is, expires_is) refl
 
-back_unspent : OwnResolution channels chain (IsOwnPaidOrLate seeded_own_contents back) back
+back_unspent : Resolution OwnBreaks channels chain (IsPaidOrLate true seeded_own_contents back) back
 back_unspent = unspent (coin 4 1337 seeded_own_delayed_program false) (record { there = back_there; output = refl }) refl
 
 -- the HTLC that it had offered, which its peer was paid for
@@ -70,7 +71,7 @@ offered_there = rw (first_granted, second_granted, closes_is) refl
 pays_stands : StandsAt chain 2 pays
 pays_stands = record { block = block (pays ∷ succeeds ∷ []); there = refl; within = (0, lit< tt, refl) }
 
-offered_paid : OwnResolution channels chain (IsOwnPaidOrLate seeded_own_contents offered) offered
+offered_paid : Resolution OwnBreaks channels chain (IsPaidOrLate true seeded_own_contents offered) offered
 unfolding htlcs_from
 offered_paid =
     lost (coin 1 3000 seeded_own_htlc_1_program true) (record { there = offered_there; output = refl }) 2 pays pays_input (record { stands = pays_stands; within = (0, lit< tt, refl); names = refl })
@@ -88,7 +89,7 @@ second_same : unsigned_transaction claims_second ≡ unsigned_transaction (relea
 unfolding number_push minimal_bytes_of digits
 second_same = refl
 
-received_taken : OwnResolution channels chain (IsOwnPaidOrLate seeded_own_contents received) received
+received_taken : Resolution OwnBreaks channels chain (IsPaidOrLate true seeded_own_contents received) received
 received_taken =
     ours 4 claims_second claims_second_input (record { stands = second_stands; within = (0, lit< tt, refl); names = refl })
     (record { holding = seeded releases; held = (0, lit< tt, refl); release = second_release; among = (3, lit< tt, refl); same = second_same })
@@ -119,10 +120,10 @@ counted_are =
     ∙ ap (λ (id : List ℕ). claims_at seeded_own_id id (transaction_id (htlc_tx_of seeded_own_contents received_htlc))) seeded_own_stage_0_named
     ∙ ap (claims_at seeded_own_id seeded_own_stage_0_id) seeded_own_stage_2_named
 
-pub each_became : (o : Claimable) → Contains (counted true knows_all stands seeded_own_contents) o → OwnResolution channels chain (IsOwnPaidOrLate seeded_own_contents o) o
+pub each_became : (o : Claimable) → Contains (counted true knows_all stands seeded_own_contents) o → Resolution OwnBreaks channels chain (IsPaidOrLate true seeded_own_contents o) o
 each_became o i = of_these (subst (λ (os : List Claimable). Contains os o) counted_are i)
   where
-    of_these : Contains (back ∷ offered ∷ received ∷ to_local ∷ []) o → OwnResolution channels chain (IsOwnPaidOrLate seeded_own_contents o) o
+    of_these : Contains (back ∷ offered ∷ received ∷ to_local ∷ []) o → Resolution OwnBreaks channels chain (IsPaidOrLate true seeded_own_contents o) o
     of_these j =
         ⊎_elim (λ (e : back ≡ o). became e back_unspent)
         (λ (k : Contains (offered ∷ received ∷ to_local ∷ []) o).
@@ -135,5 +136,5 @@ each_became o i = of_these (subst (λ (os : List Claimable). Contains os o) coun
         (contains_cases offered (received ∷ to_local ∷ []) o k))
         (contains_cases back (offered ∷ received ∷ to_local ∷ []) o j)
       where
-        became : {x : Claimable} → x ≡ o → OwnResolution channels chain (IsOwnPaidOrLate seeded_own_contents x) x → OwnResolution channels chain (IsOwnPaidOrLate seeded_own_contents o) o
-        became e r = subst (λ (y : Claimable). OwnResolution channels chain (IsOwnPaidOrLate seeded_own_contents y) y) e r
+        became : {x : Claimable} → x ≡ o → Resolution OwnBreaks channels chain (IsPaidOrLate true seeded_own_contents x) x → Resolution OwnBreaks channels chain (IsPaidOrLate true seeded_own_contents o) o
+        became e r = subst (λ (y : Claimable). Resolution OwnBreaks channels chain (IsPaidOrLate true seeded_own_contents y) y) e r

@@ -11,10 +11,9 @@ use Rattle.worth_laws.specs.Shares.{Deductions, counted_msat, deductions, none_k
 use Rattle.worth_laws.specs.Counted.{counted, fees_counted}
 use Rattle.safety.specs.Standing.{StandsAt}
 use Rattle.safety.specs.Whereabouts.{IsNamedBy}
-use Rattle.safety.specs.Resolutions.{IsOnHtlc}
+use Rattle.safety.specs.Resolutions.{IsOnHtlc, IsPaidOrLate, late}
 use Rattle.safety.proofs.WorkedChannels.{block}
 use Rattle.balance_laws.specs.Claims.{AreWorth}
-use Rattle.balance_laws.specs.Own.{IsOwnPaidOrLate, late}
 use Rattle.balance_laws.specs.Times.{IsTakenBelow}
 use Rattle.chain_examples.proofs.SeededChannels.{seeded_terms, seeded_view, received_htlc, seeded, knows_all}
 use Rattle.chain_examples.proofs.SeededRecorded.{seeded_own_contents, seeded_own_named}
@@ -149,5 +148,5 @@ on_received : IsOnHtlc seeded_own_contents received_htlc received
 unfolding htlcs_from
 on_received = record { among = (2, lit< tt, refl); at = ap (λ (id : List ℕ). record { txid = id; index = 2 }) (sym seeded_own_named) }
 
-late_above : (coin : Coin) → IsOwnPaidOrLate seeded_own_contents received coin 4 takes_received_input
+late_above : (coin : Coin) → IsPaidOrLate true seeded_own_contents received coin 4 takes_received_input
 late_above coin = late received_htlc on_received refl (lit< tt)

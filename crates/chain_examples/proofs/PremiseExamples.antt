@@ -8,7 +8,7 @@ use Rattle.commit.specs.Commitments.{commitment_of, htlcs_from}
 use Rattle.penalty.specs.Claimable.{claims_by}
 use Rattle.safety.specs.Holdings.{Holding}
 use Rattle.safety.specs.Given.{GivenToken, given_in}
-use Rattle.safety.specs.Premises.{locks_in, keys_in, shows_given, shows_none}
+use Rattle.safety.specs.Premises.{locks_in, keys_in, shows_given, shows_none, secret_keys}
 use Rattle.safety.specs.Ledgers.{keeps_locks}
 use Rattle.safety.proofs.WorkedChannels.{first_terms, second_terms, first_opened, first_newest, first_own, second_opened, second_own, sweep, state, holding}
 
@@ -145,3 +145,8 @@ outputs = refl
 keys : length (keys_in first) ≡ 9
 unfolding commitment_of
 keys = refl
+
+-- with the revocation key of the newest own one
+secret : length (secret_keys (first ∷ [])) ≡ 10
+unfolding commitment_of
+secret = refl

@@ -36,7 +36,7 @@ use Rattle.channel.specs.Tokens.{contents_of}
 use Rattle.safety.specs.Whereabouts.{IsOnChain}
 use Rattle.safety.specs.Holdings.{Holding}
 use Rattle.safety.specs.Closers.{IsCloser, revoked, newest, next, own}
-use Rattle.safety.specs.Everybody.{ChannelStands, absent, unclosed, closed, broken}
+use Rattle.safety.specs.Everybody.{ChannelStands, unclosed, closed, broken}
 use Rattle.safety.proofs.Lists.{none_some, some_is}
 use Rattle.safety.proofs.Tests.{all_hold}
 use Rattle.safety.proofs.Standing.{block_in}
@@ -101,7 +101,6 @@ no_closer k (next awaits there) on = false≢true awaits
 no_closer k (own at there) on = let e : 0 ≡ 1 = some_is 0 1 at in omega (arith, e)
 
 stands_nowhere : ChannelStands (channel ∷ []) chain channel → ⊥
-stands_nowhere (absent e) = none_some (record { output = funded first_terms; height = 0; spent = true }) (sym e ∙ spent)
 stands_nowhere (unclosed coin at free ready) = false≢true (sym free ∙ ap (λ (x : Coin). x.spent) (sym (some_is (record { output = funded first_terms; height = 0; spent = true }) coin (sym spent ∙ at))))
 stands_nowhere (closed k closer on held) = no_closer k closer on
 stands_nowhere (broken b) = nothing_breaks (channel ∷ []) chain (and_parts (is_worked (channel ∷ []) chain) is_lost passed).0 b

@@ -1,5 +1,5 @@
 -- The inputs of a chain that name outputs of a node's channels, as a list; and by it what the laws on one node against everybody ask of tokens, and that nothing is broken.
-use Rattle.std.proofs.Common.{◌≡◌, ℕ, Bool, true, false, List, [], ◌∷◌, ◌++◌, map, sym, ap, ◌∙◌, refl, subst, ⊎_elim, arith}
+use Rattle.std.proofs.Common.{◌≡◌, ℕ, Bool, true, false, List, [], ◌∷◌, ◌++◌, map, sym, ap, ◌∙◌, refl, subst, inl, inr, ⊎_elim, arith}
 use Rattle.std.specs.Prelude.{◌&&◌}
 use Rattle.std.specs.List.{Contains, list_all, flat_map}
 use Rattle.std.proofs.lemmas.Bool.{false≢true, and_parts}
@@ -23,11 +23,11 @@ use Rattle.channel.specs.Tokens.{contents_of}
 use Rattle.safety.specs.Signing.{Signed, list_of, digest_of, ListsCollide, wholes, outpoints, sequences, outputs}
 use Rattle.safety.specs.Standing.{StandsAt}
 use Rattle.safety.specs.Recorded.{of_commitment, of_htlc}
-use Rattle.safety.specs.Strings.{IsHashedForCommitment, of_transaction, of_to_local, of_htlc_script, of_payment_key, of_revocation_key, of_htlc_key, CollideBy, by_sha256, by_sha256d, by_hash160}
+use Rattle.safety.specs.Strings.{IsHashedForCommitment, of_transaction, of_to_local, of_htlc_script, of_payment_key, of_revocation_key, of_htlc_key}
 use Rattle.safety.specs.Holdings.{Holding, terms_in}
 use Rattle.safety.specs.Given.{GivenToken, token_bytes, given_by}
 use Rattle.safety.specs.Premises.{LockedOutput, spend, locks_by, keys_by, each_input, if_named, each_spend, shows_given, are_own}
-use Rattle.safety.specs.Breaks.{IsSpendOn, IsHashedForPeers, IsPaymentHash, Breaks, by_strings, by_script, by_key, by_digest, by_preimage}
+use Rattle.safety.specs.Breaks.{IsSpendOn, IsHashedForId, IsHashedForKey, IsForPeers, IsPaymentHash, Breaks, by_ids, by_keys, by_script, by_key, by_digest, by_preimage}
 use Rattle.safety.proofs.Slots.{contains_first, contains_later, contains_cases}
 use Rattle.safety.proofs.Lists.{contained, contains_none, contains_map, both}
 use Rattle.safety.proofs.Tests.{flat_in, on_input, on_spend}
@@ -194,19 +194,27 @@ is_string terms k bytes (of_payment_key f) = in_own terms k bytes (2, omega arit
 is_string terms k bytes (of_revocation_key f) = in_own terms k bytes (3, omega arith, sym f)
 is_string terms k bytes (of_htlc_key f) = in_own terms k bytes (4, omega arith, sym f)
 
-peers_string : (hs : List Holding) (bytes : List ℕ) → IsHashedForPeers hs bytes → Contains (strings_in hs) bytes
-peers_string hs bytes p =
+peers_string : (IsHashed : Terms → CommitmentState → List ℕ → Type 0) → ((terms : Terms) (k : CommitmentState) (bytes : List ℕ) → IsHashed terms k bytes → Contains (strings_of terms k) bytes)
+    → (hs : List Holding) (bytes : List ℕ) → IsForPeers IsHashed hs bytes → Contains (strings_in hs) bytes
+peers_string IsHashed is_one hs bytes p =
     flat_in (λ (h : Holding). flat_map (strings_of (terms_in h)) h.state.signed) hs p.holding bytes p.held
     (flat_in (strings_of (terms_in p.holding)) p.holding.state.signed p.commitment bytes (contained p.holding.state.signed p.number p.commitment p.signed)
-    (is_string (terms_in p.holding) p.commitment bytes p.hashed))
+    (is_one (terms_in p.holding) p.commitment bytes p.is))
 
-is_payment_hash : (hs : List Holding) (hash : List ℕ) → IsPaymentHash hs hash → Contains (payment_hashes hs) hash
+for_id : (terms : Terms) (k : CommitmentState) (bytes : List ℕ) → IsHashedForId terms k bytes → Contains (strings_of terms k) bytes
+for_id terms k bytes i = is_string terms k bytes (of_transaction i.0 i.1 i.2)
+
+for_key : (terms : Terms) (k : CommitmentState) (bytes : List ℕ) → IsHashedForKey terms k bytes → Contains (strings_of terms k) bytes
+for_key terms k bytes (inl e) = is_string terms k bytes (of_revocation_key e)
+for_key terms k bytes (inr e) = is_string terms k bytes (of_htlc_key e)
+
+is_payment_hash : (hs : List Holding) (hash : List ℕ) → IsForPeers IsPaymentHash hs hash → Contains (payment_hashes hs) hash
 is_payment_hash hs hash p =
     flat_in (λ (h : Holding). flat_map (λ (k : CommitmentState). map (λ (x : HtlcOutput). x.htlc.hash) (htlcs_of (contents_of (terms_in h) k))) h.state.signed) hs p.holding hash p.held
     (flat_in (λ (k : CommitmentState). map (λ (x : HtlcOutput). x.htlc.hash) (htlcs_of (contents_of (terms_in p.holding) k))) p.holding.state.signed p.commitment hash
     (contained p.holding.state.signed p.number p.commitment p.signed)
-    (subst (λ (h : List ℕ). Contains (map (λ (x : HtlcOutput). x.htlc.hash) (htlcs_of (contents_of (terms_in p.holding) p.commitment))) h) (sym p.is)
-    (contains_map (λ (x : HtlcOutput). x.htlc.hash) (htlcs_of (contents_of (terms_in p.holding) p.commitment)) p.htlc p.among)))
+    (subst (λ (h : List ℕ). Contains (map (λ (x : HtlcOutput). x.htlc.hash) (htlcs_of (contents_of (terms_in p.holding) p.commitment))) h) (sym p.is.2)
+    (contains_map (λ (x : HtlcOutput). x.htlc.hash) (htlcs_of (contents_of (terms_in p.holding) p.commitment)) p.is.0 p.is.1)))
 
 -- ---- nothing is broken
 
@@ -278,11 +286,6 @@ module _ (hs : List Holding) (blocks : List Block) (keys : List (List ℕ)) (giv
       ap (λ (code : List ℕ). record { transaction = s.transaction; input = s.input; code = code; value = s.value }) on.code
       ∙ ap (λ (value : ℕ). record { transaction = s.transaction; input = s.input; code = on.lock.code; value = value }) on.value
 
-  strings : (a b : List ℕ) → Contains (strings_in hs) a → Contains (strings_in hs) b → CollideBy a b → ⊥
-  strings a b i j (by_sha256 c) = whole.once a b i j c
-  strings a b i j (by_sha256d c) = whole.twice a b i j c
-  strings a b i j (by_hash160 c) = whole.short a b i j c
-
   digests : (m : Naming) (z : GivenToken) → Contains ns m → Contains given z → ListsCollide (over m) z.over → ⊥
   digests m z i j (wholes c) =
       whole.lists (list_of (over m)) (list_of z.over) (contains_map (λ (x : Naming). list_of (over x)) ns m i) (contains_map (λ (x : GivenToken). list_of x.over) given z j) c
@@ -294,7 +297,8 @@ module _ (hs : List Holding) (blocks : List Block) (keys : List (List ℕ)) (giv
       whole.payments (outputs_paid (over m)) (outputs_paid z.over) (contains_map (λ (x : Naming). outputs_paid (over x)) ns m i) (contains_map (λ (x : GivenToken). outputs_paid x.over) given z j) c
 
   pub whole_chain : Breaks hs blocks → ⊥
-  whole_chain (by_strings z) = strings z.first z.second (peers_string hs z.first z.of_first) (peers_string hs z.second z.of_second) z.collide
+  whole_chain (by_ids z) = whole.twice z.first z.second (peers_string IsHashedForId for_id hs z.first z.of_first) (peers_string IsHashedForId for_id hs z.second z.of_second) z.collide
+  whole_chain (by_keys z) = whole.once z.first z.second (peers_string IsHashedForKey for_key hs z.first z.of_first) (peers_string IsHashedForKey for_key hs z.second z.of_second) z.collide
   whole_chain (by_script s on z) =
       whole.scripts z.first z.second (item_in s on z.first z.of_first)
       (subst (λ (x : List ℕ). Contains (codes_of ns) x) (sym (z.of_second ∙ on.code)) (contains_map (λ (m : Naming). m.lock.code) ns (it s on) (named s on))) z.collide

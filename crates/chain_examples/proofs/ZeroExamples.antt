@@ -35,6 +35,7 @@ use Rattle.claim.specs.declared.parts.Place.{Place}
 use Rattle.safety.specs.Signing.{digest_of}
 use Rattle.safety.specs.Fates.{htlc_signed}
 use Rattle.safety.specs.Holdings.{Holding}
+use Rattle.safety.specs.Breaks.{Breaks}
 use Rattle.safety.specs.Resolutions.{Resolution, IsPaidOrLate}
 use Rattle.safety.proofs.Worked.{keeps_numbers, keeps_rules, paid_or_late, is_stolen, stolen_claim}
 use Rattle.safety.proofs.Examples.{key}
@@ -89,7 +90,7 @@ breaks_rules =
     let b = and_parts (keeps_numbers channel.state && not (keeps_rules channel)) (is_stolen (channel ∷ []) chain (paid_or_late c claim) claim) a.1 in
     no (keeps_rules channel) (and_parts (keeps_numbers channel.state) (not (keeps_rules channel)) b.0).1
 
-lost : Resolution (channel ∷ []) chain (IsPaidOrLate c claim) claim → ⊥
+lost : Resolution Breaks (channel ∷ []) chain (IsPaidOrLate false c claim) claim → ⊥
 lost r =
     let a = and_parts (is_worked (channel ∷ []) chain) is_lost passed in
     let b = and_parts (keeps_numbers channel.state && not (keeps_rules channel)) (is_stolen (channel ∷ []) chain (paid_or_late c claim) claim) a.1 in

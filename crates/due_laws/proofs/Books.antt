@@ -49,9 +49,9 @@ told history c ch preimages known is numbered long = record {
 }
 
 pub books_have_dues : BasesAreOwn → BooksKeepRules → ClosersAreJudged → DuesAreCounted → DuesAreFillable → FillingsPass → BooksHaveDues
-books_have_dues bases keep judged counted fillable pass tokens_of history c ch careful preimages known is numbered long =
+books_have_dues bases keep judged counted fillable pass history c ch careful preimages known is numbered long =
     let h : Holding = holding_of history c ch in
-    let r = (keep tokens_of history c ch careful).each.0 in
+    let r = (keep history c ch careful).each.0 in
     let owns : OwnsBases h = bases history c ch careful.there in
     let w = told history c ch preimages known is numbered long in
     record { judged = judged h r known w; counted = counted h r known w; fillable = fillable h r owns known w; pass = pass h r owns known w }

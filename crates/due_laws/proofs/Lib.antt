@@ -11,3 +11,4 @@ mod DueExamples
 mod WorkedExamples
 mod WorkedPassing
 mod BookExamples
+mod RoundsDues

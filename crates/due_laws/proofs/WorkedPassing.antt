@@ -49,7 +49,9 @@ use Rattle.safety.specs.Standing.{StandsAt}
 use Rattle.safety.specs.Given.{commitment_signed}
 use Rattle.safety.specs.Holdings.{IsOnRecorded}
 use Rattle.safety.specs.Passing.{HasTwinOn}
+use Rattle.safety.specs.Recorded.{of_commitment}
 use Rattle.safety.proofs.Handed.{peers_payable, commitment_signable}
+use Rattle.safety.proofs.Recorded.{recorded_limits}
 use Rattle.safety.proofs.Lists.{contains_none}
 use Rattle.safety.proofs.Places.{contains_one}
 use Rattle.safety.proofs.Standing.{block_in}
@@ -181,6 +183,9 @@ may_be_filled any w = record { some = omega arith; due = (its_due any, tt); whol
 its_parts : IsSignable (commitment_signed terms first_newest)
 its_parts = commitment_signable terms first_newest (peers_payable channel keeps 1 first_newest refl).payable
 
+its_limits : KeepsLimits (transaction_of (contents_of terms first_newest))
+its_limits = recorded_limits terms first_newest (peers_payable channel keeps 1 first_newest refl).payable (transaction_of (contents_of terms first_newest)) (of_commitment refl)
+
 token_bounded : (key digest : List ℕ) → is_key key ≡ true → length digest ≡ 32 → length (token_of key digest) ≤ 10000
 token_bounded key digest k l = omega (arith, key-length key k, token-length key digest l)
 
@@ -211,8 +216,8 @@ closed_keeps = record {
       tt,
     );
   };
-  outputs = its_parts.transaction.outputs;
-  lock_time = its_parts.transaction.lock_time;
+  outputs = its_limits.outputs;
+  lock_time = its_limits.lock_time;
 }
 
 abbrev closing_block : Block

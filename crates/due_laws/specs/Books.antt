@@ -43,7 +43,7 @@ pub record AreInHand (h : Holding) (known : Known) : Type 0 where
 -- has 32 bytes
 abbrev pub BooksHaveDues : Type 0
 BooksHaveDues =
-    (tokens_of : Signing) (history : List Entry) (c : ℕ) (ch : ChannelBook) → IsCareful tokens_of history c ch
+    (history : List Entry) (c : ℕ) (ch : ChannelBook) → IsCareful history c ch
     → (preimages : List (List ℕ)) (known : Known) → IsKnownOf ch.state (is_kept ch.kept) preimages known → AreNumbered known.revoked → AllByRecursion (λ x. length x ≡ 32) known.preimages
     → AreInHand (holding_of history c ch) known
 

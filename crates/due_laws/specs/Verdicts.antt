@@ -22,7 +22,8 @@ verdict_by s k (next e at) = TheirsNext
 verdict_by s k (own at) = Ours
 
 -- The verdict on a transaction of a commitment is that one. Where the node's own newest commitment has the same transaction, it is Ours. Two commitments of one number have one transaction if they have no output. They have one
--- too if each pays the same amount to the payment key of its owner's peer, and nothing else, and both sides have one payment base key. No law says that these are all the cases: `as_own` asks for no reason why the two are the same
+-- too if each pays the same amount to the payment key of its owner's peer, and nothing else, and both sides have one payment base key. No law says that these are all the cases: `as_own` asks for no reason why the two are the same.
+-- What is due then is what the node counts on of its own commitment. An output that is to_remote of both is the peer's there, and not due
 pub data IsJudged (h : Holding) (known : Known) (t : Transaction) (k : CommitmentState) (m : MayClose h.state k) : Type 0 where
   rightly : verdict_of known t ≡ verdict_by h.state k m → IsJudged h known t k m
   as_own : (o : CommitmentState) → slice_get h.state.mine h.state.number ≡ Some o → transaction_of (contents_of (terms_in h) o) ≡ transaction_of (contents_of (terms_in h) k) → verdict_of known t ≡ Ours

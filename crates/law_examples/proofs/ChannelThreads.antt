@@ -10,7 +10,7 @@ use Rattle.book.specs.declared.calls.Call.{Call}
 use Rattle.book.specs.declared.calls.Call.TheVariants.{Sign as Signing, Close as Closing}
 use Rattle.book.specs.declared.calls.Entry.{Entry}
 use Rattle.book.specs.Replies.{revoked}
-use Rattle.side.specs.Acts.{call_of}
+use Rattle.book.specs.Acts.{call_of}
 use Rattle.jobs.specs.Ends.{hand_of}
 use Rattle.desk.specs.declared.desk.Seat.{Seat}
 use Rattle.desk.specs.Histories.{History}

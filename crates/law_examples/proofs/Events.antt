@@ -28,7 +28,7 @@ use Rattle.book.specs.Penalties.{is_penalty_set}
 use Rattle.book.specs.Replies.{Reply, is_accepted, reply_of, history_after, extended, kept, released}
 use Rattle.book.specs.Calls.{IsBatchOf}
 use Rattle.book.specs.Knowing.{preimages_in}
-use Rattle.side.specs.Acts.{call_of, messages_in}
+use Rattle.book.specs.Acts.{call_of, messages_in}
 use Rattle.side.specs.declared.due.DueClaim.{DueClaim}
 use Rattle.side.specs.Batches.{are_of, claims_in, preimages_for}
 use Rattle.world.specs.declared.errors.EventError.{EventError}

@@ -30,7 +30,7 @@ use Rattle.safety.specs.Breaks.{Breaks}
 use Rattle.safety.specs.Closers.{IsCloser, revoked, newest, next, own, IsClosedBy, by_commitment, by_collision}
 use Rattle.safety.specs.Passing.{HasTwinOn, CanClose, IsReady}
 use Rattle.safety.specs.Resolutions.{Resolution, unspent, IsSlept, AreResolved, IsPaidOrLate}
-use Rattle.safety.specs.Everybody.{PeersHold, ChannelStands, absent, unclosed, closed, broken, IsAllThere}
+use Rattle.safety.specs.Everybody.{PeersHold, ChannelStands, unclosed, closed, broken, IsAllThere}
 use Rattle.safety.proofs.Lists.{none_some, contains_none}
 use Rattle.law_examples.proofs.Ones.{only, none_at, with_it, stands_there, alone_there, nothing_stands}
 use Rattle.law_examples.proofs.Resolutions.{Apart, one_apart, to_local, local_alone, no_htlcs}
@@ -188,14 +188,14 @@ module _ (hs : List Holding) (blocks : List Block) (h : Holding) (k : Commitment
   remote_is_unspent : AreResolved hs blocks (contents_of (terms_in h) k) → (coin : Coin) → IsCoinOf blocks to_remote coin → coin.spent ≡ false → PeersHold hs blocks h k
   remote_is_unspent r coin at free = record {
     penalties = r;
-    claims = λ o i. subst (λ (p : Claimable). Resolution hs blocks (IsPaidOrLate (contents_of (terms_in h) k) p) p) (is_remote o i) (unspent coin at free);
+    claims = λ o i. subst (λ (p : Claimable). Resolution Breaks hs blocks (IsPaidOrLate false (contents_of (terms_in h) k) p) p) (is_remote o i) (unspent coin at free);
   }
 
   remote_claim : IsPeersClaim (contents_of (terms_in h) k) to_remote
   remote_claim = payment 0 out (record { there = ap (λ (os : List CommitmentOutput). slice_get os 0) there; kind = kind }) refl
 
   -- no: PeersHold
-  remote_is_lost : (Resolution hs blocks (IsPaidOrLate (contents_of (terms_in h) k) to_remote) to_remote → ⊥) → PeersHold hs blocks h k → ⊥
+  remote_is_lost : (Resolution Breaks hs blocks (IsPaidOrLate false (contents_of (terms_in h) k) to_remote) to_remote → ⊥) → PeersHold hs blocks h k → ⊥
   remote_is_lost n p = n (p.claims to_remote remote_claim)
 
   -- no: PeersHold
@@ -204,9 +204,11 @@ module _ (hs : List Holding) (blocks : List Block) (h : Holding) (k : Commitment
 
 -- ---- how a channel stands
 
--- yes: ChannelStands
-not_yet_opened : (hs : List Holding) (h : Holding) → ChannelStands hs [] h
-not_yet_opened hs h = absent refl
+-- no: ChannelStands
+not_yet_opened : (hs : List Holding) (h : Holding) → (Breaks hs [] → ⊥) → ChannelStands hs [] h → ⊥
+not_yet_opened hs h whole (unclosed coin at free ready) = none_some coin at
+not_yet_opened hs h whole (closed k c on p) = nothing_stands on.height on.signed on.stands
+not_yet_opened hs h whole (broken b) = whole b
 
 module _ (hs : List Holding) (blocks : List Block) (h : Holding) (coin : Coin) (there : coin_at blocks (terms_in h).funding ≡ Some coin) where
   -- yes: ChannelStands
@@ -229,7 +231,6 @@ module _ (hs : List Holding) (blocks : List Block) (h : Holding) (coin : Coin) (
   module _ (whole : Breaks hs blocks → ⊥) where
     -- no: ChannelStands
     open_but_not_ready : ((k : CommitmentState) → IsCloser h k → IsOnChain blocks (transaction_of (contents_of (terms_in h) k)) → ⊥) → (IsReady blocks h → ⊥) → ChannelStands hs blocks h → ⊥
-    open_but_not_ready n r (absent e) = none_some coin (sym e ∙ there)
     open_but_not_ready n r (unclosed c at free ready) = r ready
     open_but_not_ready n r (closed k c on p) = n k c on
     open_but_not_ready n r (broken b) = whole b
@@ -237,7 +238,6 @@ module _ (hs : List Holding) (blocks : List Block) (h : Holding) (coin : Coin) (
     -- a stranger took the funding output
     -- no: ChannelStands
     taken_by_no_commitment : coin.spent ≡ true → ((k : CommitmentState) → IsCloser h k → IsOnChain blocks (transaction_of (contents_of (terms_in h) k)) → ⊥) → ChannelStands hs blocks h → ⊥
-    taken_by_no_commitment e n (absent f) = none_some coin (sym f ∙ there)
     taken_by_no_commitment e n (unclosed c at free ready) = true≢false (sym e ∙ ap (λ (x : Coin). x.spent) (same_Some coin c (sym there ∙ at)) ∙ free)
     taken_by_no_commitment e n (closed k c on p) = n k c on
     taken_by_no_commitment e n (broken b) = whole b
@@ -246,7 +246,6 @@ module _ (hs : List Holding) (blocks : List Block) (h : Holding) (coin : Coin) (
     -- no: ChannelStands
     outputs_are_lost : coin.spent ≡ true → (k : CommitmentState) (i : ℕ) → slice_get h.state.signed i ≡ Some k
         → ((m : CommitmentState) → IsOnChain blocks (transaction_of (contents_of (terms_in h) m)) → k ≡ m) → (PeersHold hs blocks h k → ⊥) → ChannelStands hs blocks h → ⊥
-    outputs_are_lost e k i signed one n (absent f) = none_some coin (sym f ∙ there)
     outputs_are_lost e k i signed one n (unclosed c at free ready) = true≢false (sym e ∙ ap (λ (x : Coin). x.spent) (same_Some coin c (sym there ∙ at)) ∙ free)
     outputs_are_lost e k i signed one n (closed m c on p) = n (subst (PeersHold hs blocks h) (sym (one m on)) (p i (signed ∙ ap Some (one m on))))
     outputs_are_lost e k i signed one n (broken b) = whole b
@@ -280,7 +279,7 @@ module _ (s : RevokedState) (out : CommitmentOutput) (there : (commitment_in s).
       claimable = subst (AllByRecursion (Contains (claimable_of s))) (sym (local_alone (commitment_in s) out there kind none_stands)) (subst (λ (os : List Claimable). Contains os its_local) (sym claimable_alone) (0, lit< tt, refl), tt);
       apart = subst (AllPairs Apart) (sym (local_alone (commitment_in s) out there kind none_stands)) (one_apart its_local);
       worth = worth e;
-      each = λ o i. subst (λ (p : Claimable). Resolution hs blocks (IsSlept (commitment_in s) p) p) (only its_local o (subst (λ (os : List Claimable). Contains os o) (local_alone (commitment_in s) out there kind none_stands) i)) (unspent coin at free);
+      each = λ o i. subst (λ (p : Claimable). Resolution Breaks hs blocks (IsSlept (commitment_in s) p) p) (only its_local o (subst (λ (os : List Claimable). Contains os o) (local_alone (commitment_in s) out there kind none_stands) i)) (unspent coin at free);
     }
 
     -- no: IsAllThere
@@ -293,7 +292,7 @@ module _ (s : RevokedState) (out : CommitmentOutput) (there : (commitment_in s).
     with_another_fee hs blocks a e f = let w = a.worth in omega (arith, fee, dust, rounded, capacity, e, f, w)
 
   -- no: IsAllThere
-  one_is_lost : (hs : List Holding) (blocks : List Block) → (Resolution hs blocks (IsSlept (commitment_in s) its_local) its_local → ⊥) → IsAllThere hs blocks s → ⊥
+  one_is_lost : (hs : List Holding) (blocks : List Block) → (Resolution Breaks hs blocks (IsSlept (commitment_in s) its_local) its_local → ⊥) → IsAllThere hs blocks s → ⊥
   one_is_lost hs blocks n a = n (a.each its_local (subst (λ (os : List Claimable). Contains os its_local) (sym (local_alone (commitment_in s) out there kind a.stands)) (0, lit< tt, refl)))
 
 module _ (hs : List Holding) (blocks : List Block) (s : RevokedState) where

@@ -40,7 +40,7 @@ use Rattle.book.specs.Calling.{filling_by}
 use Rattle.book.specs.Guarding.{is_guarded, ArePenaltiesIn}
 use Rattle.book.specs.Penalties.{claimable_in}
 use Rattle.book.specs.Replies.{is_accepted, reply_of}
-use Rattle.side.specs.Acts.{call_of}
+use Rattle.book.specs.Acts.{call_of}
 use Rattle.side.specs.declared.due.DueClaim.{DueClaim}
 use Rattle.world.specs.declared.errors.EventError.{EventError}
 use Rattle.world.specs.declared.errors.EventError.TheVariants.{NoSuchChannel, NoMessage, NoSuchTx, ChannelClosed}

@@ -11,7 +11,7 @@ use Rattle.book.specs.declared.calls.Entry.{Entry}
 use Rattle.book.specs.Accepted.{all_accepted}
 use Rattle.book.specs.Guarding.{is_guarded}
 use Rattle.book.specs.Replies.{Reply, revoked, is_accepted, reply_of, extended, history_after}
-use Rattle.side.specs.Acts.{messages_in}
+use Rattle.book.specs.Acts.{messages_in}
 use Rattle.jobs.specs.declared.rule.Hand.{Hand}
 use Rattle.jobs.specs.Steps.{IsPut}
 use Rattle.desk.specs.declared.desk.Desk.{Desk}

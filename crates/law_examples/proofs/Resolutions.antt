@@ -97,22 +97,22 @@ module _ (c : Contents) (o : Claimable) (coin : Coin) (input : TxIn) (htlc : Htl
   -- the node had offered it: with the preimage, in any block
   module _ (only_one : htlcs_of c ≡ third Received ∷ []) where
     -- yes: IsPaidOrLate
-    paid_early : o.place.outpoint ≡ output 2 → ShowsPreimage input.witness htlc.hash → IsPaidOrLate c o coin 1 input
+    paid_early : o.place.outpoint ≡ output 2 → ShowsPreimage input.witness htlc.hash → IsPaidOrLate false c o coin 1 input
     paid_early e p = paid (third Received) (on_third Received only_one e) refl p
 
     -- no: IsPaidOrLate
-    unpaid_after_its_expiry : (ShowsPreimage input.witness htlc.hash → ⊥) → IsPaidOrLate c o coin 501 input → ⊥
+    unpaid_after_its_expiry : (ShowsPreimage input.witness htlc.hash → ⊥) → IsPaidOrLate false c o coin 501 input → ⊥
     unpaid_after_its_expiry n (paid x on d p) = n (subst (λ (y : HtlcOutput). ShowsPreimage input.witness y.htlc.hash) (sym (is_third Received only_one x on.among)) p)
     unpaid_after_its_expiry n (late x on d l) = true≢false (ap is_offered (sym d ∙ sym (ap (λ (y : HtlcOutput). y.direction) (is_third Received only_one x on.among))))
 
   -- the peer had offered it: above the expiry, whatever is shown
   module _ (only_one : htlcs_of c ≡ third Offered ∷ []) where
     -- yes: IsPaidOrLate
-    late_above_its_expiry : o.place.outpoint ≡ output 2 → IsPaidOrLate c o coin 501 input
+    late_above_its_expiry : o.place.outpoint ≡ output 2 → IsPaidOrLate false c o coin 501 input
     late_above_its_expiry e = late (third Offered) (on_third Offered only_one e) refl (omega (arith, expiry_height))
 
     -- no: IsPaidOrLate
-    taken_at_its_expiry : IsPaidOrLate c o coin 500 input → ⊥
+    taken_at_its_expiry : IsPaidOrLate false c o coin 500 input → ⊥
     taken_at_its_expiry (paid x on d p) = true≢false (ap is_offered (ap (λ (y : HtlcOutput). y.direction) (is_third Offered only_one x on.among) ∙ d))
     taken_at_its_expiry (late x on d l) =
         let e : 500 ≡ x.htlc.expiry_height = sym expiry_height ∙ ap (λ (y : HtlcOutput). y.htlc.expiry_height) (is_third Offered only_one x on.among) in
@@ -120,7 +120,7 @@ module _ (c : Contents) (o : Claimable) (coin : Coin) (input : TxIn) (htlc : Htl
 
   -- to_remote, and whatever else is no HTLC
   -- no: IsPaidOrLate
-  of_another_output : (direction : Direction) → htlcs_of c ≡ third direction ∷ [] → o.place.outpoint ≡ output 3 → ShowsPreimage input.witness htlc.hash → IsPaidOrLate c o coin 501 input → ⊥
+  of_another_output : (direction : Direction) → htlcs_of c ≡ third direction ∷ [] → o.place.outpoint ≡ output 3 → ShowsPreimage input.witness htlc.hash → IsPaidOrLate false c o coin 501 input → ⊥
   of_another_output direction only_one e p (paid x on d q) = on_fourth direction only_one e (subst (λ (y : HtlcOutput). IsOnHtlc c y o) (sym (is_third direction only_one x on.among)) on)
   of_another_output direction only_one e p (late x on d l) = on_fourth direction only_one e (subst (λ (y : HtlcOutput). IsOnHtlc c y o) (sym (is_third direction only_one x on.among)) on)
 
@@ -155,25 +155,25 @@ module _ (h : Holding) (o : Claimable) (Lost : Coin → ℕ → TxIn → Type 0)
   named_now = record { stands = taker_stands out outputs witness; within = (0, lit< tt, refl); names = sym at }
 
   -- yes: Resolution
-  still_there : out ≡ output_at o.place → Resolution (h ∷ []) (granting out) Lost o
+  still_there : out ≡ output_at o.place → Resolution Breaks (h ∷ []) (granting out) Lost o
   still_there e = unspent (coin_from out 1) (record { there = ap (coin_at (granting out)) at ∙ granted_there out; output = e }) refl
 
   -- yes: Resolution
-  taken_by_the_node : WasReleased (h ∷ []) (taker out outputs witness) → Resolution (h ∷ []) chain Lost o
+  taken_by_the_node : WasReleased (h ∷ []) (taker out outputs witness) → Resolution Breaks (h ∷ []) chain Lost o
   taken_by_the_node r = ours 2 (taker out outputs witness) (naming out outputs witness) named_now r
 
   -- by the height of the input's block, and by the coin of the output's
   -- yes: Resolution
-  taken_fairly : out ≡ output_at o.place → Lost (record { output = out; height = 1; spent = true }) 2 (naming out outputs witness) → Resolution (h ∷ []) chain Lost o
+  taken_fairly : out ≡ output_at o.place → Lost (record { output = out; height = 1; spent = true }) 2 (naming out outputs witness) → Resolution Breaks (h ∷ []) chain Lost o
   taken_fairly e l = lost (record { output = out; height = 1; spent = true }) (record { there = taken_now; output = e }) 2 (taker out outputs witness) (naming out outputs witness) named_now l
 
   -- yes: Resolution
-  strings_collide : Breaks (h ∷ []) chain → Resolution (h ∷ []) chain Lost o
+  strings_collide : Breaks (h ∷ []) chain → Resolution Breaks (h ∷ []) chain Lost o
   strings_collide b = broken b
 
   -- a stranger took it, where nothing is lost
   -- no: Resolution
-  taken_by_a_stranger : h.releases ≡ [] → (Breaks (h ∷ []) chain → ⊥) → Resolution (h ∷ []) chain (λ coin height input. ⊥) o → ⊥
+  taken_by_a_stranger : h.releases ≡ [] → (Breaks (h ∷ []) chain → ⊥) → Resolution Breaks (h ∷ []) chain (λ coin height input. ⊥) o → ⊥
   taken_by_a_stranger e n (unspent coin c free) =
       let s : true ≡ coin.spent = ap (λ (x : Coin). x.spent) (same_Some (record { output = out; height = 1; spent = true }) coin (sym taken_now ∙ c.there)) in
       true≢false (s ∙ free)
@@ -182,7 +182,7 @@ module _ (h : Holding) (o : Claimable) (Lost : Coin → ℕ → TxIn → Type 0)
   taken_by_a_stranger e n (broken b) = n b
 
 -- no: Resolution
-nowhere_to_be_found : (hs : List Holding) (Lost : Coin → ℕ → TxIn → Type 0) (o : Claimable) → (Breaks hs [] → ⊥) → ((t : Transaction) → WasReleased hs t → ⊥) → Resolution hs [] Lost o → ⊥
+nowhere_to_be_found : (hs : List Holding) (Lost : Coin → ℕ → TxIn → Type 0) (o : Claimable) → (Breaks hs [] → ⊥) → ((t : Transaction) → WasReleased hs t → ⊥) → Resolution Breaks hs [] Lost o → ⊥
 nowhere_to_be_found hs Lost o n none (unspent coin c free) = none_some coin c.there
 nowhere_to_be_found hs Lost o n none (ours height t input i r) = none t r
 nowhere_to_be_found hs Lost o n none (lost coin c height t input i l) = none_some coin c.there
@@ -215,11 +215,11 @@ module _ (c : Contents) (out : CommitmentOutput) (there : c.outputs ≡ out ∷ 
     stands = λ n. false;
     those = λ x i. absurd (contains_none x (subst (λ (xs : List HtlcOutput). Contains xs x) no_htlcs i));
     apart = subst (AllPairs Apart) (sym (local_alone (λ n. false))) (one_apart to_local);
-    each = λ o i. subst (λ (p : Claimable). Resolution hs blocks (IsSlept c p) p) (only to_local o (subst (λ (os : List Claimable). Contains os o) (local_alone (λ n. false)) i)) (unspent coin at free);
+    each = λ o i. subst (λ (p : Claimable). Resolution Breaks hs blocks (IsSlept c p) p) (only to_local o (subst (λ (os : List Claimable). Contains os o) (local_alone (λ n. false)) i)) (unspent coin at free);
   }
 
   -- no: AreResolved
-  local_is_lost : (hs : List Holding) (blocks : List Block) → (Resolution hs blocks (IsSlept c to_local) to_local → ⊥) → AreResolved hs blocks c → ⊥
+  local_is_lost : (hs : List Holding) (blocks : List Block) → (Resolution Breaks hs blocks (IsSlept c to_local) to_local → ⊥) → AreResolved hs blocks c → ⊥
   local_is_lost hs blocks n r = n (r.each to_local (subst (λ (os : List Claimable). Contains os to_local) (sym (local_alone r.stands)) (0, lit< tt, refl)))
 
 -- a commitment with the output of an HTLC alone
@@ -255,16 +255,16 @@ module _ (c : Contents) (out : CommitmentOutput) (direction : Direction) (htlc :
       stands = λ n. true;
       those = λ x i. ((λ e. subst (λ (y : HtlcOutput). IsOnChain blocks (htlc_tx_of c y)) (only it x (subst (λ (xs : List HtlcOutput). Contains xs x) htlcs_are i)) on), (λ o. refl));
       apart = subst (AllPairs Apart) (sym (htlc_alone (λ n. true))) (one_apart second_of_it);
-      each = λ o i. subst (λ (p : Claimable). Resolution hs blocks (IsSlept c p) p) (only second_of_it o (subst (λ (os : List Claimable). Contains os o) (htlc_alone (λ n. true)) i)) (unspent coin at free);
+      each = λ o i. subst (λ (p : Claimable). Resolution Breaks hs blocks (IsSlept c p) p) (only second_of_it o (subst (λ (os : List Claimable). Contains os o) (htlc_alone (λ n. true)) i)) (unspent coin at free);
     }
 
     -- no: AreResolved
-    second_is_lost : IsOnChain blocks (htlc_tx_of c it) → (Resolution hs blocks (IsSlept c second_of_it) second_of_it → ⊥) → AreResolved hs blocks c → ⊥
+    second_is_lost : IsOnChain blocks (htlc_tx_of c it) → (Resolution Breaks hs blocks (IsSlept c second_of_it) second_of_it → ⊥) → AreResolved hs blocks c → ⊥
     second_is_lost on n r = n (r.each second_of_it (subst (λ (os : List Claimable). Contains os second_of_it) (sym (staged_by r.stands true ((r.those it it_is_among).1 on))) (0, lit< tt, refl)))
 
     -- without it the output itself does
     -- no: AreResolved
-    first_is_lost : (IsOnChain blocks (htlc_tx_of c it) → ⊥) → (Resolution hs blocks (IsSlept c first_of_it) first_of_it → ⊥) → AreResolved hs blocks c → ⊥
+    first_is_lost : (IsOnChain blocks (htlc_tx_of c it) → ⊥) → (Resolution Breaks hs blocks (IsSlept c first_of_it) first_of_it → ⊥) → AreResolved hs blocks c → ⊥
     first_is_lost off n r = by (r.stands 0) refl
       where
         by : (b : Bool) → r.stands 0 ≡ b → ⊥

@@ -1,11 +1,11 @@
 -- Who satisfies a script of BOLT 3, and what has to be there: the block before a lock ends, another size, and an empty witness.
-use Rattle.std.proofs.Common.{◌≡◌, ◌≢◌, ℕ, zero, suc, ◌+◌, ◌^◌, List, [], ◌∷◌, length, replicate, sym, ap, refl, subst, inl, inr, arith, lit<}
+use Rattle.std.proofs.Common.{◌≡◌, ◌≢◌, ℕ, zero, suc, ◌+◌, ◌^◌, true, false, List, [], ◌∷◌, length, replicate, sym, ap, ◌∙◌, refl, subst, inl, inr, arith, lit<}
 use Rattle.std.specs.List.{Contains}
 use Rattle.std.proofs.lemmas.Bool.{true≢false, false≢true}
 use Rattle.digest.specs.Hash.{hash160}
 use Rattle.script.specs.declared.opcode.Op.{Op}
 use Rattle.script.specs.declared.spending.Spend.{Spend}
-use Rattle.script.specs.Token.{token_of}
+use Rattle.script.specs.Token.{token_of, is_key}
 use Rattle.script.specs.Step.{effect, lock_passes, age_passes}
 use Rattle.script.specs.Run.{state_after}
 use Rattle.sighash.proofs.Tokens.{one_token}
@@ -36,8 +36,18 @@ module _ (spend : Spend) where
   no_token key t = contains_none (token_of key spend.digest) t
 
   -- yes: HasKeyOf
-  key_of : (key : List ℕ) → HasKeyOf spend (token_of key spend.digest ∷ key ∷ []) (hash160 key)
-  key_of key = record { key = key; given = (1, lit< tt, refl); hashed = refl; token = (0, lit< tt, refl) }
+  key_of : (key : List ℕ) → is_key key ≡ true → HasKeyOf spend (token_of key spend.digest ∷ key ∷ []) (hash160 key)
+  key_of key form = record { key = key; given = (1, lit< tt, refl); form = form; hashed = refl; token = (0, lit< tt, refl) }
+
+  -- a token is none, whatever it is the token of
+  -- no: HasKeyOf
+  no_form_of_a_key : (item other hash : List ℕ) → is_key item ≡ false → is_key other ≡ false → HasKeyOf spend (other ∷ item ∷ []) hash → ⊥
+  no_form_of_a_key item other hash e f k = by k.given
+    where
+      by : Contains (other ∷ item ∷ []) k.key → ⊥
+      by (zero, i, s) = true≢false (sym k.form ∙ ap is_key (sym s) ∙ f)
+      by (suc zero, i, s) = true≢false (sym k.form ∙ ap is_key (sym s) ∙ e)
+      by (suc (suc n), i, s) = omega (arith, i)
 
   -- no: HasKeyOf
   no_key_of : (hash : List ℕ) → HasKeyOf spend [] hash → ⊥

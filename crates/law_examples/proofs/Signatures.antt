@@ -19,7 +19,7 @@ use Rattle.commit.specs.Keys.{KeyBytes}
 use Rattle.commit.specs.Commitments.{Contents}
 use Rattle.penalty.specs.declared.states.RevokedState.{RevokedState}
 use Rattle.penalty.specs.Claimable.{Claimable, commitment_in}
-use Rattle.safety.specs.Signing.{Collision, Signed, digest_of, list_of, IsSignable, AreSame, ListsCollide, wholes, outpoints, sequences, outputs}
+use Rattle.safety.specs.Signing.{Collision, Signed, digest_of, list_of, FieldsFit, IsSignable, AreSame, ListsCollide, wholes, outpoints, sequences, outputs}
 use Rattle.safety.specs.Spending.{spend_on, IsSignedBy, peer_keys, IsPeerKeyOn, ItemCollides, ShowsCollision, of_script, of_key, IsOwners, IsLate}
 use Rattle.safety.specs.Strings.{CollideBy, by_sha256, by_sha256d, by_hash160, StringsCollide}
 use Rattle.safety.specs.Taking.{ShowsOnly, IsAsSigned, Collides}
@@ -141,7 +141,7 @@ module _ (t : Transaction) (input : TxIn) (code : List ℕ) where
   other_code a = let e = ap length a.code in omega (arith, e)
 
   -- yes: IsSignable
-  signable : KeepsLimits t → IsInput input → IsBounded code → IsSignable (over t input (2 ^ 64 - 1))
+  signable : FieldsFit t → IsInput (signed_input input []) → IsBounded code → IsSignable (over t input (2 ^ 64 - 1))
   signable k i c = record { transaction = k; input = i; code = c; value = omega arith }
 
   -- no: IsSignable
@@ -151,6 +151,35 @@ module _ (t : Transaction) (input : TxIn) (code : List ℕ) where
   -- no: IsSignable
   too_long : length code ≡ 10001 → IsSignable (over t input 7) → ⊥
   too_long e s = let l = s.code in omega (arith, l, e)
+
+-- each field at its greatest, and each beyond it. No count has a bound, nor has a witness
+module _ (input : TxIn) (bare : IsInput (signed_input input [])) where
+  abbrev greatest : Transaction
+  greatest = record { version = 2 ^ 32 - 1; inputs = input ∷ []; outputs = record { value = 2 ^ 64 - 1; script = [] } ∷ []; lock_time = 2 ^ 32 - 1 }
+
+  -- yes: FieldsFit
+  fits : FieldsFit greatest
+  fits = record { version = omega arith; inputs = (bare, tt); outputs = ((omega arith, omega arith), tt); lock_time = omega arith }
+
+  -- no: FieldsFit
+  version_too_great : FieldsFit (record greatest { version = 2 ^ 32 }) → ⊥
+  version_too_great f = let l = f.version in omega (arith, l)
+
+  -- no: FieldsFit
+  lock_time_too_great : FieldsFit (record greatest { lock_time = 2 ^ 32 }) → ⊥
+  lock_time_too_great f = let l = f.lock_time in omega (arith, l)
+
+  -- no: FieldsFit
+  value_too_great : FieldsFit (record greatest { outputs = record { value = 2 ^ 64; script = [] } ∷ [] }) → ⊥
+  value_too_great f = let l = f.outputs.0.0 in omega (arith, l)
+
+  -- no: FieldsFit
+  script_too_long : (script : List ℕ) → length script ≡ 2 ^ 64 → FieldsFit (record greatest { outputs = record { value = 7; script = script } ∷ [] }) → ⊥
+  script_too_long script e f = let l = f.outputs.0.1 in omega (arith, l, e)
+
+  -- no: FieldsFit
+  sequence_too_great : FieldsFit (record greatest { inputs = record input { sequence = 2 ^ 32 } ∷ [] }) → ⊥
+  sequence_too_great f = let l = f.inputs.0.sequence in omega (arith, l)
 
 -- ---- which witness shows a token
 

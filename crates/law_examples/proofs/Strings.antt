@@ -19,6 +19,7 @@ use Rattle.channel.specs.declared.commitments.CommitmentState.{CommitmentState}
 use Rattle.channel.specs.Tokens.{contents_of}
 use Rattle.safety.specs.Recorded.{IsOfCommitment, of_commitment, of_htlc}
 use Rattle.safety.specs.Strings.{IsHashedForCommitment, of_transaction, of_to_local, of_htlc_script, of_payment_key, of_revocation_key, of_htlc_key}
+use Rattle.safety.specs.Breaks.{IsHashedForId, IsHashedForKey}
 use Rattle.safety.proofs.Handed.{remote_good}
 use Rattle.safety.proofs.Scripts.{tagged}
 
@@ -97,6 +98,27 @@ module _ (terms : Terms) (k : CommitmentState) where
   keyed bytes size low high (of_revocation_key e) = inl e
   keyed bytes size low high (of_htlc_key e) = inr e
 
+  -- no: IsHashedForId
+  id_of_nothing_else : (bytes : List ℕ) → first_of bytes ≡ 0x64 → IsHashedForId terms k bytes → ⊥
+  id_of_nothing_else bytes low i = let v = version_is i.0 i.1 in let f : first_of bytes ≡ i.0.version % 256 = ap first_of i.2 ∙ spelt_first i.0 in omega (arith, low, v, f)
+
+  -- yes: IsHashedForId
+  its_own_id : IsHashedForId terms k (stripped_spelling (transaction_of (contents_of terms k)))
+  its_own_id = (transaction_of (contents_of terms k), of_commitment refl, refl)
+
+  -- yes: IsHashedForKey
+  its_revocation_key : IsHashedForKey terms k revocation_string
+  its_revocation_key = inl refl
+
+  -- yes: IsHashedForKey
+  its_htlc_key : IsHashedForKey terms k htlc_string
+  its_htlc_key = inr refl
+
+  -- what is hashed for a key is hashed for the commitment
+  as_string : (bytes : List ℕ) → IsHashedForKey terms k bytes → IsHashedForCommitment terms k bytes
+  as_string bytes (inl e) = of_revocation_key e
+  as_string bytes (inr e) = of_htlc_key e
+
   revoke_size : (base : Key) → length (revoke base k.point) ≡ 72
   revoke_size base = let m = key_size base in let n = key_size k.point in simp length-append (omega (arith, m, n))
 
@@ -124,6 +146,10 @@ module _ (terms : Terms) (k : CommitmentState) where
 
 module _ (terms : Terms) (k : CommitmentState) where
   module _ (unlike : terms.a.bases.revocation.bytes ≢ terms.b.bases.revocation.bytes) where
+    -- no: IsHashedForKey
+    a_revokes_no_key_of_its_own : IsHashedForKey terms (of_a k) (revoke terms.a.bases.revocation k.point) → ⊥
+    a_revokes_no_key_of_its_own h = unlike (revocation_is terms (of_a k) terms.a.bases.revocation (as_string terms (of_a k) (revoke terms.a.bases.revocation k.point) h))
+
     -- no: IsHashedForCommitment
     a_revokes_none_of_its_own : IsHashedForCommitment terms (of_a k) (revoke terms.a.bases.revocation k.point) → ⊥
     a_revokes_none_of_its_own h = unlike (revocation_is terms (of_a k) terms.a.bases.revocation h)

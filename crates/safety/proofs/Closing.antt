@@ -5,14 +5,12 @@ use Rattle.std.specs.List.{Contains, AllByRecursion}
 use Rattle.std.proofs.lemmas.Bool.{false≢true, cases_lt}
 use Rattle.std.proofs.lemmas.Option.{slice_get_within}
 use Rattle.std.proofs.lemmas.List.Elements.{All-from_recursion, All-contains}
-use Rattle.sha2.specs.Sha256.{sha256}
 use Rattle.script.specs.Spelling.{spelling}
 use Rattle.script.specs.Token.{is_key}
 use Rattle.script.specs.Run.{Clean}
 use Rattle.tx.specs.declared.input.OutPoint.{OutPoint}
 use Rattle.tx.specs.declared.input.TxIn.{TxIn}
-use Rattle.tx.specs.Parts.{Output}
-use Rattle.tx.specs.Fields.{Transaction, unsigned_transaction}
+use Rattle.tx.specs.Fields.{Transaction, signed_input, unsigned_transaction}
 use Rattle.sighash.specs.Programs.{spend_of, run_of, script_hash_program}
 use Rattle.chain.specs.Blocks.{Contents as Block, Coin, coin_at}
 use Rattle.terms.specs.declared.sides.Side.{Side}
@@ -37,7 +35,7 @@ use Rattle.channel.specs.declared.commitments.CommitmentState.{CommitmentState}
 use Rattle.channel.specs.Keeping.{one_if}
 use Rattle.channel.specs.Tokens.{contents_of}
 use Rattle.safety.specs.Signing.{AreSame}
-use Rattle.safety.specs.Spending.{IsSignedBy, ItemCollides}
+use Rattle.safety.specs.Spending.{IsSignedBy}
 use Rattle.safety.specs.Standing.{StandsAt}
 use Rattle.safety.specs.Satisfying.{HasToken as Satisfied}
 use Rattle.safety.specs.Fates.{htlc_signed}
@@ -49,12 +47,13 @@ use Rattle.safety.specs.Breaks.{Breaks, by_script}
 use Rattle.safety.specs.Closers.{IsCloser, revoked, newest, next, own, IsWatched, IsClosedBy, by_commitment, by_collision, WhoCloses}
 use Rattle.safety.proofs.Lists.{some_is}
 use Rattle.safety.proofs.Limits.{no_longer}
-use Rattle.safety.proofs.Ran.{Ran, ran_script}
+use Rattle.safety.proofs.Ran.{LastCollides, Ran, ran_last}
 use Rattle.safety.proofs.Satisfied.{funding_satisfied}
 use Rattle.safety.proofs.Seconds.{bare_commitment}
 use Rattle.safety.proofs.Places.{owners_places, peers_places, revoked_places}
 use Rattle.safety.proofs.Handed.{funding_parsed, peers_payable, IsFrom, with_peers, with_htlc, with_released, with_own}
-use Rattle.safety.proofs.Own.{kept_one, funding_locked, funding_key_own, Names, spend_on_chain, ledger_says, ShowsOwn, shows_own}
+use Rattle.safety.proofs.Own.{kept_one, funding_locked, funding_key_own, Names, spend_on_chain, ShowsOwn, shows_own}
+use Rattle.safety.proofs.Reading.{secret_key, read}
 
 -- ---- how scripts begin
 
@@ -137,17 +136,17 @@ own_form : (terms : Terms) (side : Side) → is_key (party side terms).bases.fun
 own_form terms side = (party side terms).bases.funding.form
 
 -- what a transaction that takes the funding output shows of the node's key
-shown : (terms : Terms) (side : Side) (t : Transaction) (input : TxIn) (counted tallest : ℕ) → run_of t input (record { value = terms.capacity_sat; script = script_hash_program (funding_script terms) }) ≡ Some (Clean counted tallest)
-    → IsSignedBy (party side terms).bases.funding.bytes (spend (funding_lock terms) t input) ⊎ ItemCollides sha256 (funding_script terms) input.witness
+pub shown : (terms : Terms) (side : Side) (t : Transaction) (input : TxIn) (counted tallest : ℕ) → run_of t input (record { value = terms.capacity_sat; script = script_hash_program (funding_script terms) }) ≡ Some (Clean counted tallest)
+    → IsSignedBy (party side terms).bases.funding.bytes (spend (funding_lock terms) t input) ⊎ LastCollides (funding_script terms) input.witness
 shown terms side t input counted tallest run =
     let first = terms.a.bases.funding.bytes in
     let second = terms.b.bases.funding.bytes in
-    ⊎_elim {C = IsSignedBy (party side terms).bases.funding.bytes (spend (funding_lock terms) t input) ⊎ ItemCollides sha256 (funding_script terms) input.witness}
-    (λ (w : ItemCollides sha256 (funding_script terms) input.witness). inr w)
+    ⊎_elim {C = IsSignedBy (party side terms).bases.funding.bytes (spend (funding_lock terms) t input) ⊎ LastCollides (funding_script terms) input.witness}
+    (λ (w : LastCollides (funding_script terms) input.witness). inr w)
     (λ (r : Ran t input (funding_script terms) terms.capacity_sat (funding first second) counted tallest).
     let both = funding_satisfied first second terms.a.bases.funding.form terms.b.bases.funding.form (spend_of t input (funding_script terms) terms.capacity_sat) r.items counted tallest r.clean in
     inl (by side r.items r.among both))
-    (ran_script t input (funding_script terms) terms.capacity_sat (funding first second) counted tallest (funding_parsed terms) run)
+    (ran_last t input (funding_script terms) terms.capacity_sat (funding first second) counted tallest (funding_parsed terms) run)
   where
     by : (s : Side) (items : List (List ℕ)) → ((x : List ℕ) → Contains items x → Contains input.witness x)
         → Satisfied (spend_of t input (funding_script terms) terms.capacity_sat) items terms.a.bases.funding.bytes × Satisfied (spend_of t input (funding_script terms) terms.capacity_sat) items terms.b.bases.funding.bytes
@@ -176,18 +175,18 @@ pub who_closes : WhoCloses
 who_closes hs blocks v h held coin there height t input stands within names =
     let lock = funding_lock (terms_in h) in
     let n : Names hs blocks (funding_lock (terms_in h)) height t input = record { locked = funding_locked hs h held; coin = coin; there = there; stands = stands; within = within; names = names } in
-    let spends = (ledger_says hs blocks v.ledger lock height t input n).1 in
-    let run : run_of t input (record { value = (terms_in h).capacity_sat; script = script_hash_program (funding_script (terms_in h)) }) ≡ Some (Clean spends.counted spends.tallest)
-    = subst (λ (x : Output). run_of t input x ≡ Some (Clean spends.counted spends.tallest)) there.output spends.clean in
+    let r = read hs blocks v.ledger lock height t input n in
+    let ours = funding_key_own hs h held in
+    let long = key_length (funding_key_in h) (own_form (terms_in h) h.state.held.side) in
     let short = no_longer (funding_script (terms_in h)) _ (funding_parsed (terms_in h)) in
     let low = (terms_in h).limited in
     ⊎_elim {C = IsClosedBy hs blocks h t}
-    (λ (s : IsSignedBy (funding_key_in h) (spend (funding_lock (terms_in h)) t input)).
+    (λ (s : IsSignedBy (funding_key_in h) (spend (funding_lock (terms_in h)) t (signed_input input r.items))).
     ⊎_elim {C = IsClosedBy hs blocks h t} (λ (x : ShowsOwn hs (funding_key_in h) (spend (funding_lock (terms_in h)) t input)). by x.holding x.held x.token x.from x.same)
     (λ (z : Breaks hs blocks). by_collision z)
-    (shows_own hs blocks v lock height t input n short (omega (arith, low)) (funding_key_in h) (key_length (funding_key_in h) (own_form (terms_in h) h.state.held.side)) (funding_key_own hs h held) s))
-    (λ (w : ItemCollides sha256 (funding_script (terms_in h)) input.witness). by_collision (by_script (spend (funding_lock (terms_in h)) t input) (spend_on_chain hs blocks lock height t input n) w))
-    (shown (terms_in h) h.state.held.side t input spends.counted spends.tallest run)
+    (shows_own hs blocks v lock height t input n short (omega (arith, low)) (funding_key_in h) long ours (r.signed (funding_key_in h) (secret_key hs (funding_key_in h) ours) long s)))
+    (λ (w : LastCollides (funding_script (terms_in h)) r.items). by_collision (by_script (spend (funding_lock (terms_in h)) t input) (spend_on_chain hs blocks lock height t input n) (r.script (funding_script (terms_in h)) w)))
+    (shown (terms_in h) h.state.held.side t (signed_input input r.items) r.counted r.tallest r.clean)
   where
     -- a commitment of one funding output is of this channel
     same_holding : (g : Holding) → Contains hs g → (m : CommitmentState) → AreSame (spend (funding_lock (terms_in h)) t input) (commitment_signed (terms_in g) m) → h ≡ g

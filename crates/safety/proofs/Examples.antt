@@ -68,7 +68,7 @@ use Rattle.safety.proofs.Spelt.{to_local_ops, offered_ops}
 pub same_eq : (a : List ℕ) → bytes_eq a a ≡ true
 same_eq a = (bytes_eq-Decides a a).1 refl
 
-token_short : (key digest : List ℕ) → is_key key ≡ true → length digest ≡ 32 → is_long (token_of key digest) ≡ false
+pub token_short : (key digest : List ℕ) → is_key key ≡ true → length digest ≡ 32 → is_long (token_of key digest) ≡ false
 token_short key digest k l = le-ltb 520 (length (token_of key digest)) (omega (arith, token-length key digest l, key-length key k))
 
 token_low : (key digest : List ℕ) → is_key key ≡ true → length digest ≡ 32 → length (token_of key digest) ≤ 100

@@ -8,7 +8,7 @@ use Rattle.script.specs.Spelling.{IsOp, spelling}
 use Rattle.script.specs.Token.{is_key}
 use Rattle.keys.specs.declared.compressed.Key.{Key}
 use Rattle.tx.specs.declared.limits.TheConstants.{MAX_VALUE}
-use Rattle.tx.specs.Fields.{IsInput, KeepsLimits}
+use Rattle.tx.specs.Fields.{IsInput}
 use Rattle.sighash.specs.Programs.{script_ops}
 use Rattle.sighash.proofs.Parsing.{parsed_spelling}
 use Rattle.terms.specs.declared.sides.Side.{Side}
@@ -28,7 +28,7 @@ use Rattle.commit.specs.Signing.{funding_script, input_of}
 use Rattle.channel.specs.declared.commitments.CommitmentState.{CommitmentState}
 use Rattle.channel.specs.Keeping.{one_if}
 use Rattle.channel.specs.Tokens.{contents_of, funding_key, htlc_key}
-use Rattle.safety.specs.Signing.{Signed, IsSignable}
+use Rattle.safety.specs.Signing.{Signed, FieldsFit, IsSignable}
 use Rattle.safety.specs.Recorded.{IsPayable, of_commitment}
 use Rattle.safety.specs.Fates.{htlc_signed}
 use Rattle.safety.specs.Taken.{ChannelRecord, IsOwn}
@@ -36,6 +36,7 @@ use Rattle.safety.specs.Holdings.{Release, claim_signed, Holding, terms_in, peer
 use Rattle.safety.specs.Given.{GivenToken, commitment_signed, funding_token, htlc_token, with_commitment, key_token, for_slot, with_release, own_token, with_close, given_in}
 use Rattle.safety.proofs.Slots.{contains_cases}
 use Rattle.safety.proofs.Lists.{contains_none}
+use Rattle.safety.proofs.Signing.{limits_fit}
 use Rattle.safety.proofs.Claimed.{AreKeys, are_keys}
 use Rattle.safety.proofs.Limits.{no_longer, signable}
 use Rattle.safety.proofs.Recorded.{recorded_limits, limited_htlc}
@@ -77,7 +78,7 @@ remote_good terms k = (party (other k.owner) terms).bases.payment.form
 
 -- ---- the funding script
 
-two_ops : (first second : List ℕ) → is_key first ≡ true → is_key second ≡ true → script_ops (spelling (two_of_two first second)) ≡ Some (two_of_two first second)
+pub two_ops : (first second : List ℕ) → is_key first ≡ true → is_key second ≡ true → script_ops (spelling (two_of_two first second)) ≡ Some (two_of_two first second)
 two_ops first second k l =
     let m = key_length first k in
     let n = key_length second l in
@@ -158,16 +159,16 @@ key_long h z (with_htlc n k there x i e) = ap (λ (y : GivenToken). length y.key
 key_long h z (with_released r i x j key e) = ap (λ (y : GivenToken). length y.key) e ∙ key_length key.bytes key.form
 key_long h z (with_own n k closed there e) = ap (λ (y : GivenToken). length y.key) e ∙ key_length (funding_key_in h) (party h.state.held.side (terms_in h)).bases.funding.form
 
-commitment_input : (c : Contents) → KeepsLimits (transaction_of c) → IsInput (input_of c.funding c.hidden.sequence)
+commitment_input : (c : Contents) → FieldsFit (transaction_of c) → IsInput (input_of c.funding c.hidden.sequence)
 unfolding transaction_of
-commitment_input c k = k.inputs.each.0
+commitment_input c f = f.inputs.0
 
 pub commitment_signable : (terms : Terms) (k : CommitmentState) → IsPayable terms k → IsSignable (commitment_signed terms k)
 commitment_signable terms k p =
-    let limits = recorded_limits terms k p (transaction_of (contents_of terms k)) (of_commitment refl) in
+    let fit = limits_fit (transaction_of (contents_of terms k)) (recorded_limits terms k p (transaction_of (contents_of terms k)) (of_commitment refl)) in
     let short = no_longer (funding_script terms) _ (funding_parsed terms) in
     let low = terms.limited in
-    record { transaction = limits; input = commitment_input (contents_of terms k) limits; code = omega (arith, short); value = omega (arith, low) }
+    record { transaction = fit; input = commitment_input (contents_of terms k) fit; code = omega (arith, short); value = omega (arith, low) }
 
 htlc_signable : (terms : Terms) (k : CommitmentState) → IsPayable terms k → (x : HtlcOutput) → Contains (htlcs_of (contents_of terms k)) x → IsSignable (htlc_signed (contents_of terms k) x)
 htlc_signable terms k p x i =

@@ -1,5 +1,5 @@
 -- A chain that passed its tests is a ledger of any outputs.
-use Rattle.std.proofs.Common.{◌≡◌, ℕ, ◌+◌, ◌%◌, ◌^◌, ◌<◌, Bool, true, false, List, length, Some, None, sym, ap, ◌∙◌, refl, subst, arith}
+use Rattle.std.proofs.Common.{◌≡◌, ℕ, ◌+◌, ◌%◌, ◌^◌, ◌<◌, Bool, true, false, List, length, Some, None, sym, ap, ◌∙◌, refl, subst, inl}
 use Rattle.std.specs.Prelude.{◌&&◌, ◌||◌, ◌==◌, not, nat_lt, nat_le, slice_get}
 use Rattle.std.specs.List.{Contains, list_all}
 use Rattle.std.proofs.lemmas.Bool.{false≢true, and_from}
@@ -10,7 +10,6 @@ use Rattle.tx.specs.declared.input.TxIn.{TxIn}
 use Rattle.tx.specs.Parts.{Output}
 use Rattle.tx.specs.Fields.{Transaction, KeepsLimits, unsigned_transaction}
 use Rattle.tx.specs.Spelling.{transaction_id}
-use Rattle.tx.proofs.Witnesses.{unsigned_length, unsigned_within}
 use Rattle.chain.specs.Blocks.{Contents as Block, Coin, coin_at}
 use Rattle.chain.specs.Indexing.{marked}
 use Rattle.chain.specs.Locks.{is_final, is_old_enough}
@@ -18,9 +17,10 @@ use Rattle.chain.specs.Checks.{coin_refusal}
 use Rattle.chain.specs.Checked.{is_checked}
 use Rattle.chain.specs.Conserving.{GrantsAreApart}
 use Rattle.safety.specs.Standing.{StandsAt}
-use Rattle.safety.specs.Premises.{LockedOutput}
-use Rattle.safety.specs.Ledgers.{keeps_locks, SpendsCoin, Makes, IsLedgerOf, CheckedAreLedgers}
+use Rattle.safety.specs.Premises.{LockedOutput, spend}
+use Rattle.safety.specs.Ledgers.{SpendsCoin, Makes, CheckedAreLedgers}
 use Rattle.safety.proofs.Lists.{some_is}
+use Rattle.safety.proofs.Signing.{limits_fit}
 use Rattle.safety.proofs.OnChain.{passed}
 use Rattle.safety.proofs.Passed.{inputs_have_passed}
 use Rattle.safety.proofs.Standing.{block_in, coin_there}
@@ -47,32 +47,26 @@ age_kept height version sequence since e = by (nat_lt version 2) (bit_at 31 sequ
     by false false true d e = refl
     by false false false d e = e
 
-spends : (blocks : List Block) → is_checked blocks ≡ true → (height : ℕ) (t : Transaction) (input : TxIn) → StandsAt blocks height t → Contains t.inputs input
-    → (coin : Coin) → coin_at blocks input.outpoint ≡ Some coin → SpendsCoin height t input coin
-spends blocks checked height t input stands within coin there =
+spends : (keys : List (List ℕ)) (w : LockedOutput) (blocks : List Block) → is_checked blocks ≡ true → (height : ℕ) (t : Transaction) (input : TxIn) → StandsAt blocks height t → Contains t.inputs input
+    → (coin : Coin) → coin_at blocks input.outpoint ≡ Some coin → SpendsCoin keys height (spend w t input) coin
+spends keys w blocks checked height t input stands within coin there =
     let p = inputs_have_passed blocks checked height t stands input within in
     let same : p.0 ≡ coin = some_is p.0 coin (sym p.1 ∙ there) in
     let passes : coin_refusal height t input (Some (marked false coin)) ≡ None = subst (λ (x : Coin). coin_refusal height t input (Some (marked false x)) ≡ None) same p.2 in
     let q = passed height t input (marked false coin) passes in
     record {
       locks = and_from _ _ (final_kept height t.lock_time t.inputs q.final) (age_kept height t.version input.sequence coin.height q.old);
+      items = input.witness;
+      each = λ item i. inl i;
+      last = refl;
       counted = q.counted;
       tallest = q.tallest;
       clean = q.clean;
     }
 
-bare_limits : (t : Transaction) → KeepsLimits t → KeepsLimits (unsigned_transaction t)
-bare_limits t k = record {
-  version = k.version;
-  some_input = omega (arith, unsigned_length t.inputs, k.some_input);
-  inputs = unsigned_within t.inputs k.inputs;
-  outputs = k.outputs;
-  lock_time = k.lock_time;
-}
-
 pub checked_are_ledgers : CheckedAreLedgers
-checked_are_ledgers blocks checked limits grants locks made = record {
-  named = λ w i coin there height t input stands within names. (bare_limits t (limits height t stands), spends blocks checked height t input stands within coin (ap (coin_at blocks) names ∙ there.there));
+checked_are_ledgers blocks checked limits grants keys locks made = record {
+  named = λ w i coin there height t input stands within names. (limits_fit t (limits height t stands), spends keys w blocks checked height t input stands within coin (ap (coin_at blocks) names ∙ there.there));
   limits = λ w i height t stands id. limits height t stands;
   one = λ w i height earlier t u stands also id rival. one_by height earlier t u stands also (id ∙ sym rival);
   coins = λ w i height t stands output makes. made_by w height t stands output makes;

@@ -31,9 +31,9 @@ pub mod Seeds
 pub mod Takers
 pub mod Taken
 pub mod Tests
-pub mod Bare
 pub mod Handed
 pub mod Own
+pub mod Reading
 pub mod Closing
 pub mod Ledgers
 pub mod Opening
@@ -54,4 +54,5 @@ pub mod WorkedChannels
 pub mod ChannelExamples
 pub mod TheftExamples
 pub mod ExpiryExamples
+pub mod LedgerExamples
 pub mod HoldingExamples

@@ -37,10 +37,11 @@ use Rattle.penalty.specs.declared.states.RevokedState.{RevokedState}
 use Rattle.penalty.specs.Outputs.{IsOutput, HasHeight}
 use Rattle.penalty.specs.Claimable.{Claimable, place_in, htlc_form, penalty_on, htlc_penalty_on, payment_on, second_stage_penalty, claims_on, claims_by, claims_from, commitment_in, claimable_of}
 use Rattle.penalty.proofs.Programs.{same_htlc}
-use Rattle.safety.specs.Signing.{IsSignable}
+use Rattle.safety.specs.Signing.{Signed, IsSignable}
 use Rattle.safety.specs.Fates.{htlc_signed}
 use Rattle.safety.proofs.Spelt.{to_local_ops, key_hash_ops, offered_ops, received_ops}
 use Rattle.safety.proofs.Claimed.{AreKeys, keys_in, outputs_in}
+use Rattle.safety.proofs.Signing.{limits_fit}
 
 -- what is read as opcodes is no longer than a script
 none_some : {X : Type 0} (x : X) → None ≡ Some x → ⊥
@@ -126,35 +127,50 @@ second_limits c h i l v = record {
 
 pub signable : (c : Contents) (h : HtlcOutput) → AreKeys c.keys → h.index < 2 ^ 32 → h.htlc.expiry_height < 2 ^ 32 → satoshis_of h.htlc.amount_msat ≤ MAX_VALUE → IsSignable (htlc_signed c h)
 signable c h k i l v = record {
-  transaction = second_limits c h i l v;
+  transaction = limits_fit (htlc_tx_of c h) (second_limits c h i l v);
   input = record { txid = id_length c; index = i; sequence = omega arith; witness = record { count = omega arith; each = tt } };
   code = let s = htlc_short c h.direction h.htlc k l in let e = ap length (same_htlc c.keys h.direction h.htlc) in omega (arith, s, e);
   value = omega (arith, v);
 }
 
-signables_from : (c : Contents) (index : ℕ) (os : List CommitmentOutput) → AreKeys c.keys → index + length os ≤ MAX_OUTPUTS → All (λ o. IsOutput c.delay_blocks c.keys o) os → All (λ o. IsOutputOf c.keys o) os
-    → All IsSignable (map (htlc_signed c) (htlcs_from index os))
+-- and it keeps the limits
+pub record IsLimited (s : Signed) : Type 0 where
+  pub signable : IsSignable s
+  pub limits : KeepsLimits s.transaction
+
+limited_one : (c : Contents) (h : HtlcOutput) → AreKeys c.keys → h.index < 2 ^ 32 → h.htlc.expiry_height < 2 ^ 32 → satoshis_of h.htlc.amount_msat ≤ MAX_VALUE → IsLimited (htlc_signed c h)
+limited_one c h k i l v = record { signable = signable c h k i l v; limits = second_limits c h i l v }
+
+limited_from : (c : Contents) (index : ℕ) (os : List CommitmentOutput) → AreKeys c.keys → index + length os ≤ MAX_OUTPUTS → All (λ o. IsOutput c.delay_blocks c.keys o) os → All (λ o. IsOutputOf c.keys o) os
+    → All IsLimited (map (htlc_signed c) (htlcs_from index os))
 unfolding htlcs_from
-signables_from c index [] k l a b = All-nil IsSignable
-signables_from c index (o ∷ os) k l a b =
+limited_from c index [] k l a b = All-nil IsLimited
+limited_from c index (o ∷ os) k l a b =
     let first : IsOutput c.delay_blocks c.keys o = All-head (λ o. IsOutput c.delay_blocks c.keys o) o os a in
     let limits : IsOutputOf c.keys o = All-head (λ o. IsOutputOf c.keys o) o os b in
     by o.kind first.height limits.htlc limits.limits.value
-    (signables_from c (index + 1) os k (omega (arith, l)) (All-tail (λ o. IsOutput c.delay_blocks c.keys o) o os a) (All-tail (λ o. IsOutputOf c.keys o) o os b))
+    (limited_from c (index + 1) os k (omega (arith, l)) (All-tail (λ o. IsOutput c.delay_blocks c.keys o) o os a) (All-tail (λ o. IsOutputOf c.keys o) o os b))
   where
-    by : (kind : OutputKind) → HasHeight kind → IsHtlcOf c.keys o kind → o.value ≤ MAX_VALUE → All IsSignable (map (htlc_signed c) (htlcs_from (index + 1) os))
-        → All IsSignable (map (htlc_signed c) (cons_option (htlc_at index kind) (htlcs_from (index + 1) os)))
+    by : (kind : OutputKind) → HasHeight kind → IsHtlcOf c.keys o kind → o.value ≤ MAX_VALUE → All IsLimited (map (htlc_signed c) (htlcs_from (index + 1) os))
+        → All IsLimited (map (htlc_signed c) (cons_option (htlc_at index kind) (htlcs_from (index + 1) os)))
     by ToLocal h s v rest = rest
     by ToRemote h s v rest = rest
     by (ToHtlc direction htlc) h s v rest =
         let z = s.0 in
-        All-cons IsSignable (htlc_signed c (record { index = index; direction = direction; htlc = htlc })) (map (htlc_signed c) (htlcs_from (index + 1) os))
-        (signable c (record { index = index; direction = direction; htlc = htlc }) k (omega (arith, l)) (omega (arith, h)) (omega (arith, v, z))) rest
+        All-cons IsLimited (htlc_signed c (record { index = index; direction = direction; htlc = htlc })) (map (htlc_signed c) (htlcs_from (index + 1) os))
+        (limited_one c (record { index = index; direction = direction; htlc = htlc }) k (omega (arith, l)) (omega (arith, h)) (omega (arith, v, z))) rest
 
 pub few_in : (state : RevokedState) → length (commitment_in state).outputs ≤ MAX_OUTPUTS
 few_in state = few_outputs (commitment_in state).outputs (not_refused state)
 
-pub htlcs_signable : (state : RevokedState) → All IsSignable (map (htlc_signed (commitment_in state)) (htlcs_of (commitment_in state)))
-htlcs_signable state =
+pub htlcs_limited : (state : RevokedState) → All IsLimited (map (htlc_signed (commitment_in state)) (htlcs_of (commitment_in state)))
+htlcs_limited state =
     let few = few_in state in
-    signables_from (commitment_in state) 0 (commitment_in state).outputs (keys_in state) (omega (arith, few)) (outputs_in state) (limited state)
+    limited_from (commitment_in state) 0 (commitment_in state).outputs (keys_in state) (omega (arith, few)) (outputs_in state) (limited state)
+
+all_signable : (xs : List Signed) → All IsLimited xs → All IsSignable xs
+all_signable [] a = All-nil IsSignable
+all_signable (x ∷ xs) a = let first : IsLimited x = All-head IsLimited x xs a in All-cons IsSignable x xs first.signable (all_signable xs (All-tail IsLimited x xs a))
+
+pub htlcs_signable : (state : RevokedState) → All IsSignable (map (htlc_signed (commitment_in state)) (htlcs_of (commitment_in state)))
+htlcs_signable state = all_signable (map (htlc_signed (commitment_in state)) (htlcs_of (commitment_in state))) (htlcs_limited state)

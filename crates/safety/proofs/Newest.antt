@@ -41,8 +41,9 @@ use Rattle.publish.specs.Opening.{funding_output, HasUnspent, CommitmentsSpend}
 use Rattle.safety.specs.Standing.{StandsAt}
 use Rattle.safety.specs.Recorded.{IsPayable, of_commitment}
 use Rattle.safety.specs.Holdings.{Holding, terms_in}
-use Rattle.safety.specs.Premises.{output_lock, locks_of, outputs_in, outputs_by}
-use Rattle.safety.specs.Closers.{IsFunded, IsWatched}
+use Rattle.safety.specs.Premises.{funding_lock, output_lock, locks_of, outputs_in, outputs_by}
+use Rattle.safety.specs.Ledgers.{IsCoinAt}
+use Rattle.safety.specs.Closers.{IsWatched}
 use Rattle.safety.specs.Passing.{HasTwinOn, CanClose, IsReady, NewestPasses}
 use Rattle.safety.proofs.Slots.{contains_first, same_bytes}
 use Rattle.safety.proofs.Lists.{contained, contains_map, at_reversed, any_found, any_holds}
@@ -175,15 +176,15 @@ id_there blocks id e =
 
 -- ---- together
 
-can_close : CommitmentsSpend → (hs : List Holding) (blocks : List Block) → IsWatched hs blocks → (h : Holding) → Contains hs h → IsFunded blocks (terms_in h) → (coin : Coin) → coin_at blocks (terms_in h).funding ≡ Some coin → coin.spent ≡ false
+can_close : CommitmentsSpend → (hs : List Holding) (blocks : List Block) → IsWatched hs blocks → (h : Holding) → Contains hs h → (coin : Coin) → IsCoinAt blocks (funding_lock (terms_in h)) coin → coin.spent ≡ false
     → (k : CommitmentState) → slice_get h.state.mine h.state.number ≡ Some k → 0 < length (contents_of (terms_in h) k).outputs → CanClose blocks h
-can_close spend hs blocks w h held funded coin at free k there some =
+can_close spend hs blocks w h held coin at free k there some =
     record { commitment = signed (terms_in h) k; is = ap (option_map (signed (terms_in h))) there; passes = by (has_id blocks (transaction_id (signed (terms_in h) k))) refl }
   where
     by : (b : Bool) → has_id blocks (transaction_id (signed (terms_in h) k)) ≡ b → (transaction_refusal (empty_block ∷ blocks) (signed (terms_in h) k) ≡ None) ⊎ HasTwinOn blocks (signed (terms_in h) k)
     by false new =
         inl (all_pass spend h.state h.state.number k blocks there (own_payable h (kept_one hs w.kept h held) h.state.number k there).payable.view.whole
-        (record { coin = coin; there = next_coin blocks (terms_in h).funding ∙ at; output_is = funded coin at; unspent = free }) new)
+        (record { coin = coin; there = next_coin blocks (terms_in h).funding ∙ at.there; output_is = at.output; unspent = free }) new)
     by true old =
         let c = contents_of (terms_in h) k in
         let u = id_there blocks (transaction_id (signed (terms_in h) k)) old in
@@ -193,7 +194,7 @@ can_close spend hs blocks w h held funded coin at free k there some =
         let payable = (own_payable h (kept_one hs w.kept h held) h.state.number k there).payable in
         ⊎_elim {C = (transaction_refusal (empty_block ∷ blocks) (signed (terms_in h) k) ≡ None) ⊎ HasTwinOn blocks (signed (terms_in h) k)}
         (λ (e : unsigned_transaction (transaction_of c) ≡ unsigned_transaction u.transaction).
-        absurd (false≢true (sym free ∙ spent_is blocks (terms_in h).funding coin at ∙ is_spent blocks (terms_in h) k u.height u.transaction u.stands e)))
+        absurd (false≢true (sym free ∙ spent_is blocks (terms_in h).funding coin at.there ∙ is_spent blocks (terms_in h) k u.height u.transaction u.stands e)))
         (λ (e : Collide sha256d (stripped_spelling (transaction_of c)) (stripped_spelling u.transaction)).
         inr (record {
           height = u.height;
@@ -209,7 +210,7 @@ some_at (x ∷ xs) zero l = (x, refl)
 some_at (x ∷ xs) (suc k) l = some_at xs k (omega (arith, l))
 
 pub newest_passes : CommitmentsSpend → NewestPasses
-newest_passes spend hs blocks w h held funded coin at free =
+newest_passes spend hs blocks w h held coin at free =
     let count = (kept_one hs w.kept h held).numbered.mine.count in
     let k = some_at h.state.mine h.state.number (omega (arith, count)) in
-    record { newest = k.0; recorded = k.1; closes = can_close spend hs blocks w h held funded coin at free k.0 k.1 }
+    record { newest = k.0; recorded = k.1; closes = can_close spend hs blocks w h held coin at free k.0 k.1 }

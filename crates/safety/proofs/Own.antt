@@ -7,7 +7,7 @@ use Rattle.script.specs.Spelling.{spelling}
 use Rattle.script.specs.Token.{token_of}
 use Rattle.tx.specs.declared.input.OutPoint.{OutPoint}
 use Rattle.tx.specs.declared.input.TxIn.{TxIn}
-use Rattle.tx.specs.Fields.{Transaction, IsInput, KeepsLimits, signed_input, unsigned_inputs, unsigned_transaction}
+use Rattle.tx.specs.Fields.{Transaction, IsInput, signed_input, unsigned_inputs}
 use Rattle.chain.specs.Blocks.{Contents as Block, Coin}
 use Rattle.terms.specs.declared.agreement.Terms.{Terms}
 use Rattle.terms.specs.Scripts.{is_lesser, two_of_two}
@@ -17,28 +17,27 @@ use Rattle.commit.specs.Signing.{funding_script}
 use Rattle.penalty.specs.Claimable.{Claimable, claims_from}
 use Rattle.channel.specs.declared.commitments.CommitmentState.{CommitmentState}
 use Rattle.channel.specs.Tokens.{contents_of, htlc_key}
-use Rattle.safety.specs.Signing.{Signed, IsSignable, digest_of, AreSame, ListsCollide}
+use Rattle.digest.specs.Hash.{sha256d, Collide}
+use Rattle.safety.specs.Signing.{Collision, Signed, FieldsFit, IsSignable, digest_of, AreSame, ListsCollide}
 use Rattle.safety.specs.Spending.{IsSignedBy, peer_keys}
 use Rattle.safety.specs.Standing.{StandsAt}
 use Rattle.safety.specs.Recorded.{IsPayable}
 use Rattle.safety.specs.Places.{IsOutPointOf}
-use Rattle.safety.specs.Strings.{IsHashedForCommitment, StringsCollide}
 use Rattle.safety.specs.Outputs.{IsOneOutput}
 use Rattle.safety.specs.Fates.{htlc_signed}
 use Rattle.safety.specs.Holdings.{Release, claim_signed, released, Holding, terms_in, funding_key_in, KeepsRules, EachKeepsRules}
 use Rattle.safety.specs.Given.{GivenToken, token_bytes, commitment_signed, given_in, given_by}
-use Rattle.safety.specs.Premises.{LockedOutput, spend, funding_lock, output_lock, locks_of, outputs_in, outputs_by, locks_in, locks_by, owner_keys, keys_in, keys_by, each_spend, has_item, shows_given, are_own}
-use Rattle.safety.specs.Ledgers.{SpendsCoin, IsCoinAt, IsLedgerOf}
-use Rattle.safety.specs.Breaks.{IsSpendOn, IsHashedForPeers, Breaks, by_strings, by_digest}
+use Rattle.safety.specs.Premises.{LockedOutput, spend, funding_lock, output_lock, locks_of, outputs_in, outputs_by, locks_in, locks_by, owner_keys, keys_in, keys_by, each_spend, has_item, shows_given, are_own, secret_keys}
+use Rattle.safety.specs.Ledgers.{SpendsCoin, IsCoinAt, IsLedger}
+use Rattle.safety.specs.Breaks.{IsSpendOn, IsHashedForId, IsForPeers, Breaks, by_ids, by_digest}
 use Rattle.safety.specs.Closers.{IsWatched}
 use Rattle.safety.specs.Resolutions.{WasReleased}
 use Rattle.safety.proofs.Slots.{contains_later}
 use Rattle.safety.proofs.Lists.{some_is, contained, contains_map}
 use Rattle.safety.proofs.Signing.{one_token_signs}
 use Rattle.safety.proofs.Recorded.{same_number}
-use Rattle.safety.proofs.Outputs.{one_output}
+use Rattle.safety.proofs.Outputs.{IdsCollide, one_place}
 use Rattle.safety.proofs.Takers.{named_by, one_of_two, same_funding}
-use Rattle.safety.proofs.Bare.{bare, bare_digest, as_same, as_collided}
 use Rattle.safety.proofs.Tests.{in_flat, flat_in, as_any, from_map, all_hold, has, has_one, or_then, on_input, on_spend}
 use Rattle.safety.proofs.Handed.{peers_payable, IsFrom, with_peers, with_htlc, with_released, with_own, given_from, key_long, given_signable}
 
@@ -111,17 +110,17 @@ spend_on_chain hs blocks w height t input n =
     record { height = height; stands = n.stands; within = n.within; lock = w; locked = n.locked; coin = n.coin; there = n.there; names = n.names; code = refl; value = refl }
 
 -- what it does with that
-pub ledger_says : (hs : List Holding) (blocks : List Block) → IsLedgerOf (locks_by hs) (outputs_by hs) blocks → (w : LockedOutput) (height : ℕ) (t : Transaction) (input : TxIn) (n : Names hs blocks w height t input)
-    → KeepsLimits (unsigned_transaction t) × SpendsCoin height t input n.coin
+pub ledger_says : (hs : List Holding) (blocks : List Block) → IsLedger hs blocks → (w : LockedOutput) (height : ℕ) (t : Transaction) (input : TxIn) (n : Names hs blocks w height t input)
+    → FieldsFit t × SpendsCoin (secret_keys hs) height (spend w t input) n.coin
 ledger_says hs blocks ledger w height t input n = ledger.named w n.locked n.coin n.there height t input n.stands n.within n.names
 
-bare_signable : (hs : List Holding) (blocks : List Block) → IsLedgerOf (locks_by hs) (outputs_by hs) blocks → (w : LockedOutput) (height : ℕ) (t : Transaction) (input : TxIn) → Names hs blocks w height t input
-    → length w.code ≤ 10000 → w.place.value < 2 ^ 64 → IsSignable (bare (spend w t input))
-bare_signable hs blocks ledger w height t input n short low =
-    let limits = (ledger_says hs blocks ledger w height t input n).0 in
+its_fields : (hs : List Holding) (blocks : List Block) → IsLedger hs blocks → (w : LockedOutput) (height : ℕ) (t : Transaction) (input : TxIn) → Names hs blocks w height t input
+    → length w.code ≤ 10000 → w.place.value < 2 ^ 64 → IsSignable (spend w t input)
+its_fields hs blocks ledger w height t input n short low =
+    let fit = (ledger_says hs blocks ledger w height t input n).0 in
     record {
-      transaction = limits;
-      input = All-contains IsInput (unsigned_inputs t.inputs) (signed_input input []) (All-from_recursion IsInput (unsigned_inputs t.inputs) limits.inputs.each) (contains_map (λ (i : TxIn). signed_input i []) t.inputs input n.within);
+      transaction = fit;
+      input = All-contains IsInput (unsigned_inputs t.inputs) (signed_input input []) (All-from_recursion IsInput (unsigned_inputs t.inputs) fit.inputs) (contains_map (λ (i : TxIn). signed_input i []) t.inputs input n.within);
       code = omega (arith, short);
       value = low;
     }
@@ -144,14 +143,11 @@ shows_own hs blocks v w height t input n short low key long k signed =
     let from : IsFrom h.0 g.token = given_from h.0 g.token h.2 in
     let kept = kept_one hs v.kept h.0 h.1 in
     let other = key_long h.0 g.token from in
-    let same : token_of key (digest_of (bare s)) ≡ token_of g.token.key (digest_of g.token.over) = ap (token_of key) (bare_digest s) ∙ g.same in
-    let one = one_token_signs key g.token.key (bare s) g.token.over (omega (arith, long, other)) (bare_signable hs blocks v.ledger w height t input n short low) (given_signable h.0 kept g.token from) same in
+    let one = one_token_signs key g.token.key s g.token.over (omega (arith, long, other)) (its_fields hs blocks v.ledger w height t input n short low) (given_signable h.0 kept g.token from) g.same in
     ⊎_elim {C = ShowsOwn hs key (spend w t input) ⊎ Breaks hs blocks}
-    (λ (a : AreSame (bare (spend w t input)) g.token.over).
-    inl (record { holding = h.0; held = h.1; token = g.token; from = from; key_is = one.0; same = as_same (spend w t input) g.token.over a }))
-    (λ (z : ListsCollide (bare (spend w t input)) g.token.over).
-    inr (by_digest (spend w t input) (spend_on_chain hs blocks w height t input n)
-    (as_any (λ (y : GivenToken). ListsCollide (spend w t input) y.over) (given_by hs) g.token g.among (as_collided (spend w t input) g.token.over z))))
+    (λ (a : AreSame (spend w t input) g.token.over). inl (record { holding = h.0; held = h.1; token = g.token; from = from; key_is = one.0; same = a }))
+    (λ (z : ListsCollide (spend w t input) g.token.over).
+    inr (by_digest (spend w t input) (spend_on_chain hs blocks w height t input n) (as_any (λ (y : GivenToken). ListsCollide (spend w t input) y.over) (given_by hs) g.token g.among z)))
     one.1
 
 -- ---- on an output of a peer's commitment
@@ -184,16 +180,17 @@ same_commitment h kept n i k m there also e =
     let number : n ≡ i = sym p.number ∙ same_number (terms_in h) k m p.payable.number q.payable.number e ∙ q.number in
     some_is k m (sym there ∙ ap (slice_get h.state.signed) number ∙ also)
 
-pub strings_break : (hs : List Holding) (blocks : List Block) (h g : Holding) → Contains hs h → Contains hs g → (n i : ℕ) (k m : CommitmentState) → slice_get h.state.signed n ≡ Some k → slice_get g.state.signed i ≡ Some m
-    → StringsCollide (IsHashedForCommitment (terms_in h) k) (IsHashedForCommitment (terms_in g) m) → Breaks hs blocks
-strings_break hs blocks h g held also n i k m there at z =
-    by_strings (record {
-      first = z.first;
-      second = z.second;
-      of_first = record { holding = h; held = held; number = n; commitment = k; signed = there; hashed = z.of_first };
-      of_second = record { holding = g; held = also; number = i; commitment = m; signed = at; hashed = z.of_second };
-      collide = z.collide;
-    })
+-- what collides for two of the peers' commitments
+pub peers_collide : (Collides : List ℕ → List ℕ → Type 0) (IsHashed : Terms → CommitmentState → List ℕ → Type 0) (hs : List Holding) (h g : Holding) → Contains hs h → Contains hs g
+    → (n i : ℕ) (k m : CommitmentState) → slice_get h.state.signed n ≡ Some k → slice_get g.state.signed i ≡ Some m
+    → Collision Collides (IsHashed (terms_in h) k) (IsHashed (terms_in g) m) → Collision Collides (IsForPeers IsHashed hs) (IsForPeers IsHashed hs)
+peers_collide Collides IsHashed hs h g held also n i k m there at z = record {
+  first = z.first;
+  second = z.second;
+  of_first = record { holding = h; held = held; number = n; commitment = k; signed = there; is = z.of_first };
+  of_second = record { holding = g; held = also; number = i; commitment = m; signed = at; is = z.of_second };
+  collide = z.collide;
+}
 
 abbrev out_of : TxIn → OutPoint
 out_of i = i.outpoint
@@ -219,8 +216,8 @@ of_htlc_transaction hs blocks v h held n k there w t input names a g also i m at
     let f' : IsForHtlcOf key (spend w t input) x h k =
     subst (λ (j : CommitmentState). IsForHtlcOf key (spend w t input) x h j) (sym r) (subst (λ (y : Holding). IsForHtlcOf key (spend w t input) x y m) (sym s) f) in
     by_htlc x f'.among f'.same f'.key_is)
-    (λ (z : StringsCollide (IsHashedForCommitment (terms_in h) k) (IsHashedForCommitment (terms_in g) m)). by_break (strings_break hs blocks h g held also n i k m there at z))
-    (one_output (terms_in h) (terms_in g) k m p q w.place.outpoint a b)
+    (λ (z : IdsCollide (terms_in h) k (terms_in g) m). by_break (by_ids (peers_collide (Collide sha256d) IsHashedForId hs h g held also n i k m there at z)))
+    (one_place (terms_in h) (terms_in g) k m p q w.place.outpoint a b)
 
 pub is_own_input : (hs : List Holding) (blocks : List Block) → IsWatched hs blocks → (h : Holding) → Contains hs h → (n : ℕ) (k : CommitmentState) → slice_get h.state.signed n ≡ Some k
     → (w : LockedOutput) (height : ℕ) (t : Transaction) (input : TxIn) → Names hs blocks w height t input → IsOutPointOf (contents_of (terms_in h) k) w.place.outpoint → IsNoFunding w

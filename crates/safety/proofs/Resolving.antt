@@ -20,7 +20,7 @@ use Rattle.tx.specs.declared.input.OutPoint.{OutPoint}
 use Rattle.tx.specs.declared.input.TxIn.{TxIn}
 use Rattle.tx.specs.declared.limits.TheConstants.{MAX_VALUE}
 use Rattle.tx.specs.Parts.{Output}
-use Rattle.tx.specs.Fields.{Transaction, KeepsLimits, unsigned_inputs, unsigned_transaction}
+use Rattle.tx.specs.Fields.{Transaction, signed_input, unsigned_transaction}
 use Rattle.tx.specs.Spelling.{stripped_spelling, transaction_id}
 use Rattle.tx.proofs.Witnesses.{same_id}
 use Rattle.sighash.specs.Programs.{run_of, spend_of, script_hash_program}
@@ -54,19 +54,18 @@ use Rattle.penalty.proofs.Standing.{outputs_stand}
 use Rattle.resolve.specs.Due.{direct_on}
 use Rattle.channel.specs.declared.commitments.CommitmentState.{CommitmentState}
 use Rattle.channel.specs.Tokens.{contents_of}
-use Rattle.safety.specs.Signing.{Signed, AreSame}
+use Rattle.safety.specs.Signing.{Collision, AreSame}
 use Rattle.safety.specs.Satisfying.{HasPreimage}
-use Rattle.safety.specs.Spending.{spend_on, IsSignedBy, peer_keys, ItemCollides, ShowsCollision, of_script, of_key, Waits, CanSpend, by_peer, by_owner, by_collision, HasWaited}
+use Rattle.safety.specs.Spending.{spend_on, IsSignedBy, peer_keys, ItemCollides, Waits, HasWaited}
 use Rattle.safety.specs.Standing.{StandsAt}
 use Rattle.safety.specs.Whereabouts.{IsOnChain, IsNamedBy, IsCoinOf}
 use Rattle.safety.specs.Recorded.{IsPayable, of_commitment, of_htlc}
 use Rattle.safety.specs.Fates.{htlc_signed}
 use Rattle.safety.specs.Places.{place_at, IsAt, IsHtlcAt, IsPeersClaim, payment, direct, IsRevokedClaim, penalty, own_payment, htlc_penalty, second_penalty, IsOutPointOf, of_output, of_second_stage}
-use Rattle.safety.specs.Strings.{IsHashedForCommitment, of_revocation_key, of_htlc_key, by_sha256, StringsCollide}
 use Rattle.safety.specs.Holdings.{Holding, terms_in, KeepsRules}
 use Rattle.safety.specs.Premises.{LockedOutput, spend, output_lock, outputs_by}
-use Rattle.safety.specs.Ledgers.{keeps_locks, SpendsCoin, IsLedgerOf}
-use Rattle.safety.specs.Breaks.{Breaks, by_script, by_key, by_preimage}
+use Rattle.safety.specs.Ledgers.{keeps_locks}
+use Rattle.safety.specs.Breaks.{IsHashedForKey, Breaks, by_keys, by_script, by_key, by_preimage}
 use Rattle.safety.specs.Closers.{IsWatched}
 use Rattle.safety.specs.Resolutions.{WasReleased, Resolution, unspent, ours, lost, broken, IsSlept, ShowsPreimage, IsOnHtlc, IsPaidOrLate, paid, late, PeersAreResolved}
 use Rattle.safety.proofs.Slots.{contains_first, contains_later}
@@ -74,7 +73,7 @@ use Rattle.safety.proofs.Lists.{none_some, some_is, contained, any_found, at_rev
 use Rattle.safety.proofs.Claimed.{AreKeys}
 use Rattle.safety.proofs.Limits.{no_longer, htlc_short}
 use Rattle.safety.proofs.Spelt.{to_local_ops, key_hash_ops}
-use Rattle.safety.proofs.Spent.{spends_to_local, spends_to_remote}
+use Rattle.safety.proofs.Ran.{LastCollides, KeyCollides}
 use Rattle.safety.proofs.Standing.{naming, spent_is}
 use Rattle.safety.proofs.Stripped.{has_stripped, same_stripped}
 use Rattle.safety.proofs.Ids.{id_is}
@@ -86,8 +85,9 @@ use Rattle.safety.proofs.Recorded.{limited, limited_htlc, recorded_limits}
 use Rattle.safety.proofs.Places.{IsGiven, given_by, Rule, htlc_at_index, contains_one, revoked_at}
 use Rattle.safety.proofs.Takers.{low_lock, not_final, short}
 use Rattle.safety.proofs.Handed.{peers_payable, keys_good, remote_good}
-use Rattle.safety.proofs.Own.{kept_one, output_made, made_locked, peers_key_own, Names, spend_on_chain, ledger_says, IsOwnInput, by_release, by_htlc, by_break, strings_break, is_own_input}
-use Rattle.safety.proofs.Opening.{on_htlc, OpensHtlc, by_revocation, by_remote, by_preimage as opens_by_preimage, by_expiry, by_script as opens_by_script, by_key as opens_by_key, opens_htlc}
+use Rattle.safety.proofs.Own.{kept_one, output_made, made_locked, peers_key_own, Names, spend_on_chain, IsOwnInput, by_release, by_htlc, by_break, peers_collide, is_own_input}
+use Rattle.safety.proofs.Reading.{secret_key, IsRead, read, read_key, read_preimage}
+use Rattle.safety.proofs.Opening.{OpensLocal, by_revoked, by_delayed, by_local_script, opens_local, OpensRemote, by_payment_key, by_other_key, opens_remote, OpensHtlc, by_revocation, by_remote, by_preimage as opens_by_preimage, by_expiry, by_script as opens_by_script, by_key as opens_by_key, opens_htlc}
 use Rattle.safety.proofs.Closing.{revoked_start, htlc_no_funding}
 
 -- ---- an output of a commitment
@@ -173,21 +173,14 @@ second_coin hs blocks s x lock k =
 
 -- it is unspent, or an input names it
 settled : (hs : List Holding) (blocks : List Block) (Lost : Coin → ℕ → TxIn → Type 0) (o : Claimable) (coin : Coin) → IsCoinOf blocks o coin
-    → ((height : ℕ) (t : Transaction) (input : TxIn) → IsNamedBy blocks o height t input → Resolution hs blocks Lost o) → Resolution hs blocks Lost o
+    → ((height : ℕ) (t : Transaction) (input : TxIn) → IsNamedBy blocks o height t input → Resolution Breaks hs blocks Lost o) → Resolution Breaks hs blocks Lost o
 settled hs blocks Lost o coin is named = by coin.spent refl
   where
-    by : (b : Bool) → coin.spent ≡ b → Resolution hs blocks Lost o
+    by : (b : Bool) → coin.spent ≡ b → Resolution Breaks hs blocks Lost o
     by false e = unspent coin is e
     by true e =
         let n = naming blocks o.place.outpoint (sym (spent_is blocks o.place.outpoint coin is.there) ∙ e) in
         named n.height n.transaction n.input (record { stands = n.stands; within = n.within; names = n.named })
-
--- what the input is known to have done
-record Ran (blocks : List Block) (o : Claimable) (coin : Coin) (height : ℕ) (t : Transaction) (input : TxIn) : Type 0 where
-  counted : ℕ
-  tallest : ℕ
-  clean : run_of t input (output_at o.place) ≡ Some (Clean counted tallest)
-  locks : keeps_locks height t input coin.height ≡ true
 
 names : (hs : List Holding) (blocks : List Block) (o : Claimable) → Contains (outputs_by hs) (output_lock o) → (coin : Coin) → IsCoinOf blocks o coin
     → (height : ℕ) (t : Transaction) (input : TxIn) → IsNamedBy blocks o height t input → Names hs blocks (output_lock o) height t input
@@ -195,16 +188,9 @@ names hs blocks o lock coin is height t input n =
     record { locked = made_locked hs (output_lock o) lock; coin = coin; there = record { there = is.there; output = is.output }; stands = n.stands; within = n.within; names = n.names }
 
 ran : (hs : List Holding) (blocks : List Block) (s : Setting hs blocks) (o : Claimable) → Contains (outputs_by hs) (output_lock o) → (coin : Coin) → IsCoinOf blocks o coin
-    → (height : ℕ) (t : Transaction) (input : TxIn) → IsNamedBy blocks o height t input → Ran blocks o coin height t input
+    → (height : ℕ) (t : Transaction) (input : TxIn) → IsNamedBy blocks o height t input → IsRead hs (output_lock o) height t input coin.height
 unfolding names
-ran hs blocks s o lock coin is height t input n =
-    let spends = (ledger_says hs blocks s.watched.ledger (output_lock o) height t input (names hs blocks o lock coin is height t input n)).1 in
-    record {
-      counted = spends.counted;
-      tallest = spends.tallest;
-      clean = subst (λ (x : Output). run_of t input x ≡ Some (Clean spends.counted spends.tallest)) is.output spends.clean;
-      locks = spends.locks;
-    }
+ran hs blocks s o lock coin is height t input n = read hs blocks s.watched.ledger (output_lock o) height t input (names hs blocks o lock coin is height t input n)
 
 -- ---- what is shown of the node's keys
 
@@ -222,18 +208,25 @@ record IsPlain (c : Contents) (o : Claimable) : Type 0 where
   low : o.place.value ≤ MAX_VALUE
 
 own_input : (hs : List Holding) (blocks : List Block) (s : Setting hs blocks) (o : Claimable) → Contains (outputs_by hs) (output_lock o) → IsPlain (contents s) o → (coin : Coin) → IsCoinOf blocks o coin → (height : ℕ) (t : Transaction) (input : TxIn) → IsNamedBy blocks o height t input
-    → (key : List ℕ) → Contains (peer_keys (contents s).keys) key → IsSignedBy key (spend_on o t input) → IsOwnInput hs blocks (contents s) key (spend_on o t input)
-own_input hs blocks s o lock plain coin is height t input n key i signed =
+    → (r : IsRead hs (output_lock o) height t input coin.height) → (key : List ℕ) → Contains (peer_keys (contents s).keys) key → IsSignedBy key (spend_on o t (signed_input input r.items)) → IsOwnInput hs blocks (contents s) key (spend_on o t input)
+own_input hs blocks s o lock plain coin is height t input n r key i signed =
     let low = plain.low in
+    let long = long_key (terms_in s.holding) s.commitment key i in
     is_own_input hs blocks s.watched s.holding s.held s.number s.commitment s.there (output_lock o) height t input (names hs blocks o lock coin is height t input n) (revoked_at (contents s) o plain.claim)
-    (revoked_start (contents s) o plain.claim) plain.short (omega (arith, low)) key (long_key (terms_in s.holding) s.commitment key i) i signed
+    (revoked_start (contents s) o plain.claim) plain.short (omega (arith, low)) key long i
+    (r.signed key (secret_key hs key (peers_key_own hs s.holding s.held s.number s.commitment s.there key i)) long signed)
 
--- a collision that an input shows
-shows_break : (hs : List Holding) (blocks : List Block) (s : Setting hs blocks) (o : Claimable) → Contains (outputs_by hs) (output_lock o) → (coin : Coin) → IsCoinOf blocks o coin → (height : ℕ) (t : Transaction) (input : TxIn) → IsNamedBy blocks o height t input
-    → ShowsCollision (contents s) o input → Breaks hs blocks
-shows_break hs blocks s o lock coin is height t input n (of_script z) = by_script (spend_on o t input) (spend_on_chain hs blocks (output_lock o) height t input (names hs blocks o lock coin is height t input n)) z
-shows_break hs blocks s o lock coin is height t input n (of_key key k z) =
-    by_key (spend_on o t input) (spend_on_chain hs blocks (output_lock o) height t input (names hs blocks o lock coin is height t input n)) key (peers_key_own hs s.holding s.held s.number s.commitment s.there key k.peers) z
+-- collisions that an input shows: with the script, and with a key
+script_breaks : (hs : List Holding) (blocks : List Block) (s : Setting hs blocks) (o : Claimable) → Contains (outputs_by hs) (output_lock o) → (coin : Coin) → IsCoinOf blocks o coin → (height : ℕ) (t : Transaction) (input : TxIn) → IsNamedBy blocks o height t input
+    → (r : IsRead hs (output_lock o) height t input coin.height) → LastCollides (spelling o.form.ops) r.items → Breaks hs blocks
+script_breaks hs blocks s o lock coin is height t input n r z =
+    by_script (spend_on o t input) (spend_on_chain hs blocks (output_lock o) height t input (names hs blocks o lock coin is height t input n)) (r.script (spelling o.form.ops) z)
+
+key_breaks : (hs : List Holding) (blocks : List Block) (s : Setting hs blocks) (o : Claimable) → Contains (outputs_by hs) (output_lock o) → (coin : Coin) → IsCoinOf blocks o coin → (height : ℕ) (t : Transaction) (input : TxIn) → IsNamedBy blocks o height t input
+    → (r : IsRead hs (output_lock o) height t input coin.height) → (key : List ℕ) → Contains (peer_keys (contents s).keys) key → KeyCollides key r.items → Breaks hs blocks
+key_breaks hs blocks s o lock coin is height t input n r key i z =
+    by_key (spend_on o t input) (spend_on_chain hs blocks (output_lock o) height t input (names hs blocks o lock coin is height t input n)) key (peers_key_own hs s.holding s.held s.number s.commitment s.there key i)
+    (read_key hs (output_lock o) height t input coin.height r key z)
 
 -- ---- an output in to_local's form
 
@@ -258,26 +251,29 @@ local_short c k l = no_longer _ _ (to_local_ops c.keys.revocation c.delay_blocks
 
 on_local : (hs : List Holding) (blocks : List Block) (s : Setting hs blocks) (place : Place) → Contains (outputs_by hs) (output_lock (penalty_on (contents s) place)) → IsPlain (contents s) (penalty_on (contents s) place)
     → place.program ≡ script_hash_program (to_local_script (contents s).delay_blocks (contents s).keys) → (coin : Coin) → IsCoinOf blocks (penalty_on (contents s) place) coin
-    → Resolution hs blocks (IsSlept (contents s) (penalty_on (contents s) place)) (penalty_on (contents s) place)
+    → Resolution Breaks hs blocks (IsSlept (contents s) (penalty_on (contents s) place)) (penalty_on (contents s) place)
 on_local hs blocks s place lock plain program coin is = settled hs blocks (IsSlept (contents s) (penalty_on (contents s) place)) (penalty_on (contents s) place) coin is by_name
   where
     own : (height : ℕ) (t : Transaction) (input : TxIn) → IsNamedBy blocks (penalty_on (contents s) place) height t input → (key : List ℕ)
-        → IsOwnInput hs blocks (contents s) key (spend_on (penalty_on (contents s) place) t input) → Resolution hs blocks (IsSlept (contents s) (penalty_on (contents s) place)) (penalty_on (contents s) place)
+        → IsOwnInput hs blocks (contents s) key (spend_on (penalty_on (contents s) place) t input) → Resolution Breaks hs blocks (IsSlept (contents s) (penalty_on (contents s) place)) (penalty_on (contents s) place)
     own height t input n key (by_release r) = ours height t input n r
     own height t input n key (by_htlc x i same k) = absurd (not_on_to_local (contents s) place t input (record { htlc = x; among = i; same = same }))
     own height t input n key (by_break z) = broken z
 
-    by_way : (height : ℕ) (t : Transaction) (input : TxIn) → IsNamedBy blocks (penalty_on (contents s) place) height t input → keeps_locks height t input coin.height ≡ true
-        → CanSpend (Waits t input (contents s).delay_blocks) (contents s) (penalty_on (contents s) place) t input → Resolution hs blocks (IsSlept (contents s) (penalty_on (contents s) place)) (penalty_on (contents s) place)
-    by_way height t input n locks (by_peer key k signed) = own height t input n key (own_input hs blocks s (penalty_on (contents s) place) lock plain coin is height t input n key k.peers signed)
-    by_way height t input n locks (by_owner w) = lost coin is height t input n (record { form = w.form; late = waited height t input coin.height (contents s).delay_blocks w.late locks })
-    by_way height t input n locks (by_collision z) = broken (shows_break hs blocks s (penalty_on (contents s) place) lock coin is height t input n z)
+    by_way : (height : ℕ) (t : Transaction) (input : TxIn) → IsNamedBy blocks (penalty_on (contents s) place) height t input → (r : IsRead hs (output_lock (penalty_on (contents s) place)) height t input coin.height)
+        → OpensLocal (contents s) place.value t (signed_input input r.items) → Resolution Breaks hs blocks (IsSlept (contents s) (penalty_on (contents s) place)) (penalty_on (contents s) place)
+    by_way height t input n r (by_revoked signed) =
+        own height t input n (contents s).keys.revocation (own_input hs blocks s (penalty_on (contents s) place) lock plain coin is height t input n r (contents s).keys.revocation (0, omega arith, refl) signed)
+    by_way height t input n r (by_delayed signed w) =
+        lost coin is height t input n
+        (record { form = refl; late = waited height t input coin.height (contents s).delay_blocks (record { version = w.version; on = w.on; blocks = w.blocks; enough = w.enough }) r.locks })
+    by_way height t input n r (by_local_script z) = broken (script_breaks hs blocks s (penalty_on (contents s) place) lock coin is height t input n r z)
 
-    by_name : (height : ℕ) (t : Transaction) (input : TxIn) → IsNamedBy blocks (penalty_on (contents s) place) height t input → Resolution hs blocks (IsSlept (contents s) (penalty_on (contents s) place)) (penalty_on (contents s) place)
+    by_name : (height : ℕ) (t : Transaction) (input : TxIn) → IsNamedBy blocks (penalty_on (contents s) place) height t input → Resolution Breaks hs blocks (IsSlept (contents s) (penalty_on (contents s) place)) (penalty_on (contents s) place)
     by_name height t input n =
         let r = ran hs blocks s (penalty_on (contents s) place) lock coin is height t input n in
         let good = keys_good (terms_in s.holding) s.commitment in
-        by_way height t input n r.locks (spends_to_local (contents s) place (short (terms_in s.holding) s.commitment) good.revocation good.delayed program t input r.counted r.tallest r.clean)
+        by_way height t input n r (opens_local (contents s) place (short (terms_in s.holding) s.commitment) good.revocation good.delayed program t (signed_input input r.items) r.counted r.tallest r.clean)
 
 -- ---- to_remote
 
@@ -288,31 +284,27 @@ abbrev first_byte : List ℕ → ℕ
 first_byte [] = 0
 first_byte (b ∷ bs) = b
 
--- to_remote does not have the form of to_local
-other_form : (c : Contents) (place : Place) → (payment_on c place).form ≡ to_local_form c.keys.revocation c.delay_blocks c.keys.delayed → ⊥
-other_form c place e = let f : 0x76 ≡ 0x63 = ap (λ (x : CheckedScript). first_byte (spelling x.ops)) e in omega (arith, f)
-
 on_remote : (hs : List Holding) (blocks : List Block) (s : Setting hs blocks) (Lost : Coin → ℕ → TxIn → Type 0) (place : Place) → Contains (outputs_by hs) (output_lock (payment_on (contents s) place))
     → IsPlain (contents s) (payment_on (contents s) place) → place.program ≡ program_of (contents s).delay_blocks (contents s).keys ToRemote → (coin : Coin) → IsCoinOf blocks (payment_on (contents s) place) coin
-    → Resolution hs blocks Lost (payment_on (contents s) place)
+    → Resolution Breaks hs blocks Lost (payment_on (contents s) place)
 on_remote hs blocks s Lost place lock plain program coin is = settled hs blocks Lost (payment_on (contents s) place) coin is by_name
   where
     own : (height : ℕ) (t : Transaction) (input : TxIn) → IsNamedBy blocks (payment_on (contents s) place) height t input → (key : List ℕ)
-        → IsOwnInput hs blocks (contents s) key (spend_on (payment_on (contents s) place) t input) → Resolution hs blocks Lost (payment_on (contents s) place)
+        → IsOwnInput hs blocks (contents s) key (spend_on (payment_on (contents s) place) t input) → Resolution Breaks hs blocks Lost (payment_on (contents s) place)
     own height t input n key (by_release r) = ours height t input n r
     own height t input n key (by_htlc x i same k) = absurd (not_on_to_remote (contents s) place t input (record { htlc = x; among = i; same = same }))
     own height t input n key (by_break z) = broken z
 
-    by_way : (height : ℕ) (t : Transaction) (input : TxIn) → IsNamedBy blocks (payment_on (contents s) place) height t input → CanSpend (Waits t input (contents s).delay_blocks) (contents s) (payment_on (contents s) place) t input
-        → Resolution hs blocks Lost (payment_on (contents s) place)
-    by_way height t input n (by_peer key k signed) = own height t input n key (own_input hs blocks s (payment_on (contents s) place) lock plain coin is height t input n key k.peers signed)
-    by_way height t input n (by_owner w) = absurd (other_form (contents s) place w.form)
-    by_way height t input n (by_collision z) = broken (shows_break hs blocks s (payment_on (contents s) place) lock coin is height t input n z)
+    by_way : (height : ℕ) (t : Transaction) (input : TxIn) → IsNamedBy blocks (payment_on (contents s) place) height t input → (r : IsRead hs (output_lock (payment_on (contents s) place)) height t input coin.height)
+        → OpensRemote (contents s) place.value t (signed_input input r.items) → Resolution Breaks hs blocks Lost (payment_on (contents s) place)
+    by_way height t input n r (by_payment_key signed) =
+        own height t input n (contents s).keys.remote (own_input hs blocks s (payment_on (contents s) place) lock plain coin is height t input n r (contents s).keys.remote (2, omega arith, refl) signed)
+    by_way height t input n r (by_other_key z) = broken (key_breaks hs blocks s (payment_on (contents s) place) lock coin is height t input n r (contents s).keys.remote (2, omega arith, refl) z)
 
-    by_name : (height : ℕ) (t : Transaction) (input : TxIn) → IsNamedBy blocks (payment_on (contents s) place) height t input → Resolution hs blocks Lost (payment_on (contents s) place)
+    by_name : (height : ℕ) (t : Transaction) (input : TxIn) → IsNamedBy blocks (payment_on (contents s) place) height t input → Resolution Breaks hs blocks Lost (payment_on (contents s) place)
     by_name height t input n =
         let r = ran hs blocks s (payment_on (contents s) place) lock coin is height t input n in
-        by_way height t input n (spends_to_remote (Waits t input (contents s).delay_blocks) (contents s) place program t input r.counted r.tallest r.clean)
+        by_way height t input n r (opens_remote (contents s) place program t (signed_input input r.items) r.counted r.tallest r.clean)
 
 -- ---- the output of an HTLC
 
@@ -328,14 +320,14 @@ append_twice [] b c = refl
 append_twice (x ∷ a) b c = ap (λ (r : List ℕ). x ∷ r) (append_twice a b c)
 
 -- the revocation key and the HTLC key of a commitment are two, or what is hashed for them collides
-not_both_keys : (terms : Terms) (k : CommitmentState) → (contents_of terms k).keys.revocation ≡ (contents_of terms k).keys.remote_htlc → StringsCollide (IsHashedForCommitment terms k) (IsHashedForCommitment terms k)
+not_both_keys : (terms : Terms) (k : CommitmentState) → (contents_of terms k).keys.revocation ≡ (contents_of terms k).keys.remote_htlc → Collision (Collide sha256) (IsHashedForKey terms k) (IsHashedForKey terms k)
 unfolding commitment_of keys_of derived_key revocation_key
 not_both_keys terms k e = record {
   first = codes "revoke" ++ (party (other k.owner) terms).bases.revocation.bytes ++ k.point.bytes;
   second = codes "derive" ++ (party (other k.owner) terms).bases.htlc.bytes ++ k.point.bytes;
-  of_first = of_revocation_key refl;
-  of_second = of_htlc_key refl;
-  collide = by_sha256 (
+  of_first = inl refl;
+  of_second = inr refl;
+  collide = (
     (λ d.
         other_tag ((party (other k.owner) terms).bases.revocation.bytes ++ k.point.bytes) ((party (other k.owner) terms).bases.htlc.bytes ++ k.point.bytes)
         (sym (append_twice (codes "revoke") (party (other k.owner) terms).bases.revocation.bytes k.point.bytes) ∙ d
@@ -375,8 +367,9 @@ htlc_plain hs blocks s x output a =
     record { claim = htlc_penalty x output a refl; short = htlc_short (contents s) x.direction x.htlc (keys_good terms k) (omega (arith, height)); low = (stood terms k p.view x.index output a.at.there).low }
 
 opens : (hs : List Holding) (blocks : List Block) (s : Setting hs blocks) (x : HtlcOutput) (output : CommitmentOutput) → IsHtlcAt (contents s) x output → (coin : Coin) → IsCoinOf blocks (on_it (contents s) x output) coin
-    → (height : ℕ) (t : Transaction) (input : TxIn) → IsNamedBy blocks (on_it (contents s) x output) height t input → OpensHtlc (contents s) x.direction x.htlc output.value t input
-opens hs blocks s x output a coin is height t input n =
+    → (height : ℕ) (t : Transaction) (input : TxIn) → IsNamedBy blocks (on_it (contents s) x output) height t input → (r : IsRead hs (output_lock (on_it (contents s) x output)) height t input coin.height)
+    → OpensHtlc (contents s) x.direction x.htlc output.value t (signed_input input r.items)
+opens hs blocks s x output a coin is height t input n r =
     let c = contents s in
     let terms = terms_in s.holding in
     let k = s.commitment in
@@ -384,43 +377,43 @@ opens hs blocks s x output a coin is height t input n =
     let good = keys_good terms k in
     let l = limited_htlc terms k p.view x a.among in
     let low = l.height in
-    let r = ran hs blocks s (on_it c x output) (htlc_lock hs blocks s x output a) coin is height t input n in
     let program : output.program ≡ script_hash_program (htlc_script c.keys x.direction x.htlc) = (stood terms k p.view x.index output a.at.there).program ∙ ap (program_of c.delay_blocks c.keys) a.at.kind in
-    opens_htlc c x.direction x.htlc good.local_htlc good.remote_htlc (omega (arith, low)) output.value t input r.counted r.tallest
-    (subst (λ (q : List ℕ). run_of t input (record { value = output.value; script = q }) ≡ Some (Clean r.counted r.tallest)) program r.clean)
+    opens_htlc c x.direction x.htlc good.local_htlc good.remote_htlc (omega (arith, low)) output.value t (signed_input input r.items) r.counted r.tallest
+    (subst (λ (q : List ℕ). run_of t (signed_input input r.items) (record { value = output.value; script = q }) ≡ Some (Clean r.counted r.tallest)) program r.clean)
 
 -- ---- its first stage, where the HTLC transaction does not stand
 
 not_standing : (hs : List Holding) (blocks : List Block) (s : Setting hs blocks) (x : HtlcOutput) (output : CommitmentOutput) → IsHtlcAt (contents s) x output → standing blocks (contents s) x.index ≡ false
-    → (coin : Coin) → IsCoinOf blocks (on_it (contents s) x output) coin → Resolution hs blocks (IsSlept (contents s) (on_it (contents s) x output)) (on_it (contents s) x output)
+    → (coin : Coin) → IsCoinOf blocks (on_it (contents s) x output) coin → Resolution Breaks hs blocks (IsSlept (contents s) (on_it (contents s) x output)) (on_it (contents s) x output)
 not_standing hs blocks s x output a e coin is = settled hs blocks (IsSlept (contents s) (on_it (contents s) x output)) (on_it (contents s) x output) coin is by_name
   where
     own : (height : ℕ) (t : Transaction) (input : TxIn) → IsNamedBy blocks (on_it (contents s) x output) height t input → (key : List ℕ)
-        → IsOwnInput hs blocks (contents s) key (spend_on (on_it (contents s) x output) t input) → Resolution hs blocks (IsSlept (contents s) (on_it (contents s) x output)) (on_it (contents s) x output)
+        → IsOwnInput hs blocks (contents s) key (spend_on (on_it (contents s) x output) t input) → Resolution Breaks hs blocks (IsSlept (contents s) (on_it (contents s) x output)) (on_it (contents s) x output)
     own height t input n key (by_release r) = ours height t input n r
     own height t input n key (by_htlc y i same k) =
         absurd (none_stands blocks (contents s) x.index (on_it (contents s) x output) refl e height t input n (record { htlc = y; among = i; same = same }))
     own height t input n key (by_break z) = broken z
 
-    shows : (height : ℕ) (t : Transaction) (input : TxIn) → IsNamedBy blocks (on_it (contents s) x output) height t input → (key : List ℕ) → Contains (peer_keys (contents s).keys) key
-        → IsSignedBy key (spend_on (on_it (contents s) x output) t input) → Resolution hs blocks (IsSlept (contents s) (on_it (contents s) x output)) (on_it (contents s) x output)
-    shows height t input n key i signed =
-        own height t input n key (own_input hs blocks s (on_it (contents s) x output) (htlc_lock hs blocks s x output a) (htlc_plain hs blocks s x output a) coin is height t input n key i signed)
+    shows : (height : ℕ) (t : Transaction) (input : TxIn) → IsNamedBy blocks (on_it (contents s) x output) height t input → (r : IsRead hs (output_lock (on_it (contents s) x output)) height t input coin.height)
+        → (key : List ℕ) → Contains (peer_keys (contents s).keys) key → IsSignedBy key (spend_on (on_it (contents s) x output) t (signed_input input r.items))
+        → Resolution Breaks hs blocks (IsSlept (contents s) (on_it (contents s) x output)) (on_it (contents s) x output)
+    shows height t input n r key i signed =
+        own height t input n key (own_input hs blocks s (on_it (contents s) x output) (htlc_lock hs blocks s x output a) (htlc_plain hs blocks s x output a) coin is height t input n r key i signed)
 
-    by_way : (height : ℕ) (t : Transaction) (input : TxIn) → IsNamedBy blocks (on_it (contents s) x output) height t input → OpensHtlc (contents s) x.direction x.htlc output.value t input
-        → Resolution hs blocks (IsSlept (contents s) (on_it (contents s) x output)) (on_it (contents s) x output)
-    by_way height t input n (by_revocation signed) = shows height t input n (contents s).keys.revocation (0, omega arith, refl) signed
-    by_way height t input n (by_remote d signed) = shows height t input n (contents s).keys.remote_htlc (1, omega arith, refl) signed
-    by_way height t input n (opens_by_preimage d signed pre) = shows height t input n (contents s).keys.remote_htlc (1, omega arith, refl) signed
-    by_way height t input n (by_expiry d signed lock) = shows height t input n (contents s).keys.remote_htlc (1, omega arith, refl) signed
-    by_way height t input n (opens_by_script z) = broken (shows_break hs blocks s (on_it (contents s) x output) (htlc_lock hs blocks s x output a) coin is height t input n (of_script z))
-    by_way height t input n (opens_by_key z) =
-        broken (by_key (spend_on (on_it (contents s) x output) t input)
-        (spend_on_chain hs blocks (output_lock (on_it (contents s) x output)) height t input (names hs blocks (on_it (contents s) x output) (htlc_lock hs blocks s x output a) coin is height t input n)) (contents s).keys.revocation
-        (peers_key_own hs s.holding s.held s.number s.commitment s.there (contents s).keys.revocation (0, omega arith, refl)) z)
+    by_way : (height : ℕ) (t : Transaction) (input : TxIn) → IsNamedBy blocks (on_it (contents s) x output) height t input → (r : IsRead hs (output_lock (on_it (contents s) x output)) height t input coin.height)
+        → OpensHtlc (contents s) x.direction x.htlc output.value t (signed_input input r.items) → Resolution Breaks hs blocks (IsSlept (contents s) (on_it (contents s) x output)) (on_it (contents s) x output)
+    by_way height t input n r (by_revocation signed) = shows height t input n r (contents s).keys.revocation (0, omega arith, refl) signed
+    by_way height t input n r (by_remote d signed) = shows height t input n r (contents s).keys.remote_htlc (1, omega arith, refl) signed
+    by_way height t input n r (opens_by_preimage d signed pre) = shows height t input n r (contents s).keys.remote_htlc (1, omega arith, refl) signed
+    by_way height t input n r (by_expiry d signed lock) = shows height t input n r (contents s).keys.remote_htlc (1, omega arith, refl) signed
+    by_way height t input n r (opens_by_script z) = broken (script_breaks hs blocks s (on_it (contents s) x output) (htlc_lock hs blocks s x output a) coin is height t input n r z)
+    by_way height t input n r (opens_by_key z) =
+        broken (key_breaks hs blocks s (on_it (contents s) x output) (htlc_lock hs blocks s x output a) coin is height t input n r (contents s).keys.revocation (0, omega arith, refl) z)
 
-    by_name : (height : ℕ) (t : Transaction) (input : TxIn) → IsNamedBy blocks (on_it (contents s) x output) height t input → Resolution hs blocks (IsSlept (contents s) (on_it (contents s) x output)) (on_it (contents s) x output)
-    by_name height t input n = by_way height t input n (opens hs blocks s x output a coin is height t input n)
+    by_name : (height : ℕ) (t : Transaction) (input : TxIn) → IsNamedBy blocks (on_it (contents s) x output) height t input → Resolution Breaks hs blocks (IsSlept (contents s) (on_it (contents s) x output)) (on_it (contents s) x output)
+    by_name height t input n =
+        let r = ran hs blocks s (on_it (contents s) x output) (htlc_lock hs blocks s x output a) coin is height t input n in
+        by_way height t input n r (opens hs blocks s x output a coin is height t input n r)
 
 -- ---- whether it stands
 
@@ -482,7 +475,7 @@ kind_program hs blocks s index output kind a =
     (stood (terms_in s.holding) s.commitment (payable hs blocks s).view index output a.there).program ∙ ap (program_of (contents s).delay_blocks (contents s).keys) a.kind
 
 abbrev pub Resolved : (hs : List Holding) (blocks : List Block) → Contents → Claimable → Type 0
-Resolved hs blocks c o = Resolution hs blocks (IsSlept c o) o
+Resolved hs blocks c o = Resolution Breaks hs blocks (IsSlept c o) o
 
 resolved_local : (hs : List Holding) (blocks : List Block) (s : Setting hs blocks) (index : ℕ) (output : CommitmentOutput) → IsAt (contents s) index output ToLocal
     → Resolved hs blocks (contents s) (penalty_on (contents s) (place_at (contents s) index output))
@@ -494,7 +487,7 @@ resolved_local hs blocks s index output a =
     on_local hs blocks s place lock (local_plain hs blocks s index output a) (kind_program hs blocks s index output ToLocal a) k.coin k.is
 
 resolved_remote : (hs : List Holding) (blocks : List Block) (s : Setting hs blocks) (Lost : Coin → ℕ → TxIn → Type 0) (index : ℕ) (output : CommitmentOutput) → IsAt (contents s) index output ToRemote
-    → Resolution hs blocks Lost (payment_on (contents s) (place_at (contents s) index output))
+    → Resolution Breaks hs blocks Lost (payment_on (contents s) (place_at (contents s) index output))
 resolved_remote hs blocks s Lost index output a =
     let c = contents s in
     let place = place_at c index output in
@@ -604,11 +597,11 @@ abbrev claim_of : Contents → HtlcOutput → CommitmentOutput → Claimable
 claim_of c x output = direct_on c x.direction x.htlc (place_at c x.index output)
 
 abbrev Standing : (hs : List Holding) (blocks : List Block) → Contents → Claimable → Type 0
-Standing hs blocks c o = Resolution hs blocks (IsPaidOrLate c o) o
+Standing hs blocks c o = Resolution Breaks hs blocks (IsPaidOrLate false c o) o
 
 direct_htlc : (hs : List Holding) (blocks : List Block) (s : Setting hs blocks) (x : HtlcOutput) (output : CommitmentOutput) → IsHtlcAt (contents s) x output
     → (coin : Coin) → IsCoinOf blocks (claim_of (contents s) x output) coin → Standing hs blocks (contents s) (claim_of (contents s) x output)
-direct_htlc hs blocks s x output a coin is = settled hs blocks (IsPaidOrLate (contents s) (claim_of (contents s) x output)) (claim_of (contents s) x output) coin is by_name
+direct_htlc hs blocks s x output a coin is = settled hs blocks (IsPaidOrLate false (contents s) (claim_of (contents s) x output)) (claim_of (contents s) x output) coin is by_name
   where
     same_coin : IsCoinOf blocks (on_it (contents s) x output) coin
     same_coin = record { there = is.there; output = is.output }
@@ -616,13 +609,14 @@ direct_htlc hs blocks s x output a coin is = settled hs blocks (IsPaidOrLate (co
     output_of : IsOnHtlc (contents s) x (claim_of (contents s) x output)
     output_of = record { among = a.among; at = refl }
 
-    strings : StringsCollide (IsHashedForCommitment (terms_in s.holding) s.commitment) (IsHashedForCommitment (terms_in s.holding) s.commitment) → Breaks hs blocks
-    strings z = strings_break hs blocks s.holding s.holding s.held s.held s.number s.number s.commitment s.commitment s.there s.there z
+    strings : Collision (Collide sha256) (IsHashedForKey (terms_in s.holding) s.commitment) (IsHashedForKey (terms_in s.holding) s.commitment) → Breaks hs blocks
+    strings z = by_keys (peers_collide (Collide sha256) IsHashedForKey hs s.holding s.holding s.held s.held s.number s.number s.commitment s.commitment s.there s.there z)
 
-    owned : (height : ℕ) (t : Transaction) (input : TxIn) → IsNamedBy blocks (claim_of (contents s) x output) height t input → (key : List ℕ) → Contains (peer_keys (contents s).keys) key
-        → IsSignedBy key (spend_on (on_it (contents s) x output) t input) → IsOwnInput hs blocks (contents s) key (spend_on (on_it (contents s) x output) t input)
-    owned height t input n key i signed =
-        own_input hs blocks s (on_it (contents s) x output) (htlc_lock hs blocks s x output a) (htlc_plain hs blocks s x output a) coin same_coin height t input (as_penalty blocks (contents s) x output height t input n) key i signed
+    owned : (height : ℕ) (t : Transaction) (input : TxIn) → IsNamedBy blocks (claim_of (contents s) x output) height t input → (r : IsRead hs (output_lock (on_it (contents s) x output)) height t input coin.height)
+        → (key : List ℕ) → Contains (peer_keys (contents s).keys) key → IsSignedBy key (spend_on (on_it (contents s) x output) t (signed_input input r.items))
+        → IsOwnInput hs blocks (contents s) key (spend_on (on_it (contents s) x output) t input)
+    owned height t input n r key i signed =
+        own_input hs blocks s (on_it (contents s) x output) (htlc_lock hs blocks s x output a) (htlc_plain hs blocks s x output a) coin same_coin height t input (as_penalty blocks (contents s) x output height t input n) r key i signed
 
     by_own : (height : ℕ) (t : Transaction) (input : TxIn) → IsNamedBy blocks (claim_of (contents s) x output) height t input → (key : List ℕ)
         → IsOwnInput hs blocks (contents s) key (spend_on (on_it (contents s) x output) t input)
@@ -656,44 +650,46 @@ direct_htlc hs blocks s x output a coin is = settled hs blocks (IsPaidOrLate (co
           first = sha256 p.preimage;
           second = x.htlc.hash;
           of_first = (p.preimage, p.given, refl);
-          of_second = record { holding = s.holding; held = s.held; number = s.number; commitment = s.commitment; signed = s.there; htlc = x; among = a.among; is = refl };
+          of_second = record { holding = s.holding; held = s.held; number = s.number; commitment = s.commitment; signed = s.there; is = (x, a.among, refl) };
           collide = (λ d. false≢true (sym e ∙ (bytes_eq-Decides (sha256 p.preimage) x.htlc.hash).1 d), p.hashed);
         }))
 
-    by_way : (height : ℕ) (t : Transaction) (input : TxIn) → IsNamedBy blocks (claim_of (contents s) x output) height t input → keeps_locks height t input coin.height ≡ true
-        → OpensHtlc (contents s) x.direction x.htlc output.value t input → Standing hs blocks (contents s) (claim_of (contents s) x output)
-    by_way height t input n locks (by_revocation signed) =
-        by_own height t input n (contents s).keys.revocation (owned height t input n (contents s).keys.revocation (0, omega arith, refl) signed)
+    by_way : (height : ℕ) (t : Transaction) (input : TxIn) → IsNamedBy blocks (claim_of (contents s) x output) height t input → (r : IsRead hs (output_lock (on_it (contents s) x output)) height t input coin.height)
+        → OpensHtlc (contents s) x.direction x.htlc output.value t (signed_input input r.items) → Standing hs blocks (contents s) (claim_of (contents s) x output)
+    by_way height t input n r (by_revocation signed) =
+        by_own height t input n (contents s).keys.revocation (owned height t input n r (contents s).keys.revocation (0, omega arith, refl) signed)
         (λ y same e k. broken (strings (not_both_keys (terms_in s.holding) s.commitment k)))
-    by_way height t input n locks (by_remote d signed) =
-        by_own height t input n (contents s).keys.remote_htlc (owned height t input n (contents s).keys.remote_htlc (1, omega arith, refl) signed) (λ y same e k. by_lock height t input n locks d (as_htlc t y same e))
-    by_way height t input n locks (opens_by_preimage d signed p) = by_shown height t input n d p (bytes_eq (sha256 p.preimage) x.htlc.hash) refl
-    by_way height t input n locks (by_expiry d signed lock) =
-        by_own height t input n (contents s).keys.remote_htlc (owned height t input n (contents s).keys.remote_htlc (1, omega arith, refl) signed)
+    by_way height t input n r (by_remote d signed) =
+        by_own height t input n (contents s).keys.remote_htlc (owned height t input n r (contents s).keys.remote_htlc (1, omega arith, refl) signed)
+        (λ y same e k. by_lock height t input n r.locks d (as_htlc t y same e))
+    by_way height t input n r (opens_by_preimage d signed p) =
+        let q = read_preimage hs (output_lock (on_it (contents s) x output)) height t input coin.height r (ripemd160 x.htlc.hash) p in
+        by_shown height t input n d q (bytes_eq (sha256 q.preimage) x.htlc.hash) refl
+    by_way height t input n r (by_expiry d signed lock) =
+        by_own height t input n (contents s).keys.remote_htlc (owned height t input n r (contents s).keys.remote_htlc (1, omega arith, refl) signed)
         (λ y same e k.
-        absurd (let above = not_above t input (spelling (htlc_form (contents s).keys x.direction x.htlc).ops) output.value x.htlc.expiry_height lock in
+        absurd (let above = not_above t (signed_input input r.items) (spelling (htlc_form (contents s).keys x.direction x.htlc).ops) output.value x.htlc.expiry_height lock in
         let is = lock_is (contents s) x t (as_htlc t y same e) in
         let zero = received_lock x d in
         let later = (kept_one hs s.watched.kept s.holding s.held).expiries s.number s.commitment s.there x a.among d in
         omega (arith, above, is, zero, later)))
-    by_way height t input n locks (opens_by_script z) =
-        broken (shows_break hs blocks s (on_it (contents s) x output) (htlc_lock hs blocks s x output a) coin same_coin height t input (as_penalty blocks (contents s) x output height t input n) (of_script z))
-    by_way height t input n locks (opens_by_key z) =
-        broken (by_key (spend_on (on_it (contents s) x output) t input)
-        (spend_on_chain hs blocks (output_lock (on_it (contents s) x output)) height t input
-        (names hs blocks (on_it (contents s) x output) (htlc_lock hs blocks s x output a) coin same_coin height t input (as_penalty blocks (contents s) x output height t input n))) (contents s).keys.revocation
-        (peers_key_own hs s.holding s.held s.number s.commitment s.there (contents s).keys.revocation (0, omega arith, refl)) z)
+    by_way height t input n r (opens_by_script z) =
+        broken (script_breaks hs blocks s (on_it (contents s) x output) (htlc_lock hs blocks s x output a) coin same_coin height t input (as_penalty blocks (contents s) x output height t input n) r z)
+    by_way height t input n r (opens_by_key z) =
+        broken (key_breaks hs blocks s (on_it (contents s) x output) (htlc_lock hs blocks s x output a) coin same_coin height t input (as_penalty blocks (contents s) x output height t input n) r
+        (contents s).keys.revocation (0, omega arith, refl) z)
 
     by_name : (height : ℕ) (t : Transaction) (input : TxIn) → IsNamedBy blocks (claim_of (contents s) x output) height t input → Standing hs blocks (contents s) (claim_of (contents s) x output)
     by_name height t input n =
         let m = as_penalty blocks (contents s) x output height t input n in
-        by_way height t input n (ran hs blocks s (on_it (contents s) x output) (htlc_lock hs blocks s x output a) coin same_coin height t input m).locks (opens hs blocks s x output a coin same_coin height t input m)
+        let r = ran hs blocks s (on_it (contents s) x output) (htlc_lock hs blocks s x output a) coin same_coin height t input m in
+        by_way height t input n r (opens hs blocks s x output a coin same_coin height t input m r)
 
 pub peers_are_resolved : PeersAreResolved
 peers_are_resolved hs blocks v h held n k there chain o (payment index output at e) =
     let s : Setting hs blocks = record { watched = v; holding = h; held = held; number = n; commitment = k; there = there; chain = chain } in
     subst (Standing hs blocks (contents_of (terms_in h) k)) (sym e)
-    (resolved_remote hs blocks s (IsPaidOrLate (contents_of (terms_in h) k) (payment_on (contents_of (terms_in h) k) (place_at (contents_of (terms_in h) k) index output))) index output at)
+    (resolved_remote hs blocks s (IsPaidOrLate false (contents_of (terms_in h) k) (payment_on (contents_of (terms_in h) k) (place_at (contents_of (terms_in h) k) index output))) index output at)
 peers_are_resolved hs blocks v h held n k there chain o (direct x output at e) =
     let s : Setting hs blocks = record { watched = v; holding = h; held = held; number = n; commitment = k; there = there; chain = chain } in
     let c = contents_of (terms_in h) k in

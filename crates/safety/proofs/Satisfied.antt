@@ -33,11 +33,12 @@ to_local_satisfied revocation delay_blocks delayed h k l spend witness counted h
     opened (suc (suc n), y, i, f, p) = absurd (omega (arith, i))
 
 -- a key in a slot, of a hash, whose token is in another slot
-key_in : (spend : Spend) (witness : List (List ℕ)) (hash : List ℕ) → length witness ≡ 2 → bytes_eq (hash160 (slot_of (reverse witness) 0)) hash ≡ true
+key_in : (spend : Spend) (witness : List (List ℕ)) (hash : List ℕ) → length witness ≡ 2 → bytes_eq (hash160 (slot_of (reverse witness) 0)) hash ≡ true → is_key (slot_of (reverse witness) 0) ≡ true
     → bytes_eq (slot_of (reverse witness) 1) (token_of (slot_of (reverse witness) 0) spend.digest) ≡ true → HasKeyOf spend witness hash
-key_in spend witness hash n e f = record {
+key_in spend witness hash n e k f = record {
   key = slot_of (reverse witness) 0;
   given = slot_contained witness 0 (omega (arith, n));
+  form = k;
   hashed = same_bytes (hash160 (slot_of (reverse witness) 0)) hash e;
   token = slot_token spend witness 1 (slot_of (reverse witness) 0) (omega (arith, n)) f;
 }
@@ -57,7 +58,7 @@ key_hash_satisfied hash n spend witness counted height e = opened (listing-exhau
     opened : Any (SatisfiesBy spend witness counted height) (key_hash_ways hash) → HasKeyOf spend witness hash
     opened (zero, y, i, f, p) =
         let o = subst (SatisfiesBy spend witness counted height) (sym f) p in
-        key_in spend witness hash o.meets.exact o.meets.holds.0 o.meets.holds.1.1.1.0
+        key_in spend witness hash o.meets.exact o.meets.holds.0 o.meets.holds.1.0 o.meets.holds.1.1.1.0
     opened (suc n, y, i, f, p) = absurd (omega (arith, i))
 
 -- two tokens of two keys, in the order of the keys
@@ -86,7 +87,7 @@ offered_satisfied revocation_hash remote local payment_hash m n k l spend witnes
     opened : Any (SatisfiesBy spend witness counted height) (offered_ways revocation_hash remote local payment_hash) → SatisfiesOffered revocation_hash remote local payment_hash spend witness
     opened (zero, y, i, f, p) =
         let o = subst (SatisfiesBy spend witness counted height) (sym f) p in
-        inl (key_in spend witness revocation_hash o.meets.exact o.meets.holds.0 o.meets.holds.1.1.1.0)
+        inl (key_in spend witness revocation_hash o.meets.exact o.meets.holds.0 o.meets.holds.1.0 o.meets.holds.1.1.1.0)
     opened (suc zero, y, i, f, p) =
         let o = subst (SatisfiesBy spend witness counted height) (sym f) p in
         let b = both_tokens spend witness remote local o.meets.exact o.meets.holds.1.1.1.1.1.0 in
@@ -104,7 +105,7 @@ received_satisfied revocation_hash remote local payment_hash expiry_height h m n
     opened : Any (SatisfiesBy spend witness counted height) (received_ways revocation_hash remote local payment_hash expiry_height) → SatisfiesReceived revocation_hash remote local payment_hash expiry_height spend witness
     opened (zero, y, i, f, p) =
         let o = subst (SatisfiesBy spend witness counted height) (sym f) p in
-        inl (key_in spend witness revocation_hash o.meets.exact o.meets.holds.0 o.meets.holds.1.1.1.0)
+        inl (key_in spend witness revocation_hash o.meets.exact o.meets.holds.0 o.meets.holds.1.0 o.meets.holds.1.1.1.0)
     opened (suc zero, y, i, f, p) =
         let o = subst (SatisfiesBy spend witness counted height) (sym f) p in
         let b = both_tokens spend witness remote local o.meets.exact o.meets.holds.1.1.1.1.1.1.0 in
@@ -116,7 +117,7 @@ received_satisfied revocation_hash remote local payment_hash expiry_height h m n
 
 -- ---- the funding output
 
-two_satisfied : (first second : List ℕ) → is_key first ≡ true → is_key second ≡ true → OnSatisfied (two_of_two first second) (SatisfiesFunding first second)
+pub two_satisfied : (first second : List ℕ) → is_key first ≡ true → is_key second ≡ true → OnSatisfied (two_of_two first second) (SatisfiesFunding first second)
 two_satisfied first second k l spend witness counted height e =
     opened (listing-exhaustive (two_of_two first second) (two_of_two_ways first second) (two_of_two-listed first second k l (key_length first k) (key_length second l)) spend witness counted height e)
   where

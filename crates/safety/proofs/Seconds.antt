@@ -12,11 +12,10 @@ use Rattle.commit.specs.declared.outputs.HtlcOutput.{HtlcOutput}
 use Rattle.commit.specs.Commitments.{Contents, tx_output, transaction_of, htlcs_of, htlc_tx_of}
 use Rattle.penalty.specs.declared.states.RevokedState.{RevokedState}
 use Rattle.penalty.specs.Claimable.{place_in, commitment_in}
-use Rattle.safety.specs.Signing.{IsSignable}
 use Rattle.safety.specs.Fates.{htlc_signed}
 use Rattle.safety.specs.Whereabouts.{IsOnChain, HasCommitment}
 use Rattle.safety.proofs.Lists.{contains_map, any_found, any_holds, both}
-use Rattle.safety.proofs.Limits.{htlcs_signable}
+use Rattle.safety.proofs.Limits.{IsLimited, htlcs_limited}
 use Rattle.safety.proofs.Fates.{bare_second}
 use Rattle.safety.proofs.Stripped.{has_stripped, on_chain, by_bytes}
 use Rattle.safety.proofs.Indices.{IsHtlcIn, htlc_in, one_htlc}
@@ -36,10 +35,10 @@ found blocks c h i o =
 
 pub second_limits : (state : RevokedState) (h : HtlcOutput) → Contains (htlcs_of (commitment_in state)) h → KeepsLimits (htlc_tx_of (commitment_in state) h)
 second_limits state h i =
-    let signable : IsSignable (htlc_signed (commitment_in state) h) =
-    All-contains IsSignable (map (htlc_signed (commitment_in state)) (htlcs_of (commitment_in state))) (htlc_signed (commitment_in state) h) (htlcs_signable state)
+    let limited : IsLimited (htlc_signed (commitment_in state) h) =
+    All-contains IsLimited (map (htlc_signed (commitment_in state)) (htlcs_of (commitment_in state))) (htlc_signed (commitment_in state) h) (htlcs_limited state)
     (contains_map (htlc_signed (commitment_in state)) (htlcs_of (commitment_in state)) h i) in
-    signable.transaction
+    limited.limits
 
 pub stands_at : (blocks : List Block) (state : RevokedState) → HasCommitment blocks state → (h : HtlcOutput) → IsHtlcIn 0 (commitment_in state).outputs h → standing blocks (commitment_in state) h.index ≡ true
     → IsOnChain blocks (htlc_tx_of (commitment_in state) h)

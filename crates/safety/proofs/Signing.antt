@@ -1,5 +1,5 @@
 -- One digest signs one input of one transaction, or lists of bytes collide.
-use Rattle.std.proofs.Common.{◌≡◌, ◌≢◌, ℕ, ◌^◌, ◌<◌, Bool, true, false, List, [], ◌∷◌, ◌++◌, length, Ok, sym, ap, ◌∙◌, refl, inl, inr, append_assoc, length-append, arith}
+use Rattle.std.proofs.Common.{◌≡◌, ◌≢◌, ℕ, ◌^◌, ◌<◌, ◌≤◌, Bool, true, false, List, [], ◌∷◌, ◌++◌, length, Ok, sym, ap, ◌∙◌, refl, inl, inr, append_assoc, length-append, arith}
 use Rattle.std.specs.Prelude.{◌⊎◌}
 use Rattle.std.specs.List.{AllByRecursion}
 use Rattle.std.specs.Str.{bytes_eq}
@@ -10,14 +10,14 @@ use Rattle.digest.specs.Hash.{sha256d}
 use Rattle.tx.specs.declared.input.OutPoint.{OutPoint}
 use Rattle.tx.specs.declared.input.TxIn.{TxIn}
 use Rattle.tx.specs.Parts.{IsBounded, Output, IsOutput}
-use Rattle.tx.specs.Fields.{Transaction, IsInput, signed_input, unsigned_inputs, unsigned_transaction}
-use Rattle.tx.specs.Spelling.{number, bytes_with_length, outpoint, output}
-use Rattle.tx.specs.Reading.{Field}
+use Rattle.tx.specs.Fields.{Transaction, IsInput, KeepsLimits, signed_input, unsigned_inputs, unsigned_transaction}
+use Rattle.tx.specs.Spelling.{number, compact_size, bytes_with_length, outpoint, output}
+use Rattle.tx.specs.Reading.{Field, compact_size_up_to}
 use Rattle.tx.proofs.Numbers.{ok_is, Reads, taken_reads, wide32, wide64, number_reads}
-use Rattle.tx.proofs.Counts.{text_reads}
+use Rattle.tx.proofs.Counts.{count_up_to_reads, text_reads}
 use Rattle.sighash.specs.Signing.{all_outpoints, all_sequences, all_outputs, signed_list}
 use Rattle.sighash.proofs.Tokens.{one_token}
-use Rattle.safety.specs.Signing.{Signed, list_of, digest_of, IsSignable, AreSame, ListsCollide, wholes, outpoints, sequences, outputs, OneDigest, OneToken}
+use Rattle.safety.specs.Signing.{Signed, list_of, digest_of, FieldsFit, IsSignable, AreSame, ListsCollide, wholes, outpoints, sequences, outputs, OneDigest, OneToken}
 use Rattle.safety.proofs.Slots.{same_bytes}
 
 pair_of : {A : Type 0} (x y : A) (a b : List ℕ) → ◌≡◌ {A = Field A} (Ok (x, a)) (Ok (y, b)) → (x ≡ y) × (a ≡ b)
@@ -41,6 +41,14 @@ values x y a b g h e = fronts _ (number 8) (λ n. n < 2 ^ 64) (number_reads 8 (2
 texts : (x y a b : List ℕ) → IsBounded x → IsBounded y → bytes_with_length x ++ a ≡ bytes_with_length y ++ b → (x ≡ y) × (a ≡ b)
 texts x y a b g h e = fronts _ bytes_with_length IsBounded text_reads x y a b g h e
 
+-- bytes of any length after it
+long_texts : (x y a b : List ℕ) → length x < 2 ^ 64 → length y < 2 ^ 64 → bytes_with_length x ++ a ≡ bytes_with_length y ++ b → (x ≡ y) × (a ≡ b)
+unfolding bytes_with_length
+long_texts x y a b g h e =
+    let p = fronts (compact_size_up_to 0xffffffffffffffff) compact_size (λ n. n ≤ 0xffffffffffffffff) (count_up_to_reads 0xffffffffffffffff (omega arith)) (length x) (length y) (x ++ a) (y ++ b) (omega (arith, g)) (omega (arith, h))
+    (sym (append_assoc (compact_size (length x)) x a) ∙ e ∙ append_assoc (compact_size (length y)) y b) in
+    fronts _ (λ z. z) (λ z. length z ≡ length y) (taken_reads (length y)) x y a b p.0 refl p.1
+
 -- an outpoint
 point_parts : (o : OutPoint) (a : List ℕ) → outpoint o ++ a ≡ o.txid ++ (number 4 o.index ++ a)
 unfolding outpoint
@@ -49,7 +57,7 @@ point_parts o a = append_assoc o.txid (number 4 o.index) a
 same_point : (o p : OutPoint) → o.txid ≡ p.txid → o.index ≡ p.index → o ≡ p
 same_point o p e f = ap (λ (t : List ℕ). record { txid = t; index = o.index }) e ∙ ap (λ (n : ℕ). record { txid = p.txid; index = n }) f
 
-points : (i j : TxIn) (a b : List ℕ) → IsInput i → IsInput j → outpoint i.outpoint ++ a ≡ outpoint j.outpoint ++ b → (i.outpoint ≡ j.outpoint) × (a ≡ b)
+points : (i j : TxIn) (a b : List ℕ) → IsInput (signed_input i []) → IsInput (signed_input j []) → outpoint i.outpoint ++ a ≡ outpoint j.outpoint ++ b → (i.outpoint ≡ j.outpoint) × (a ≡ b)
 points i j a b g h e =
     let p = hashes i.outpoint.txid j.outpoint.txid _ _ g.txid h.txid (sym (point_parts i.outpoint a) ∙ e ∙ point_parts j.outpoint b) in
     let q = words i.outpoint.index j.outpoint.index a b g.index h.index p.1 in
@@ -62,7 +70,7 @@ same_input i j e f = ap (λ (o : OutPoint). record { outpoint = o; sequence = i.
 not_empty : (k n : ℕ) (a : List ℕ) → length (number k n) ≡ k → 0 < k → [] ≡ number k n ++ a → ⊥
 not_empty k n a l h e = omega (arith, l, h, ap length e, length-append (number k n) a)
 
-pub same_inputs : (xs ys : List TxIn) → AllByRecursion IsInput xs → AllByRecursion IsInput ys → all_outpoints xs ≡ all_outpoints ys → all_sequences xs ≡ all_sequences ys → unsigned_inputs xs ≡ unsigned_inputs ys
+same_inputs : (xs ys : List TxIn) → AllByRecursion IsInput (unsigned_inputs xs) → AllByRecursion IsInput (unsigned_inputs ys) → all_outpoints xs ≡ all_outpoints ys → all_sequences xs ≡ all_sequences ys → unsigned_inputs xs ≡ unsigned_inputs ys
 unfolding all_outpoints all_sequences
 same_inputs [] [] g h e f = refl
 same_inputs [] (y ∷ ys) g h e f = absurd (not_empty 4 y.sequence (all_sequences ys) (wide32.len y.sequence) (omega arith) f)
@@ -84,16 +92,17 @@ same_output o p e f = ap (λ (n : ℕ). record { value = n; script = o.script })
 output_there : (o : Output) (a : List ℕ) → [] ≡ output o ++ a → ⊥
 output_there o a e = not_empty 8 o.value (bytes_with_length o.script ++ a) (wide64.len o.value) (omega arith) (e ∙ output_parts o a)
 
-pub same_outputs : (xs ys : List Output) → AllByRecursion IsOutput xs → AllByRecursion IsOutput ys → all_outputs xs ≡ all_outputs ys → xs ≡ ys
+abbrev OutputsFit : List Output → Type 0
+OutputsFit os = AllByRecursion (λ (o : Output). (o.value < 2 ^ 64) × (length o.script < 2 ^ 64)) os
+
+same_outputs : (xs ys : List Output) → OutputsFit xs → OutputsFit ys → all_outputs xs ≡ all_outputs ys → xs ≡ ys
 unfolding all_outputs
 same_outputs [] [] g h e = refl
 same_outputs [] (y ∷ ys) g h e = absurd (output_there y (all_outputs ys) e)
 same_outputs (x ∷ xs) [] g h e = absurd (output_there x (all_outputs xs) (sym e))
 same_outputs (x ∷ xs) (y ∷ ys) g h e =
-    let m = g.0.value in
-    let n = h.0.value in
-    let p = values x.value y.value _ _ (omega (arith, m)) (omega (arith, n)) (sym (output_parts x (all_outputs xs)) ∙ e ∙ output_parts y (all_outputs ys)) in
-    let q = texts x.script y.script (all_outputs xs) (all_outputs ys) g.0.script h.0.script p.1 in
+    let p = values x.value y.value _ _ g.0.0 h.0.0 (sym (output_parts x (all_outputs xs)) ∙ e ∙ output_parts y (all_outputs ys)) in
+    let q = long_texts x.script y.script (all_outputs xs) (all_outputs ys) g.0.1 h.0.1 p.1 in
     let r = same_outputs xs ys g.1 h.1 q.1 in
     let s = same_output x y p.0 q.0 in
     rw (s, r) refl
@@ -150,8 +159,8 @@ with_fields s z g h f =
     by true true true i j k =
         inl (record {
           transaction = same_transaction s.transaction z.transaction f.version
-              (same_inputs s.transaction.inputs z.transaction.inputs g.transaction.inputs.each h.transaction.inputs.each (same_bytes _ _ i) (same_bytes _ _ j))
-              (same_outputs s.transaction.outputs z.transaction.outputs g.transaction.outputs.each h.transaction.outputs.each (same_bytes _ _ k)) f.lock_time;
+              (same_inputs s.transaction.inputs z.transaction.inputs g.transaction.inputs h.transaction.inputs (same_bytes _ _ i) (same_bytes _ _ j))
+              (same_outputs s.transaction.outputs z.transaction.outputs g.transaction.outputs h.transaction.outputs (same_bytes _ _ k)) f.lock_time;
           input = same_input s.input z.input f.point f.sequence;
           code = f.code;
           value = f.value;
@@ -168,3 +177,19 @@ pub one_token_signs : OneToken
 one_token_signs key other s z l g h e =
     let p = one_token key other (digest_of s) (digest_of z) l e in
     (p.0, one_digest s z g h p.1)
+
+-- ---- what keeps the limits fits
+
+pub bare_input : (i : TxIn) → IsInput i → IsInput (signed_input i [])
+bare_input i g = record { txid = g.txid; index = g.index; sequence = g.sequence; witness = record { count = omega arith; each = tt } }
+
+inputs_fit : (xs : List TxIn) → AllByRecursion IsInput xs → AllByRecursion IsInput (unsigned_inputs xs)
+inputs_fit [] g = tt
+inputs_fit (x ∷ xs) g = (bare_input x g.0, inputs_fit xs g.1)
+
+outputs_fit : (os : List Output) → AllByRecursion IsOutput os → OutputsFit os
+outputs_fit [] g = tt
+outputs_fit (o ∷ os) g = let v = g.0.value in let s = g.0.script in ((omega (arith, v), omega (arith, s)), outputs_fit os g.1)
+
+pub limits_fit : (t : Transaction) → KeepsLimits t → FieldsFit t
+limits_fit t k = record { version = k.version; inputs = inputs_fit t.inputs k.inputs.each; outputs = outputs_fit t.outputs k.outputs.each; lock_time = k.lock_time }

@@ -14,7 +14,7 @@ use Rattle.safety.specs.Taking.{ShowsOnly, IsTaken, OnlyAsSigned}
 use Rattle.safety.proofs.Claimed.{delay_short}
 use Rattle.safety.proofs.Limits.{is_plain}
 use Rattle.safety.proofs.OnChain.{who_spends}
-use Rattle.safety.proofs.Signing.{one_digest}
+use Rattle.safety.proofs.Signing.{one_digest, bare_input, limits_fit}
 
 -- what was signed with one digest
 signed_with : (s : Signed) (signed : List Signed) → IsSignable s → All IsSignable signed → Any (λ z. digest_of s ≡ digest_of z) signed → Any (AreSame s) signed ⊎ Any (ListsCollide s) signed
@@ -34,5 +34,5 @@ only_as_signed state o height t input coin k signed all w =
     let value = p.low in
     let good : IsInput input = All-contains IsInput t.inputs input (All-from_recursion IsInput t.inputs w.limits.inputs.each) w.among in
     taken state o coin.height height t input signed
-    (record { transaction = w.limits; input = good; code = omega (arith, code); value = omega (arith, value) }) all w.shows
+    (record { transaction = limits_fit t w.limits; input = bare_input input good; code = omega (arith, code); value = omega (arith, value) }) all w.shows
     (who_spends state o height t input coin k)

@@ -71,7 +71,7 @@ remote_stolen : is_stolen channels (at_two first (takes on_remote (item ∷ []))
 unfolding htlcs_from commitment_of outputs_of in_order output_cmp
 remote_stolen = rw (same_eq (id_of c), first_apart) refl
 
-remote_lost : Resolution channels (at_two first (takes on_remote (item ∷ []))) (IsPaidOrLate c to_remote) to_remote → Breaks channels (at_two first (takes on_remote (item ∷ [])))
+remote_lost : Resolution Breaks channels (at_two first (takes on_remote (item ∷ []))) (IsPaidOrLate false c to_remote) to_remote → Breaks channels (at_two first (takes on_remote (item ∷ [])))
 remote_lost = stolen_claim channels (at_two first (takes on_remote (item ∷ []))) c to_remote remote_stolen
 
 -- ---- an HTLC that the node had offered: by a token alone, after its expiry too; and with the preimage
@@ -80,7 +80,7 @@ offered_stolen : is_stolen channels (at_four first (takes (on_htlc first_htlc 10
 unfolding htlcs_from commitment_of outputs_of in_order output_cmp
 offered_stolen = rw (same_eq (id_of c), first_apart) refl
 
-offered_lost : Resolution channels (at_four first (takes (on_htlc first_htlc 10000) (item ∷ []))) (IsPaidOrLate c offered) offered → Breaks channels (at_four first (takes (on_htlc first_htlc 10000) (item ∷ [])))
+offered_lost : Resolution Breaks channels (at_four first (takes (on_htlc first_htlc 10000) (item ∷ []))) (IsPaidOrLate false c offered) offered → Breaks channels (at_four first (takes (on_htlc first_htlc 10000) (item ∷ [])))
 offered_lost = stolen_claim channels (at_four first (takes (on_htlc first_htlc 10000) (item ∷ []))) c offered offered_stolen
 
 offered_paid : is_stolen channels (at_two first (takes (on_htlc first_htlc 10000) (item ∷ replicate 32 7 ∷ []))) (paid_or_late c offered) offered ≡ false
@@ -93,7 +93,7 @@ received_stolen : is_stolen channels (at_three first (takes (on_htlc second_htlc
 unfolding htlcs_from commitment_of outputs_of in_order output_cmp
 received_stolen = rw (same_eq (id_of c), first_apart) refl
 
-received_lost : Resolution channels (at_three first (takes (on_htlc second_htlc 12000) (item ∷ replicate 32 8 ∷ []))) (IsPaidOrLate c received) received → Breaks channels (at_three first (takes (on_htlc second_htlc 12000) (item ∷ replicate 32 8 ∷ [])))
+received_lost : Resolution Breaks channels (at_three first (takes (on_htlc second_htlc 12000) (item ∷ replicate 32 8 ∷ []))) (IsPaidOrLate false c received) received → Breaks channels (at_three first (takes (on_htlc second_htlc 12000) (item ∷ replicate 32 8 ∷ [])))
 received_lost = stolen_claim channels (at_three first (takes (on_htlc second_htlc 12000) (item ∷ replicate 32 8 ∷ []))) c received received_stolen
 
 received_late : is_stolen channels (at_four first (takes (on_htlc second_htlc 12000) (item ∷ []))) (paid_or_late c received) received ≡ false
@@ -120,7 +120,7 @@ two_blocks : d.delay_blocks ≡ 2
 unfolding commitment_of
 two_blocks = refl
 
-local_lost : Resolution channels (at_two second (takes on_local (item ∷ []))) (IsSlept d (penalty_on d on_local)) (penalty_on d on_local) → Breaks channels (at_two second (takes on_local (item ∷ [])))
+local_lost : Resolution Breaks channels (at_two second (takes on_local (item ∷ []))) (IsSlept d (penalty_on d on_local)) (penalty_on d on_local) → Breaks channels (at_two second (takes on_local (item ∷ [])))
 unfolding commitment_of
 local_lost = stolen_penalty channels (at_two second (takes on_local (item ∷ []))) d (penalty_on d on_local) local_stolen
 

@@ -1,5 +1,5 @@
 -- A test that nothing is broken: no two of the strings that `Breaks` names have one hash. What passes it has no `Breaks`, so the laws on such a chain say what happened there, and nothing else.
-use Rattle.std.proofs.Common.{◌≡◌, ℕ, Bool, true, false, not, List, [], ◌∷◌, ◌++◌, map, Some, sym, ap, ◌∙◌, refl, subst, arith}
+use Rattle.std.proofs.Common.{◌≡◌, ℕ, Bool, true, false, not, List, [], ◌∷◌, ◌++◌, map, Some, sym, ap, ◌∙◌, refl, subst, inl, inr, arith}
 use Rattle.std.specs.Prelude.{◌&&◌, ◌||◌, slice_get, codes}
 use Rattle.std.specs.List.{Contains, Any, list_all, flat_map}
 use Rattle.std.specs.Str.{bytes_eq}
@@ -31,7 +31,7 @@ use Rattle.safety.specs.Strings.{IsHashedForCommitment, of_transaction, of_to_lo
 use Rattle.safety.specs.Holdings.{Holding, terms_in}
 use Rattle.safety.specs.Given.{GivenToken, given_by}
 use Rattle.safety.specs.Premises.{LockedOutput, spend, locks_by, keys_by, each_input}
-use Rattle.safety.specs.Breaks.{IsSpendOn, IsHashedForPeers, IsPaymentHash, Breaks, by_strings, by_script, by_key, by_digest, by_preimage}
+use Rattle.safety.specs.Breaks.{IsSpendOn, IsHashedForId, IsHashedForKey, IsForPeers, IsPaymentHash, Breaks, by_ids, by_keys, by_script, by_key, by_digest, by_preimage}
 use Rattle.safety.proofs.Slots.{contains_first, contains_later, same_bytes}
 use Rattle.safety.proofs.Lists.{contained, contains_map}
 use Rattle.safety.proofs.Tests.{flat_in, all_hold, or_then, on_input}
@@ -95,11 +95,19 @@ is_string terms k bytes (of_payment_key f) = in_own terms k bytes (2, omega arit
 is_string terms k bytes (of_revocation_key f) = in_own terms k bytes (3, omega arith, sym f)
 is_string terms k bytes (of_htlc_key f) = in_own terms k bytes (4, omega arith, sym f)
 
-peers_string : (hs : List Holding) (bytes : List ℕ) → IsHashedForPeers hs bytes → Contains (strings_in hs) bytes
-peers_string hs bytes p =
+peers_string : (IsHashed : Terms → CommitmentState → List ℕ → Type 0) → ((terms : Terms) (k : CommitmentState) (bytes : List ℕ) → IsHashed terms k bytes → Contains (strings_of terms k) bytes)
+    → (hs : List Holding) (bytes : List ℕ) → IsForPeers IsHashed hs bytes → Contains (strings_in hs) bytes
+peers_string IsHashed is_one hs bytes p =
     flat_in (λ (h : Holding). flat_map (strings_of (terms_in h)) h.state.signed) hs p.holding bytes p.held
     (flat_in (strings_of (terms_in p.holding)) p.holding.state.signed p.commitment bytes (contained p.holding.state.signed p.number p.commitment p.signed)
-    (is_string (terms_in p.holding) p.commitment bytes p.hashed))
+    (is_one (terms_in p.holding) p.commitment bytes p.is))
+
+for_id : (terms : Terms) (k : CommitmentState) (bytes : List ℕ) → IsHashedForId terms k bytes → Contains (strings_of terms k) bytes
+for_id terms k bytes i = is_string terms k bytes (of_transaction i.0 i.1 i.2)
+
+for_key : (terms : Terms) (k : CommitmentState) (bytes : List ℕ) → IsHashedForKey terms k bytes → Contains (strings_of terms k) bytes
+for_key terms k bytes (inl e) = is_string terms k bytes (of_revocation_key e)
+for_key terms k bytes (inr e) = is_string terms k bytes (of_htlc_key e)
 
 -- under each of the three hashes
 abbrev pub strings_apart : List (List ℕ) → Bool
@@ -144,13 +152,13 @@ no_lists s z e c =
 abbrev pub payment_hashes : List Holding → List (List ℕ)
 payment_hashes hs = flat_map (λ h. flat_map (λ k. map (λ x. x.htlc.hash) (htlcs_of (contents_of (terms_in h) k))) h.state.signed) hs
 
-is_payment_hash : (hs : List Holding) (hash : List ℕ) → IsPaymentHash hs hash → Contains (payment_hashes hs) hash
+is_payment_hash : (hs : List Holding) (hash : List ℕ) → IsForPeers IsPaymentHash hs hash → Contains (payment_hashes hs) hash
 is_payment_hash hs hash p =
     flat_in (λ (h : Holding). flat_map (λ (k : CommitmentState). map (λ (x : HtlcOutput). x.htlc.hash) (htlcs_of (contents_of (terms_in h) k))) h.state.signed) hs p.holding hash p.held
     (flat_in (λ (k : CommitmentState). map (λ (x : HtlcOutput). x.htlc.hash) (htlcs_of (contents_of (terms_in p.holding) k))) p.holding.state.signed p.commitment hash
     (contained p.holding.state.signed p.number p.commitment p.signed)
-    (subst (λ (h : List ℕ). Contains (map (λ (x : HtlcOutput). x.htlc.hash) (htlcs_of (contents_of (terms_in p.holding) p.commitment))) h) (sym p.is)
-    (contains_map (λ (x : HtlcOutput). x.htlc.hash) (htlcs_of (contents_of (terms_in p.holding) p.commitment)) p.htlc p.among)))
+    (subst (λ (h : List ℕ). Contains (map (λ (x : HtlcOutput). x.htlc.hash) (htlcs_of (contents_of (terms_in p.holding) p.commitment))) h) (sym p.is.2)
+    (contains_map (λ (x : HtlcOutput). x.htlc.hash) (htlcs_of (contents_of (terms_in p.holding) p.commitment)) p.is.0 p.is.1)))
 
 -- an input that spends an output
 abbrev pub input_apart : (keys : List Hashed) (given : List GivenToken) (hashes : List Hashed) → LockedOutput → Transaction → TxIn → Bool
@@ -210,8 +218,12 @@ parts_of hs w t input e =
     record { scripts = a.0; keys = b.0; digests = d.0; hashes = d.1 }
 
 pub unbroken : (hs : List Holding) (blocks : List Block) → is_unbroken hs blocks ≡ true → Breaks hs blocks → ⊥
-unbroken hs blocks e (by_strings z) =
-    no_strings (strings_in hs) (and_parts (strings_apart (strings_in hs)) (inputs_apart hs blocks) e).0 z.first z.second (peers_string hs z.first z.of_first) (peers_string hs z.second z.of_second) z.collide
+unbroken hs blocks e (by_ids z) =
+    no_strings (strings_in hs) (and_parts (strings_apart (strings_in hs)) (inputs_apart hs blocks) e).0 z.first z.second (peers_string IsHashedForId for_id hs z.first z.of_first)
+    (peers_string IsHashedForId for_id hs z.second z.of_second) (by_sha256d z.collide)
+unbroken hs blocks e (by_keys z) =
+    no_strings (strings_in hs) (and_parts (strings_apart (strings_in hs)) (inputs_apart hs blocks) e).0 z.first z.second (peers_string IsHashedForKey for_key hs z.first z.of_first)
+    (peers_string IsHashedForKey for_key hs z.second z.of_second) (by_sha256 z.collide)
 unbroken hs blocks e (by_script s on z) =
     let p = parts_of hs on.lock s.transaction s.input (at_spend hs blocks (and_parts (strings_apart (strings_in hs)) (inputs_apart hs blocks) e).1 s on) in
     all_apart sha256 s.input.witness (on.lock.code ∷ []) p.scripts z.first z.second z.of_first (0, omega arith, sym (z.of_second ∙ on.code)) z.collide

@@ -47,12 +47,13 @@ use Rattle.safety.specs.Signing.{Signed, IsSignable}
 use Rattle.safety.specs.Standing.{StandsAt}
 use Rattle.safety.specs.Recorded.{IsOutPoint}
 use Rattle.safety.specs.Holdings.{Release, released, claim_signed, Holding, terms_in, IsOnRecorded, IsRightful, IsRevealed, KeepsRules, EachKeepsRules}
-use Rattle.safety.specs.Premises.{locks_by, outputs_by, are_own}
+use Rattle.safety.specs.Premises.{locks_by, outputs_by, are_own, secret_keys}
 use Rattle.safety.specs.Breaks.{Breaks}
 use Rattle.safety.specs.Closers.{IsWatched}
 use Rattle.safety.specs.Resolutions.{WasReleased, Resolution, unspent, ours, lost, broken, IsSlept, IsPaidOrLate, paid, late}
 use Rattle.safety.proofs.Slots.{same_bytes}
 use Rattle.safety.proofs.Lists.{none_some, some_is, contained, any_holds, both}
+use Rattle.safety.proofs.Signing.{bare_input, limits_fit}
 use Rattle.safety.proofs.Tests.{flat_in, all_hold, or_then}
 use Rattle.safety.proofs.Standing.{block_in, spent_is}
 use Rattle.safety.proofs.Passed.{last_cases}
@@ -120,7 +121,7 @@ signed_sound s e =
     let a = and_parts (transaction_fits s.transaction && input_fits s.input) (item_fits s.code && nat_lt s.value (2 ^ 64)) e in
     let b = and_parts (transaction_fits s.transaction) (input_fits s.input) a.0 in
     let c = and_parts (item_fits s.code) (nat_lt s.value (2 ^ 64)) a.1 in
-    record { transaction = transaction_sound s.transaction b.0; input = input_sound s.input b.1; code = item_sound s.code c.0; value = ltb-true s.value (2 ^ 64) c.1 }
+    record { transaction = limits_fit s.transaction (transaction_sound s.transaction b.0); input = bare_input s.input (input_sound s.input b.1); code = item_sound s.code c.0; value = ltb-true s.value (2 ^ 64) c.1 }
 
 -- ---- a chain
 
@@ -150,7 +151,7 @@ two_grants blocks n differ first second = record { among_grants = among; from_tr
     from (suc (suc g)) l = absurd (omega (arith, n, l))
 
 pub watched : (hs : List Holding) (blocks : List Block) → EachKeepsRules hs → is_checked blocks ≡ true → all_fit blocks ≡ true → GrantsAreApart blocks → are_own hs blocks ≡ true → IsWatched hs blocks
-watched hs blocks kept checked fits grants own = record { kept = kept; ledger = checked_are_ledgers blocks checked (fit_there blocks fits) grants (locks_by hs) (outputs_by hs); own = own }
+watched hs blocks kept checked fits grants own = record { kept = kept; ledger = checked_are_ledgers blocks checked (fit_there blocks fits) grants (secret_keys hs) (locks_by hs) (outputs_by hs); own = own }
 
 -- ---- the rules
 
@@ -361,7 +362,7 @@ neither false false e = ((λ f. false≢true f), (λ f. false≢true f))
 
 stolen : (hs : List Holding) (blocks : List Block) (Lost : Coin → ℕ → TxIn → Type 0) (fair : ℕ → TxIn → Bool) (o : Claimable)
     → ((coin : Coin) → coin_at blocks o.place.outpoint ≡ Some coin → (height : ℕ) (input : TxIn) → Lost coin height input → fair height input ≡ true)
-    → is_stolen hs blocks fair o ≡ true → Resolution hs blocks Lost o → Breaks hs blocks
+    → is_stolen hs blocks fair o ≡ true → Resolution Breaks hs blocks Lost o → Breaks hs blocks
 stolen hs blocks Lost fair o sound e (unspent coin at free) =
     let parts = and_parts (is_named blocks o.place.outpoint) (at_each (is_theft hs fair o) blocks) e in absurd (false≢true (sym free ∙ spent_is blocks o.place.outpoint coin at.there ∙ parts.0))
 stolen hs blocks Lost fair o sound e (ours height t input n r) =
@@ -391,7 +392,7 @@ on_htlc c o x height input i at e =
     any_holds (λ (y : HtlcOutput). same_outpoint o.place.outpoint (record { txid = id_of c; index = y.index }) && is_fair y.direction y.htlc height input) (htlcs_of c) x i
     (both (same_outpoint o.place.outpoint (record { txid = id_of c; index = x.index })) (is_fair x.direction x.htlc height input) here e)
 
-fair_is : (c : Contents) (o : Claimable) (coin : Coin) (height : ℕ) (input : TxIn) → IsPaidOrLate c o coin height input → paid_or_late c o height input ≡ true
+fair_is : (c : Contents) (o : Claimable) (coin : Coin) (height : ℕ) (input : TxIn) → IsPaidOrLate false c o coin height input → paid_or_late c o height input ≡ true
 fair_is c o coin height input (paid x on d p) =
     on_htlc c o x height input on.among on.at
     (subst (λ (y : Direction). is_fair y x.htlc height input ≡ true) (sym d)
@@ -401,8 +402,8 @@ fair_is c o coin height input (late x on d l) =
     on_htlc c o x height input on.among on.at (subst (λ (y : Direction). is_fair y x.htlc height input ≡ true) (sym d) (lt-ltb x.htlc.expiry_height height l))
 
 -- of a commitment that is not revoked
-pub stolen_claim : (hs : List Holding) (blocks : List Block) (c : Contents) (o : Claimable) → is_stolen hs blocks (paid_or_late c o) o ≡ true → Resolution hs blocks (IsPaidOrLate c o) o → Breaks hs blocks
-stolen_claim hs blocks c o e = stolen hs blocks (IsPaidOrLate c o) (paid_or_late c o) o (λ coin at height input l. fair_is c o coin height input l) e
+pub stolen_claim : (hs : List Holding) (blocks : List Block) (c : Contents) (o : Claimable) → is_stolen hs blocks (paid_or_late c o) o ≡ true → Resolution Breaks hs blocks (IsPaidOrLate false c o) o → Breaks hs blocks
+stolen_claim hs blocks c o e = stolen hs blocks (IsPaidOrLate false c o) (paid_or_late c o) o (λ coin at height input l. fair_is c o coin height input l) e
 
 -- the delay after a coin is over
 abbrev pub has_waited : Option Coin → ℕ → ℕ → TxIn → Bool
@@ -414,5 +415,5 @@ slept_is : (blocks : List Block) (c : Contents) (o : Claimable) (coin : Coin) �
 slept_is blocks c o coin at height input l = ap (λ (x : Option Coin). has_waited x c.delay_blocks height input) at ∙ le-leb (coin.height + c.delay_blocks) height l.late
 
 -- of a revoked one
-pub stolen_penalty : (hs : List Holding) (blocks : List Block) (c : Contents) (o : Claimable) → is_stolen hs blocks (has_waited (coin_at blocks o.place.outpoint) c.delay_blocks) o ≡ true → Resolution hs blocks (IsSlept c o) o → Breaks hs blocks
+pub stolen_penalty : (hs : List Holding) (blocks : List Block) (c : Contents) (o : Claimable) → is_stolen hs blocks (has_waited (coin_at blocks o.place.outpoint) c.delay_blocks) o ≡ true → Resolution Breaks hs blocks (IsSlept c o) o → Breaks hs blocks
 stolen_penalty hs blocks c o e = stolen hs blocks (IsSlept c o) (has_waited (coin_at blocks o.place.outpoint) c.delay_blocks) o (slept_is blocks c o) e

@@ -3,16 +3,15 @@ use Rattle.std.specs.Prelude.{◌≡◌, ℕ, ◌+◌, true, List, Some, slice_g
 use Rattle.std.specs.List.{Contains}
 use Rattle.tx.specs.declared.input.TxIn.{TxIn}
 use Rattle.tx.specs.Fields.{Transaction, unsigned_transaction}
-use Rattle.chain.specs.Blocks.{Contents as Block, Coin, coin_at}
+use Rattle.chain.specs.Blocks.{Contents as Block, Coin}
 use Rattle.terms.specs.declared.agreement.Terms.{Terms}
-use Rattle.claim.specs.Fitting.{output_at}
 use Rattle.commit.specs.Commitments.{transaction_of}
 use Rattle.channel.specs.declared.commitments.CommitmentState.{CommitmentState}
 use Rattle.channel.specs.Tokens.{contents_of}
 use Rattle.safety.specs.Standing.{StandsAt}
 use Rattle.safety.specs.Holdings.{Holding, terms_in, IsRevealed, EachKeepsRules}
-use Rattle.safety.specs.Premises.{funding_lock, outputs_by, locks_by, are_own}
-use Rattle.safety.specs.Ledgers.{IsCoinAt, IsLedgerOf}
+use Rattle.safety.specs.Premises.{funding_lock, are_own}
+use Rattle.safety.specs.Ledgers.{IsCoinAt, IsLedger}
 use Rattle.safety.specs.Breaks.{Breaks}
 
 -- Which commitment may close a channel: one that the peer revoked; the peer's newest; the one after it, which the node signed and the peer has not yet answered by a revocation; or the node's own newest one,
@@ -23,14 +22,14 @@ pub data IsCloser (h : Holding) (k : CommitmentState) : Type 0 where
   next : h.state.awaiting ≡ true → slice_get h.state.signed (h.state.peer_number + 1) ≡ Some k → IsCloser h k
   own : h.closed ≡ Some h.state.number → slice_get h.state.mine h.state.number ≡ Some k → IsCloser h k
 
--- what stands at the funding outpoint, if anything does, is the output that the terms speak of
+-- at the funding outpoint stands the output that the terms speak of
 abbrev pub IsFunded : List Block → Terms → Type 0
-IsFunded blocks terms = (coin : Coin) → coin_at blocks terms.funding ≡ Some coin → coin.output ≡ output_at (funding_lock terms).place
+IsFunded blocks terms = (coin : Coin) × IsCoinAt blocks (funding_lock terms) coin
 
 -- the node's channels, and a chain on which nobody else made a token of the node's keys
 pub record IsWatched (hs : List Holding) (blocks : List Block) : Type 0 where
   pub kept : EachKeepsRules hs
-  pub ledger : IsLedgerOf (locks_by hs) (outputs_by hs) blocks
+  pub ledger : IsLedger hs blocks
   pub own : are_own hs blocks ≡ true
 
 -- what takes the funding output of a channel: such a commitment, whatever its witness; or strings collide

@@ -1,6 +1,6 @@
 -- One node against everybody. Its peers may send any message at any time, or none, and a block may hold any transactions; what is asked is that nobody makes a token of one of the node's keys. Then this
 -- holds of each of its channels, on the chain as it stands.
-use Rattle.std.specs.Prelude.{◌≡◌, ◌≢◌, ◌↔◌, ℕ, ◌+◌, Bool, true, false, List, Some, None, slice_get}
+use Rattle.std.specs.Prelude.{◌≡◌, ◌≢◌, ◌↔◌, ℕ, ◌+◌, Bool, true, false, List, Some, slice_get}
 use Rattle.std.specs.List.{Contains, AllByRecursion, AllPairs}
 use Rattle.chain.specs.Blocks.{Contents as Block, Coin, coin_at}
 use Rattle.commit.specs.declared.outputs.HtlcOutput.{HtlcOutput}
@@ -23,12 +23,11 @@ pub record PeersHold (hs : List Holding) (blocks : List Block) (h : Holding) (k 
   -- what a revoked one lets the node claim: a penalty on each output, or on that of its HTLC transaction
   pub penalties : AreResolved hs blocks (contents_of (terms_in h) k)
   -- what one that is not revoked lets it claim: to_remote, and each HTLC
-  pub claims : (o : Claimable) → IsPeersClaim (contents_of (terms_in h) k) o → Resolution hs blocks (IsPaidOrLate (contents_of (terms_in h) k) o) o
+  pub claims : (o : Claimable) → IsPeersClaim (contents_of (terms_in h) k) o → Resolution Breaks hs blocks (IsPaidOrLate false (contents_of (terms_in h) k) o) o
 
 -- How a channel stands on a chain. Its funding output is unspent, and the node's newest commitment passes the next block. Or a commitment closed it, and by `WhoCloses` nothing else takes the funding output. If
 -- that is the peer's, this holds of its outputs
 pub data ChannelStands (hs : List Holding) (blocks : List Block) (h : Holding) : Type 0 where
-  absent : coin_at blocks (terms_in h).funding ≡ None → ChannelStands hs blocks h
   unclosed : (coin : Coin) → coin_at blocks (terms_in h).funding ≡ Some coin → coin.spent ≡ false → IsReady blocks h → ChannelStands hs blocks h
   closed : (k : CommitmentState) → IsCloser h k → IsOnChain blocks (transaction_of (contents_of (terms_in h) k))
       → ((n : ℕ) → slice_get h.state.signed n ≡ Some k → PeersHold hs blocks h k) → ChannelStands hs blocks h
@@ -49,7 +48,7 @@ pub record IsAllThere (hs : List Holding) (blocks : List Block) (state : Revoked
   pub claimable : AllByRecursion (Contains (claimable_of state)) (staged stands (commitment_in state))
   pub apart : AllPairs (λ o p. o.place.outpoint ≢ p.place.outpoint) (staged stands (commitment_in state))
   pub worth : IsCapacityWith state (value_of (staged stands (commitment_in state)) + fees_with stands (commitment_in state))
-  pub each : (o : Claimable) → Contains (staged stands (commitment_in state)) o → Resolution hs blocks (IsSlept (commitment_in state) o) o
+  pub each : (o : Claimable) → Contains (staged stands (commitment_in state)) o → Resolution Breaks hs blocks (IsSlept (commitment_in state) o) o
 
 abbrev pub RevokedAgainstEverybody : Type 0
 RevokedAgainstEverybody =

@@ -4,14 +4,16 @@ use Rattle.std.specs.List.{Contains}
 use Rattle.digest.specs.Hash.{sha256d, Collide}
 use Rattle.tx.specs.Fields.{Transaction}
 use Rattle.tx.specs.Spelling.{stripped_spelling}
-use Rattle.chain.specs.Blocks.{Contents as Block, Coin, empty_block, coin_at}
+use Rattle.chain.specs.Blocks.{Contents as Block, Coin, empty_block}
 use Rattle.chain.specs.Checks.{transaction_refusal}
 use Rattle.channel.specs.declared.commitments.CommitmentState.{CommitmentState}
 use Rattle.channel.specs.Tokens.{contents_of}
 use Rattle.publish.specs.Published.{signed_commitment_of}
 use Rattle.safety.specs.Standing.{StandsAt}
 use Rattle.safety.specs.Holdings.{Holding, terms_in}
-use Rattle.safety.specs.Closers.{IsFunded, IsWatched}
+use Rattle.safety.specs.Premises.{funding_lock}
+use Rattle.safety.specs.Ledgers.{IsCoinAt}
+use Rattle.safety.specs.Closers.{IsWatched}
 
 -- what is hashed for the id of a transaction on the chain collides with what is hashed for the id of this one
 pub record HasTwinOn (blocks : List Block) (t : Transaction) : Type 0 where
@@ -36,4 +38,4 @@ pub record IsReady (blocks : List Block) (h : Holding) : Type 0 where
 abbrev pub NewestPasses : Type 0
 NewestPasses =
     (hs : List Holding) (blocks : List Block) → IsWatched hs blocks
-    → (h : Holding) → Contains hs h → IsFunded blocks (terms_in h) → (coin : Coin) → coin_at blocks (terms_in h).funding ≡ Some coin → coin.spent ≡ false → IsReady blocks h
+    → (h : Holding) → Contains hs h → (coin : Coin) → IsCoinAt blocks (funding_lock (terms_in h)) coin → coin.spent ≡ false → IsReady blocks h

@@ -110,6 +110,10 @@ are_own hs blocks = each_input (each_spend (shows_given (map token_bytes (given_
 abbrev pub newest_revocation : Holding → List ℕ
 newest_revocation h = revocation_key (party (peer_in h) (terms_in h)).bases.revocation.bytes (point_at h.state.seed h.state.number).bytes
 
+-- the keys with which nobody else can sign: the node's, and the revocation key of each newest own commitment
+abbrev pub secret_keys : List Holding → List (List ℕ)
+secret_keys hs = keys_by hs ++ map newest_revocation hs
+
 -- A REVOCATION KEY WANTS ITS SECRET. No such input shows a token of the revocation key of a newest own commitment
 abbrev pub none_revokes : List Holding → List Block → Bool
 none_revokes hs blocks = each_input (each_spend (shows_none (map newest_revocation hs)) (locks_by hs)) blocks

@@ -1,10 +1,11 @@
 -- What becomes of the outputs of a peer's commitment, whatever peers and blocks do (BOLT 5, "Revoked Transaction Close Handling", "Unilateral Close Handling: Remote Commitment Transaction").
-use Rattle.std.specs.Prelude.{◌≡◌, ◌≢◌, ◌↔◌, ◌<◌, ℕ, ◌+◌, Bool, true, false, List, Some, length, slice_get}
+use Rattle.std.specs.Prelude.{◌≡◌, ◌≢◌, ◌↔◌, ◌<◌, ℕ, ◌+◌, Bool, true, false, not, List, Some, length, slice_get}
 use Rattle.std.specs.List.{Contains, AllByRecursion, AllPairs}
 use Rattle.sha2.specs.Sha256.{sha256}
 use Rattle.tx.specs.declared.input.TxIn.{TxIn}
 use Rattle.tx.specs.Fields.{Transaction, unsigned_transaction}
 use Rattle.chain.specs.Blocks.{Contents as Block, Coin}
+use Rattle.commit.specs.declared.fees.Direction.{Direction}
 use Rattle.commit.specs.declared.fees.Direction.TheVariants.{Offered, Received}
 use Rattle.commit.specs.declared.outputs.HtlcOutput.{HtlcOutput}
 use Rattle.commit.specs.Commitments.{Contents, id_of, transaction_of, htlcs_of, htlc_tx_of}
@@ -29,12 +30,12 @@ pub record WasReleased (hs : List Holding) (t : Transaction) : Type 0 where
   pub same : unsigned_transaction t ≡ unsigned_transaction (released release)
 
 -- What became of an output that the node can claim. It is unspent; or a transaction that the node released took it; or somebody else did, and `Lost` holds of the coin, of the height of the block and of the
--- input; or strings collide
-pub data Resolution (hs : List Holding) (blocks : List Block) (Lost : Coin → ℕ → TxIn → Type 0) (o : Claimable) : Type 0 where
-  unspent : (coin : Coin) → IsCoinOf blocks o coin → coin.spent ≡ false → Resolution hs blocks Lost o
-  ours : (height : ℕ) (t : Transaction) (input : TxIn) → IsNamedBy blocks o height t input → WasReleased hs t → Resolution hs blocks Lost o
-  lost : (coin : Coin) → IsCoinOf blocks o coin → (height : ℕ) (t : Transaction) (input : TxIn) → IsNamedBy blocks o height t input → Lost coin height input → Resolution hs blocks Lost o
-  broken : Breaks hs blocks → Resolution hs blocks Lost o
+-- input; or strings collide, as `Broken` says
+pub data Resolution (Broken : List Holding → List Block → Type 0) (hs : List Holding) (blocks : List Block) (Lost : Coin → ℕ → TxIn → Type 0) (o : Claimable) : Type 0 where
+  unspent : (coin : Coin) → IsCoinOf blocks o coin → coin.spent ≡ false → Resolution Broken hs blocks Lost o
+  ours : (height : ℕ) (t : Transaction) (input : TxIn) → IsNamedBy blocks o height t input → WasReleased hs t → Resolution Broken hs blocks Lost o
+  lost : (coin : Coin) → IsCoinOf blocks o coin → (height : ℕ) (t : Transaction) (input : TxIn) → IsNamedBy blocks o height t input → Lost coin height input → Resolution Broken hs blocks Lost o
+  broken : Broken hs blocks → Resolution Broken hs blocks Lost o
 
 -- ---- a revoked commitment
 
@@ -48,7 +49,7 @@ pub record AreResolved (hs : List Holding) (blocks : List Block) (c : Contents) 
   pub stands : ℕ → Bool
   pub those : (x : HtlcOutput) → Contains (htlcs_of c) x → (stands x.index ≡ true) ↔ IsOnChain blocks (htlc_tx_of c x)
   pub apart : AllPairs (λ o p. o.place.outpoint ≢ p.place.outpoint) (staged stands c)
-  pub each : (o : Claimable) → Contains (staged stands c) o → Resolution hs blocks (IsSlept c o) o
+  pub each : (o : Claimable) → Contains (staged stands c) o → Resolution Breaks hs blocks (IsSlept c o) o
 
 abbrev pub RevokedAreResolved : Type 0
 RevokedAreResolved =
@@ -70,14 +71,19 @@ pub record IsOnHtlc (c : Contents) (x : HtlcOutput) (o : Claimable) : Type 0 whe
   pub among : Contains (htlcs_of c) x
   pub at : o.place.outpoint ≡ record { txid = id_of c; index = x.index }
 
--- Somebody took an HTLC's output. The node had offered it, which its peer's commitment has received: then the input shows the preimage. Or the peer had offered it: then the block is above the expiry
-pub data IsPaidOrLate (c : Contents) (o : Claimable) (coin : Coin) (height : ℕ) (input : TxIn) : Type 0 where
-  paid : (x : HtlcOutput) → IsOnHtlc c x o → x.direction ≡ Received → ShowsPreimage input.witness x.htlc.hash → IsPaidOrLate c o coin height input
-  late : (x : HtlcOutput) → IsOnHtlc c x o → x.direction ≡ Offered → x.htlc.expiry_height < height → IsPaidOrLate c o coin height input
+-- the direction of an HTLC that the node offered, on its own commitment or on its peer's
+abbrev pub outgoing : (own : Bool) → Direction
+outgoing true = Offered
+outgoing false = Received
+
+-- Somebody took an HTLC's output, on the node's own commitment or on its peer's. The node had offered it: then the input shows the preimage. Or the peer had offered it: then the block is above the expiry
+pub data IsPaidOrLate (own : Bool) (c : Contents) (o : Claimable) (coin : Coin) (height : ℕ) (input : TxIn) : Type 0 where
+  paid : (x : HtlcOutput) → IsOnHtlc c x o → x.direction ≡ outgoing own → ShowsPreimage input.witness x.htlc.hash → IsPaidOrLate own c o coin height input
+  late : (x : HtlcOutput) → IsOnHtlc c x o → x.direction ≡ outgoing (not own) → x.htlc.expiry_height < height → IsPaidOrLate own c o coin height input
 
 -- what the node can claim of its peer's commitment, to_remote and each HTLC whatever preimages it knows, is unspent; or the node took it; or it is an HTLC that was paid or that is late
 abbrev pub PeersAreResolved : Type 0
 PeersAreResolved =
     (hs : List Holding) (blocks : List Block) → IsWatched hs blocks
     → (h : Holding) → Contains hs h → (n : ℕ) (k : CommitmentState) → slice_get h.state.signed n ≡ Some k → IsOnChain blocks (transaction_of (contents_of (terms_in h) k))
-    → (o : Claimable) → IsPeersClaim (contents_of (terms_in h) k) o → Resolution hs blocks (IsPaidOrLate (contents_of (terms_in h) k) o) o
+    → (o : Claimable) → IsPeersClaim (contents_of (terms_in h) k) o → Resolution Breaks hs blocks (IsPaidOrLate false (contents_of (terms_in h) k) o) o

@@ -17,6 +17,7 @@ HasToken spend witness key = Contains witness (token_of key spend.digest)
 pub record HasKeyOf (spend : Spend) (witness : List (List ℕ)) (hash : List ℕ) : Type 0 where
   pub key : List ℕ
   pub given : Contains witness key
+  pub form : is_key key ≡ true
   pub hashed : hash160 key ≡ hash
   pub token : HasToken spend witness key
 

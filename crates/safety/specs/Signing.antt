@@ -1,10 +1,11 @@
 -- What a token signs (BIP 143), up to collisions of named byte strings.
 use Rattle.std.specs.Prelude.{◌≡◌, ◌⊎◌, ℕ, ◌^◌, ◌<◌, List, [], length}
+use Rattle.std.specs.List.{AllByRecursion}
 use Rattle.digest.specs.Hash.{sha256d, Collide}
 use Rattle.script.specs.Token.{token_of}
 use Rattle.tx.specs.declared.input.TxIn.{TxIn}
-use Rattle.tx.specs.Parts.{IsBounded}
-use Rattle.tx.specs.Fields.{Transaction, IsInput, KeepsLimits, signed_input, unsigned_transaction}
+use Rattle.tx.specs.Parts.{IsBounded, Output}
+use Rattle.tx.specs.Fields.{Transaction, IsInput, signed_input, unsigned_inputs, unsigned_transaction}
 use Rattle.sighash.specs.Signing.{all_outpoints, all_sequences, all_outputs, signed_list}
 
 -- a byte string of one kind collides with one of another kind
@@ -29,10 +30,17 @@ list_of s = signed_list s.transaction s.input s.code s.value
 abbrev pub digest_of : Signed → List ℕ
 digest_of s = sha256d (list_of s)
 
--- each field fits into its bytes
+-- each field of a transaction fits into its bytes, whatever its witnesses
+pub record FieldsFit (t : Transaction) : Type 0 where
+  pub version : t.version < 2 ^ 32
+  pub inputs : AllByRecursion IsInput (unsigned_inputs t.inputs)
+  pub outputs : AllByRecursion (λ (o : Output). (o.value < 2 ^ 64) × (length o.script < 2 ^ 64)) t.outputs
+  pub lock_time : t.lock_time < 2 ^ 32
+
+-- so does each that is signed
 pub record IsSignable (s : Signed) : Type 0 where
-  pub transaction : KeepsLimits s.transaction
-  pub input : IsInput s.input
+  pub transaction : FieldsFit s.transaction
+  pub input : IsInput (signed_input s.input [])
   pub code : IsBounded s.code
   pub value : s.value < 2 ^ 64
 

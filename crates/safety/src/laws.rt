@@ -244,7 +244,7 @@ pub fn revoked_against_everybody()
     ensures { RevokedAgainstEverybody }
 {}
 
-/// One node against everybody: how each of its channels stands on such a chain. Its funding output is not there; or it is unspent, and the node's newest commitment passes all tests of the next block; or a
+/// One node against everybody: how each of its channels stands on such a chain that has its funding output. It is unspent, and the node's newest commitment passes all tests of the next block; or a
 /// commitment closed the channel that may do so, and of the peer's commitments each output is accounted for. Otherwise two named byte strings collide.
 pub fn one_against_everybody()
     ensures { EachChannelStands }

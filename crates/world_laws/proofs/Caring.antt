@@ -75,4 +75,4 @@ sides_are_careful revoked_are grants n c ch caring = record {
 }
 
 pub sides_keep_rules : BooksKeepRules → ClaimablesAreRecorded → GrantsAreOutPoints → SidesKeepRules
-sides_keep_rules keeps revoked_are grants n c ch caring = keeps peer_tokens n.history c ch (sides_are_careful revoked_are grants n c ch caring)
+sides_keep_rules keeps revoked_are grants n c ch caring = keeps n.history c ch (sides_are_careful revoked_are grants n c ch caring)

@@ -20,7 +20,7 @@ pub record IsCaring (n : Node) (c : ℕ) (ch : ChannelBook) : Type 0 where
 
 -- then its history takes care of the channel
 abbrev pub SidesAreCareful : Type 0
-SidesAreCareful = (n : Node) (c : ℕ) (ch : ChannelBook) → IsCaring n c ch → IsCareful peer_tokens n.history c ch
+SidesAreCareful = (n : Node) (c : ℕ) (ch : ChannelBook) → IsCaring n c ch → IsCareful n.history c ch
 
 -- and the channel keeps the rules
 abbrev pub SidesKeepRules : Type 0
