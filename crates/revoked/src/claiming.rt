@@ -41,8 +41,8 @@ fn claim_on_to_local(
     )
 }
 
-// The claim on to_remote, by the peer's payment key.
-fn claim_on_to_remote(
+/// The claim on to_remote, by the payment key of the owner's peer. The only error is that memory ran out.
+pub fn claim_on_to_remote(
     alloc: Global,
     patterns: &Patterns,
     keys: &CommitmentKeys,

@@ -38,8 +38,10 @@ mod reading;
 mod scripts;
 
 pub use anchor_forms::{ChannelPatterns, ChannelType, channel_patterns};
+pub use claiming::claim_on_to_remote;
 pub use commit::{CommitmentKeys, Direction};
 pub use commitments::Revoked;
 pub use forms::Expiry;
 pub use outputs::{RevokedHtlc, RevokedOutput};
 pub use reading::{Found, claims_in};
+pub use scripts::htlc_script;

@@ -26,7 +26,7 @@ use std::collections::BTreeMap;
 const PROGRAM_LENGTH: usize = 34;
 
 /// The script of an HTLC's output. The only error is that memory ran out.
-pub(crate) fn htlc_script(
+pub fn htlc_script(
     alloc: Global,
     patterns: &ChannelPatterns,
     channel_type: ChannelType,

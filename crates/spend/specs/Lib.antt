@@ -9,3 +9,5 @@ pub mod Destinations
 pub mod Planning
 pub mod RevokedRequests
 pub mod RevokedAnswers
+pub mod CloseRequests
+pub mod CloseAnswers

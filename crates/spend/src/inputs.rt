@@ -1,11 +1,13 @@
 // Notes on the inputs of a plan: what they wait for in one transaction, what they cost, who else can take their outputs, and keys that nobody can sign for.
 
 use crate::asking::Asked;
+use crate::outputs_at_fault::has_if;
 use crate::plans::Plan;
 use claim::Claim;
 use page::Page;
 use page::Piece::{Count, Sum};
 use script_notes::is_curve_x;
+use std::alloc::Global;
 use tx::TxIn;
 use warnings::{Taker, taker_of};
 
@@ -16,8 +18,9 @@ const INPUT_WEIGHT: u128 = 164;
 const SIGNATURE_SIZE: u128 = 73;
 
 /// Notes what a person has to look at in the inputs of a plan.
-pub fn note_inputs(notes: &mut Page, asked: &Asked, plan: &Plan) {
+pub fn note_inputs(alloc: Global, notes: &mut Page, asked: &Asked, plan: &Plan) {
     let claims = asked.claims.values();
+    note_places(notes, asked);
     note_heights(notes, claims);
     note_ages(notes, claims);
     note_costs(notes, asked, plan);
@@ -34,6 +37,47 @@ pub fn note_inputs(notes: &mut Page, asked: &Asked, plan: &Plan) {
         ": whoever sees such a witness can spend too: what has a given hash is asked for, and no signature of a key that the script fixes\n",
     );
     note_points(notes, plan);
+    note_others(alloc, notes, claims);
+}
+
+// Notes an output that has the program that is paid, and one of no transaction: a coinbase's input spends it (BIP 141).
+fn note_places(notes: &mut Page, asked: &Asked) {
+    let mut index: u64 = 0;
+    for claim in asked.claims.values() {
+        if claim.place().program.equals(&asked.destination) {
+            notes.write(
+                "note: destination: outputs[%] has this program\n",
+                &[Count(index)],
+            );
+        }
+        if claim.outpoint().txid == [0; 32] {
+            notes.write(
+                "note: outputs[%]: no transaction has an id of zeros\n",
+                &[Count(index)],
+            );
+        }
+        index = index.wrapping_add(1);
+    }
+}
+
+// Notes the first of several outputs that may be spent otherwise, by an IF or by others: then all of the transaction is invalid.
+fn note_others(alloc: Global, notes: &mut Page, claims: &[Claim]) {
+    let (mut first, mut index) = (None, 0u64);
+    for claim in claims {
+        let facts = claim.path().facts.values();
+        if first.is_none() && (has_if(alloc, claim.script()) || taker_of(facts) != Taker::Signer) {
+            first = Some(index);
+        }
+        index = index.wrapping_add(1);
+    }
+    if let Some(first) = first {
+        if index > 1 {
+            notes.write(
+                "note: outputs[%] may be spent otherwise: from then on this transaction of % outputs is invalid as a whole\n",
+                &[Count(first), Count(index)],
+            );
+        }
+    }
 }
 
 // Notes the output whose lock is the highest, if another one has a lower lock.

@@ -10,18 +10,21 @@ use crate::inputs::note_inputs;
 use crate::outputs_at_fault::{note_claims_at_fault, note_slots, output_at};
 use crate::plans::{Plan, asked_fee};
 use crate::requests::MOST_FEERATE_PER_KW;
-use crate::shapes::{note_revoked_shape, note_shape, said};
+use crate::shapes::{CLOSE, Member, REVOKED, note_shape, note_whole, said};
 use json_names::first_repeated_member;
 use json_value::Value;
 use page::Page;
 use page::Piece::{Count, Sum};
-use script_notes::is_curve_x;
+use script_notes::{is_curve_x, origin_of_hash, origin_of_point};
 use std::alloc::Global;
 use std::io::Write;
 use streams::written;
 
-// The least feerate that nodes pass on by default: one satoshi for a virtual byte.
+// The least feerate that nodes before Bitcoin Core 29.1 pass on by default: one satoshi for a virtual byte.
 const RELAYED_FEERATE_PER_KW: u32 = 253;
+
+// From ten satoshis for a virtual byte on a plan has a note with its feerate in other units.
+const NOTED_FEERATE_PER_KW: u32 = 2_500;
 
 // A fee above a tenth of the value that is spent gets a note.
 const DEAR: u128 = 10;
@@ -47,7 +50,7 @@ pub fn say_plan(alloc: Global, asked: &Asked, plan: &Plan, err: &mut dyn Write) 
             &[Sum(plan.fee_sat), Sum(total)],
         );
     }
-    note_inputs(&mut notes, asked, plan);
+    note_inputs(alloc, &mut notes, asked, plan);
     note_slots(alloc, &mut notes, asked.claims.values());
     say(&notes, err);
 }
@@ -63,6 +66,12 @@ fn total_of(asked: &Asked) -> u128 {
 
 // Notes a destination from which anyone can spend, or nobody.
 fn note_destination(notes: &mut Page, program: &[u8]) {
+    if let Some(origin) = origin_of_destination(program) {
+        notes.push("note: destination: what it pays to is ");
+        notes.push(origin);
+        notes.push(": anyone can spend from it, or nobody\n");
+        return;
+    }
     let [code, _, key @ ..] = program else {
         return;
     };
@@ -71,7 +80,11 @@ fn note_destination(notes: &mut Page, program: &[u8]) {
     }
     let version = u64::from(code.saturating_sub(0x50));
     if version == 1 && key.len() == 32 {
-        if !is_curve_x(key) {
+        if let Some(origin) = origin_of_point(key) {
+            notes.push("note: destination: it is ");
+            notes.push(origin);
+            notes.push("\n");
+        } else if !is_curve_x(key) {
             notes.push(
                 "note: destination: its 32 bytes are no key of the curve: nobody can spend from it (BIP 341)\n",
             );
@@ -84,10 +97,29 @@ fn note_destination(notes: &mut Page, program: &[u8]) {
     }
 }
 
+// What a program is the hash of, if no secret is: P2PKH, P2SH, P2WPKH or P2WSH.
+fn origin_of_destination(program: &[u8]) -> Option<&'static str> {
+    match program {
+        [0x76, 0xa9, 0x14, hash @ .., 0x88, 0xac] => origin_of_hash(hash),
+        [0xa9, 0x14, hash @ .., 0x87] => origin_of_hash(hash),
+        [0, _, hash @ ..] => origin_of_hash(hash),
+        _ => None,
+    }
+}
+
 // Notes a feerate that nodes do not pass on, or that is above the limit that a request has without its own.
 fn note_feerate(notes: &mut Page, asked: &Asked) {
     if asked.feerate_per_kw < RELAYED_FEERATE_PER_KW {
-        notes.push("note: nodes pass on no transaction below a feerate_per_kw of 253 by default\n");
+        notes.push(
+            "note: the feerate_per_kw is below 253, the least that nodes before Bitcoin Core 29.1 pass on by default; later ones pass on nothing below 25\n",
+        );
+    }
+    if NOTED_FEERATE_PER_KW <= asked.feerate_per_kw && asked.feerate_per_kw <= MOST_FEERATE_PER_KW {
+        let feerate = u64::from(asked.feerate_per_kw);
+        notes.write(
+            "note: the feerate is % satoshis for a virtual byte, and % for 1,000 of them, for which bitcoin-cli estimatesmartfee tells it\n",
+            &[Count(feerate / 250), Count(feerate.saturating_mul(4))],
+        );
     }
     if asked.feerate_per_kw > MOST_FEERATE_PER_KW {
         notes.write(
@@ -166,13 +198,29 @@ pub fn say_input(alloc: Global, bytes: &[u8], error: PlanError, err: &mut dyn Wr
 
 /// Says which part of a request about a revoked commitment is refused.
 pub fn say_revoked_input(alloc: Global, bytes: &[u8], error: PlanError, err: &mut dyn Write) {
+    say_commitment_input(alloc, bytes, error, &REVOKED, err)
+}
+
+/// Says which part of a request about an unrevoked commitment is refused.
+pub fn say_close_input(alloc: Global, bytes: &[u8], error: PlanError, err: &mut dyn Write) {
+    say_commitment_input(alloc, bytes, error, &CLOSE, err)
+}
+
+// Says which part of a request about a commitment is refused: a request with these members.
+fn say_commitment_input(
+    alloc: Global,
+    bytes: &[u8],
+    error: PlanError,
+    members: &[Member],
+    err: &mut dyn Write,
+) {
     let mut notes = Page::new(alloc);
     match Value::from_slice(alloc, bytes) {
         Ok(value) => {
             if let PlanError::BadShape = error {
                 match first_repeated_member(alloc, bytes) {
                     Ok(Some(member)) => note_repeated(&mut notes, member.name.as_str()),
-                    _ => note_revoked_shape(alloc, &mut notes, &value),
+                    _ => note_whole(alloc, &mut notes, &value, members),
                 }
             }
         }

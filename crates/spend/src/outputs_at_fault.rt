@@ -8,6 +8,7 @@ use page::Page;
 use page::Piece::{Count, Hash};
 use paths::Fact;
 use script::{Op, Script};
+use script_notes::{MAX_RELAYED_ITEM, MAX_RELAYED_ITEMS, MAX_RELAYED_SCRIPT, short_of};
 use std::alloc::Global;
 
 /// Notes the first output by which a request is refused: two that are one, one that has a fixed transaction, one that lacks a preimage, or one whose path measures a signature.
@@ -101,19 +102,58 @@ fn note_preimage(notes: &mut Page, output: u64, claim: &Claim, hashes: &[[u8; 32
     }
 }
 
-/// Notes each slot of claims that IF or NOTIF may take and that is neither the empty item nor 01: nodes do not pass it on.
+/// Notes what nodes do not pass on: slots that IF or NOTIF may take and that are neither the empty item nor 01, and scripts and slots that are too long, too many or not minimally pushed.
 pub fn note_slots(alloc: Global, notes: &mut Page, claims: &[Claim]) {
     let mut output: u64 = 0;
     for claim in claims {
         if has_if(alloc, claim.script()) {
             note_conditions(notes, output, claim);
         }
+        if let Some(reason) = unrelayed(alloc, claim) {
+            notes.count("note: outputs[", output);
+            notes.push("]: nodes pass on no spend of it: ");
+            notes.push(reason);
+            notes.push("\n");
+        }
         output = output.wrapping_add(1);
     }
 }
 
-// Whether a script has an IF or a NOTIF.
-fn has_if(alloc: Global, bytes: &[u8]) -> bool {
+// Why nodes do not pass on a spend of an output, whatever its transaction (Bitcoin Core's limits of standard witnesses).
+fn unrelayed(alloc: Global, claim: &Claim) -> Option<&'static str> {
+    if claim.script().len() > MAX_RELAYED_SCRIPT {
+        Some("its script has more than 3600 bytes")
+    } else if claim.slots().len() > MAX_RELAYED_ITEMS {
+        Some("it has more than 100 slots")
+    } else if claim.slots().iter().any(|slot| is_too_long(slot)) {
+        Some("it has a slot above 80 bytes")
+    } else if has_long_push(alloc, claim.script()) {
+        Some(
+            "its script pushes a number by two bytes that an opcode of one byte pushes too (minimal pushes)",
+        )
+    } else {
+        None
+    }
+}
+
+// Whether a slot is too long for nodes to pass it on.
+fn is_too_long(slot: &Slot) -> bool {
+    match slot {
+        Slot::Exact(item) => item.item.len() > MAX_RELAYED_ITEM,
+        _ => false,
+    }
+}
+
+// Whether a script has a push that is not minimal.
+fn has_long_push(alloc: Global, bytes: &[u8]) -> bool {
+    match Script::parse(alloc, bytes) {
+        Ok(script) => script.ops().iter().any(|op| short_of(op).is_some()),
+        Err(_) => false,
+    }
+}
+
+/// Whether a script has an IF or a NOTIF.
+pub fn has_if(alloc: Global, bytes: &[u8]) -> bool {
     match Script::parse(alloc, bytes) {
         Ok(script) => script.ops().iter().any(|op| match op {
             Op::If | Op::NotIf => true,

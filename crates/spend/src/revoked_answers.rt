@@ -88,8 +88,8 @@ fn tell_claim(line: &mut Page, answer: &RevokedAnswer, claim: &Claim) {
     line.push("}");
 }
 
-// The name of an output of a commitment.
-fn kind_of(output: &RevokedOutput) -> &'static str {
+/// The name of an output of a commitment.
+pub fn kind_of(output: &RevokedOutput) -> &'static str {
     match output {
         RevokedOutput::ToLocal => "to_local",
         RevokedOutput::ToRemote => "to_remote",

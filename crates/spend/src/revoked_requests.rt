@@ -140,16 +140,16 @@ pub fn transaction_of(alloc: Global, value: &Value) -> Result<Tx, ShapeError>
     transaction_in(alloc, &bytes)
 }
 
-// Reads the HTLCs of a request.
-fn member_htlcs(alloc: Global, form: &Value) -> Result<List<RevokedHtlc>, ShapeError>
+/// Reads the HTLCs of a request.
+pub fn member_htlcs(alloc: Global, form: &Value) -> Result<List<RevokedHtlc>, ShapeError>
     ensures { Gives (λ xs. xs) result
         (member_of (codes "htlcs") (list_of htlc_of) (view form.now)) }
 {
     htlcs_of(alloc, form.member("htlcs").ok_or(ShapeError::BadShape)?)
 }
 
-// Reads the transaction of a request.
-fn member_transaction(alloc: Global, form: &Value) -> Result<Tx, ShapeError>
+/// Reads the transaction of a request.
+pub fn member_transaction(alloc: Global, form: &Value) -> Result<Tx, ShapeError>
     ensures { Gives (λ t. t) result
         (member_of (codes "transaction") transaction_of (view form.now)) }
 {

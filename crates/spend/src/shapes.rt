@@ -1,5 +1,6 @@
 // Which part of a request does not have its shape, and what is wanted there.
 
+use crate::close_requests::{funding_keys_of, height_of, whose_of};
 use crate::revoked_requests::{channel_type_of, htlc_of, keys_of, transaction_of};
 use claim::{Shell, Slot};
 use json_value::Value;
@@ -28,6 +29,9 @@ enum Kind {
     Htlc,
     Keys,
     Transaction,
+    Whose,
+    HeightOrNull,
+    FundingKeys,
 }
 
 // How many values a member has.
@@ -38,9 +42,9 @@ enum Number {
     Array,
 }
 
-// A member.
+/// A member.
 #[derive(Clone, Copy)]
-struct Member(&'static str, Kind, Number);
+pub struct Member(&'static str, Kind, Number);
 
 static REQUEST: [Member; 5] = [
     Member("destination", Kind::Bytes, Number::One),
@@ -50,13 +54,26 @@ static REQUEST: [Member; 5] = [
     Member("outputs", Kind::Output, Number::Array),
 ];
 
-static REVOKED: [Member; 6] = [
+pub static REVOKED: [Member; 6] = [
     Member("channel_type", Kind::ChannelType, Number::One),
     Member("confirmed_height", Kind::Height, Number::One),
     Member("delay_blocks", Kind::Blocks, Number::One),
     Member("htlcs", Kind::Htlc, Number::Array),
     Member("keys", Kind::Keys, Number::One),
     Member("transaction", Kind::Transaction, Number::One),
+];
+
+pub static CLOSE: [Member; 10] = [
+    Member("channel_type", Kind::ChannelType, Number::One),
+    Member("confirmed_height", Kind::HeightOrNull, Number::One),
+    Member("delay_blocks", Kind::Blocks, Number::One),
+    Member("feerate_per_kw", Kind::Feerate, Number::One),
+    Member("funding_keys", Kind::FundingKeys, Number::One),
+    Member("htlcs", Kind::Htlc, Number::Array),
+    Member("keys", Kind::Keys, Number::One),
+    Member("preimages", Kind::Preimage, Number::Array),
+    Member("transaction", Kind::Transaction, Number::One),
+    Member("whose", Kind::Whose, Number::One),
 ];
 
 static OUTPUT: [Member; 8] = [
@@ -91,6 +108,9 @@ impl Kind {
             Kind::Htlc => htlc_of(value).is_some(),
             Kind::Keys => keys_of(value).is_some(),
             Kind::Transaction => transaction_of(alloc, value).is_ok(),
+            Kind::Whose => whose_of(value).is_some(),
+            Kind::HeightOrNull => height_of(value).is_some(),
+            Kind::FundingKeys => funding_keys_of(value).is_some(),
         }
     }
 
@@ -124,6 +144,12 @@ impl Kind {
             Kind::Transaction => {
                 "a transaction in hexadecimal, with or without its witnesses (BIP 144)"
             }
+            Kind::Whose => "own or peer, in quotes",
+            Kind::HeightOrNull =>
+                "a height, as an integer of at most 32 bits without quotes, or null",
+            Kind::FundingKeys => {
+                "an object of own and peer, each a compressed key in hexadecimal, or null"
+            }
         }
     }
 }
@@ -147,6 +173,9 @@ fn wanted(notes: &mut Page, kind: Kind, value: &Value) {
             match text_fault(text) {
                 Some(TextFault::Address) => notes.push(
                     "; of an address, those that bitcoin-cli validateaddress ADDRESS has as scriptPubKey",
+                ),
+                Some(TextFault::PrivateKey) => notes.push(
+                    "; this looks like a private key, which nothing here asks for: move what it guards to another key",
                 ),
                 Some(TextFault::Prefix) => notes.push("; without 0x"),
                 Some(TextFault::Odd(_)) => notes.push("; two digits for each byte"),
@@ -231,13 +260,8 @@ fn note_outpoint(notes: &mut Page, output: u64, value: &Value) {
     }
 }
 
-/// Notes the first part of a request about a revoked commitment that does not have its shape.
-pub fn note_revoked_shape(alloc: Global, notes: &mut Page, value: &Value) {
-    note_whole(alloc, notes, value, &REVOKED);
-}
-
-// Notes a request that is no object, or its first member that does not have its shape.
-fn note_whole(alloc: Global, notes: &mut Page, value: &Value, members: &[Member]) {
+/// Notes a request that is no object, or its first member that does not have its shape.
+pub fn note_whole(alloc: Global, notes: &mut Page, value: &Value, members: &[Member]) {
     if value.as_object().is_none() {
         notes.push("note: the request: wanted: an object\n");
     } else {

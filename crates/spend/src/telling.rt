@@ -4,8 +4,10 @@ ghost use Rattle.std.specs.Prelude.{◌≡◌, ◌≤◌};
 ghost use Rattle.spend.specs.Asking.{IsWithin};
 
 use crate::asking::{Asked, asked_in, read_in};
+use crate::close_answers::{close_answer_of, tell_close};
+use crate::close_requests::CloseRequest;
 use crate::errors::PlanError;
-use crate::notes::{say_input, say_plan, say_refusal, say_revoked_input};
+use crate::notes::{say_close_input, say_input, say_plan, say_refusal, say_revoked_input};
 use crate::outputs::reversed;
 use crate::plans::{Plan, plan_of};
 use crate::revoked_answers::{answer_of, tell_answer};
@@ -28,6 +30,8 @@ pub enum Question {
     Spend,
     /// What a revoked commitment lets its owner's peer claim.
     Revoked,
+    /// What an unrevoked commitment lets one claim.
+    Close,
 }
 
 /// Reads what is asked for, and writes the answer: one JSON object on a line. Returns the status: 0 when it is written, 1 for refused input, a failed write, or if memory ran out. The whole line is made
@@ -45,6 +49,7 @@ pub fn run(
         Ok(bytes) => match question {
             Question::Spend => tell_bytes(alloc, bytes.as_slice(), out, err),
             Question::Revoked => tell_revoked(alloc, bytes.as_slice(), out, err),
+            Question::Close => tell_unrevoked(alloc, bytes.as_slice(), out, err),
         },
         Err(InputError::NoMemory) => refuse_memory(out),
         Err(error) => {
@@ -99,6 +104,31 @@ fn tell_revoked(alloc: Global, bytes: &[u8], out: &mut dyn Write, err: &mut dyn 
         Ok(answer) => {
             let mut line = Page::new(alloc);
             tell_answer(&mut line, &answer);
+            let status = write_told(out, &mut line, 0);
+            // not dropped: the program ends now, which frees all at once
+            mem::forget(answer);
+            status
+        }
+        Err(_) => refuse_memory(out),
+    }
+}
+
+// Writes what the unrevoked commitment that bytes spell lets claim, and returns the status.
+fn tell_unrevoked(alloc: Global, bytes: &[u8], out: &mut dyn Write, err: &mut dyn Write) -> u8
+    ensures { result ≤ 1 }
+{
+    let request: CloseRequest = match read_in(alloc, bytes) {
+        Ok(request) => request,
+        Err(error) => {
+            let status = refuse(alloc, error, out);
+            say_close_input(alloc, bytes, error, err);
+            return status;
+        }
+    };
+    match close_answer_of(alloc, request) {
+        Ok(answer) => {
+            let mut line = Page::new(alloc);
+            tell_close(&mut line, &answer);
             let status = write_told(out, &mut line, 0);
             // not dropped: the program ends now, which frees all at once
             mem::forget(answer);

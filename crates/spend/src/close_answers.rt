@@ -1,0 +1,155 @@
+//! What an unrevoked commitment lets one claim of a transaction, from when, and until when.
+
+ghost use Rattle.std.specs.Prelude.{◌≡◌, map, IfOk};
+ghost use Rattle.penalty.specs.Sets.{AreClaimsOn};
+ghost use Rattle.unilateral.specs.Names.{name_at};
+ghost use Rattle.unilateral.specs.Reading.{claimed_in, others_in};
+ghost use Rattle.spend.specs.CloseAnswers.{close_of};
+
+use crate::close_requests::CloseRequest;
+use crate::revoked_answers::kind_of;
+use claim::Claim;
+use lists::List;
+use page::Page;
+use page::Piece::{Count, Text};
+use std::alloc::{AllocError, Global};
+use texts::WriteValue;
+use unilateral::{
+    Close, Found, KnownPreimages, OutputName, Revoked, channel_patterns, claims_in, from_height,
+    names_at,
+};
+
+/// An unrevoked commitment, and what was found of it in a transaction.
+#[derive(Drop)]
+pub struct CloseAnswer {
+    pub close: Close,
+    pub found: Found,
+    /// The names of the outputs without a claim.
+    pub names: List<OutputName>,
+    /// The height of the block that has the transaction, if it is in one.
+    pub confirmed_height: Option<u32>,
+}
+
+/// All that the commitment of a request lets one claim of the transaction, and the indices and the names of the other outputs. The only error is that memory ran out.
+pub fn close_answer_of(alloc: Global, request: CloseRequest) -> Result<CloseAnswer, AllocError>
+    ensures commitment { IfOk result (λ a. a.close ≡ close_of request) }
+    ensures claims { IfOk result (λ a. AreClaimsOn
+        (claimed_in (close_of request) request.transaction) a.found.claims) }
+    ensures others { IfOk result (λ a. a.found.others
+        ≡ others_in (close_of request) request.transaction) }
+    ensures names { IfOk result (λ a. a.names ≡ map (name_at (close_of request).commitment
+        request.funding_keys request.transaction)
+        (others_in (close_of request) request.transaction)) }
+    ensures height { IfOk result (λ a. a.confirmed_height ≡ request.confirmed_height) }
+{
+    let CloseRequest {
+        channel_type,
+        whose,
+        keys,
+        delay_blocks,
+        feerate_per_kw,
+        htlcs,
+        preimages,
+        funding_keys,
+        transaction,
+        confirmed_height,
+    } = request;
+    let patterns = channel_patterns(alloc)?;
+    let htlcs = htlcs.into_vec();
+    let commitment = Revoked::new(alloc, &patterns, channel_type, keys, delay_blocks, htlcs)?;
+    let mut preimages = KnownPreimages::from_vec(preimages.into_vec());
+    preimages.index()?;
+    let close = Close {
+        commitment,
+        whose,
+        feerate_per_kw,
+        preimages,
+    };
+    let found = claims_in(alloc, &patterns, &close, &transaction)?;
+    let names = names_at(
+        alloc,
+        &close.commitment,
+        funding_keys,
+        &transaction,
+        found.others.values(),
+    )?;
+    Ok(CloseAnswer {
+        close,
+        found,
+        names,
+        confirmed_height,
+    })
+}
+
+/// Writes an answer: a line with a JSON object.
+pub fn tell_close(line: &mut Page, answer: &CloseAnswer) {
+    line.push("{\"claims\":[");
+    for claim in answer.found.claims.values() {
+        tell_claim(line, answer, claim);
+    }
+    line.push("],\"others\":[");
+    let names = answer.names.values();
+    for (place, index) in answer.found.others.values().iter().enumerate() {
+        let name = match names.get(place) {
+            Some(name) => text_of(*name),
+            None => "unknown",
+        };
+        line.element(
+            "{\"index\":%,\"name\":\"%\"}",
+            &[Count(u64::from(*index)), Text(name)],
+        );
+    }
+    line.push("]}\n");
+}
+
+// Writes a height, or null.
+fn tell_height(line: &mut Page, height: Option<u64>) {
+    match height {
+        Some(height) => line.show(&height),
+        None => line.push("null"),
+    }
+}
+
+// Writes a claim, an element of an array: which output it is on, the first block that can have it, the first in which the other side can take the output, and the claim as an output of
+// a request for a spend.
+fn tell_claim(line: &mut Page, answer: &CloseAnswer, claim: &Claim) {
+    let Some(output) = answer
+        .close
+        .commitment
+        .output_with(claim.place().program.bytes())
+    else {
+        line.fail();
+        return;
+    };
+    line.element(
+        "{\"kind\":\"%\",\"from_height\":",
+        &[Text(kind_of(&output))],
+    );
+    match answer.confirmed_height {
+        Some(height) => {
+            tell_height(line, Some(from_height(claim, height)));
+            line.push(",\"deadline_height\":");
+            tell_height(line, answer.close.deadline_height(&output, height));
+        }
+        None => line.push("null,\"deadline_height\":null"),
+    }
+    line.push(",\"output\":");
+    match claim.write_value(line.alloc()) {
+        Ok(value) => line.show(&value),
+        Err(_) => line.fail(),
+    }
+    line.push("}");
+}
+
+// The name of an output without a claim, as it is written.
+fn text_of(name: OutputName) -> &'static str {
+    match name {
+        OutputName::ToLocal => "to_local",
+        OutputName::ToRemote => "to_remote",
+        OutputName::OurAnchor => "own_anchor",
+        OutputName::PeersAnchor => "peer_anchor",
+        OutputName::Offered => "offered",
+        OutputName::Received => "received",
+        OutputName::Unknown => "unknown",
+    }
+}

@@ -1,0 +1,133 @@
+// What the JSON object about an unrevoked commitment asks.
+
+ghost use Rattle.std.specs.Prelude.{◌≡◌, codes};
+ghost use Rattle.json_value.specs.View.{view};
+ghost use Rattle.texts.specs.Values.{Gives, member_of, list_of, bytes_of_len};
+ghost use Rattle.spend.specs.CloseRequests.{whose_of, height_of, keys_of_funding, funding_keys_of};
+
+use crate::revoked_requests::{channel_type_of, keys_of, member_htlcs, member_transaction};
+use json_value::Value;
+use lists::List;
+use revoked::{ChannelType, CommitmentKeys, RevokedHtlc};
+use std::alloc::Global;
+use texts::{FromValue, ReadValue, ShapeError, member, object_of, read_member};
+use tx::Tx;
+use unilateral::{FundingKeys, Whose};
+
+/// A commitment that closed a channel, and a transaction that may have outputs of it.
+#[derive(Drop)]
+pub struct CloseRequest {
+    /// The type of the channel.
+    pub channel_type: ChannelType,
+    /// Whose commitment it is.
+    pub whose: Whose,
+    /// The keys of the commitment.
+    pub keys: CommitmentKeys,
+    /// The delay of to_local and of HTLC transactions' outputs, in blocks.
+    pub delay_blocks: u16,
+    /// The commitment's feerate.
+    pub feerate_per_kw: u32,
+    /// The HTLCs of the commitment.
+    pub htlcs: List<RevokedHtlc>,
+    /// The preimages that are known.
+    pub preimages: List<[u8; 32]>,
+    /// The keys of the funding output, if anchors are to be named.
+    pub funding_keys: Option<FundingKeys>,
+    /// The transaction that was seen.
+    pub transaction: Tx,
+    /// The height of the block that has it, if it is in one.
+    pub confirmed_height: Option<u32>,
+}
+
+/// Reads whose commitment it is.
+pub fn whose_of(value: &Value) -> Option<Whose>
+    ensures { result ≡ whose_of (view value.now) }
+{
+    let name = value.as_str()?;
+    if name == "own" {
+        Some(Whose::Ours)
+    } else if name == "peer" {
+        Some(Whose::Theirs)
+    } else {
+        None
+    }
+}
+
+/// Reads a height, or null.
+pub fn height_of(value: &Value) -> Option<Option<u32>>
+    ensures { result ≡ height_of (view value.now) }
+{
+    if value.is_null() {
+        return Some(None);
+    }
+    match u32::from_value(value) {
+        Some(height) => Some(Some(height)),
+        None => None,
+    }
+}
+
+// Reads the keys of the funding output, an object of two members.
+#[tactic(auto, unfolding(crate::specs::CloseRequests::keys_of_funding))]
+fn keys_of_funding(value: &Value) -> Option<FundingKeys>
+    ensures { result ≡ keys_of_funding (view value.now) }
+{
+    let form = object_of(value, 2)?;
+    Some(FundingKeys {
+        ours: member(form, "own")?,
+        peers: member(form, "peer")?,
+    })
+}
+
+/// Reads the keys of the funding output, or null.
+pub fn funding_keys_of(value: &Value) -> Option<Option<FundingKeys>>
+    ensures { result ≡ funding_keys_of (view value.now) }
+{
+    if value.is_null() {
+        return Some(None);
+    }
+    match keys_of_funding(value) {
+        Some(keys) => Some(Some(keys)),
+        None => None,
+    }
+}
+
+/// An object of ten members: `channel_type`, `confirmed_height`, `delay_blocks`, `feerate_per_kw`, `funding_keys`, `htlcs`, `keys`, `preimages`, `transaction` and `whose`.
+impl ReadValue for CloseRequest {
+    ghost use Rattle.spend.specs.CloseRequests.{close_request_of};
+
+    ghost reads = { close_request_of };
+
+    #[tactic(auto, unfolding(crate::specs::CloseRequests::close_request_of))]
+    fn read_value(alloc: Global, value: &Value) -> Result<CloseRequest, ShapeError> {
+        let form = object_of(value, 10).ok_or(ShapeError::BadShape)?;
+        let channel_type = channel_type_of(
+            form.member("channel_type").ok_or(ShapeError::BadShape)?,
+        ).ok_or(ShapeError::BadShape)?;
+        let whose = whose_of(form.member("whose").ok_or(ShapeError::BadShape)?).ok_or(
+            ShapeError::BadShape,
+        )?;
+        let keys = keys_of(form.member("keys").ok_or(ShapeError::BadShape)?).ok_or(
+            ShapeError::BadShape,
+        )?;
+        let delay_blocks: u16 = member(form, "delay_blocks").ok_or(ShapeError::BadShape)?;
+        let feerate_per_kw: u32 = member(form, "feerate_per_kw").ok_or(ShapeError::BadShape)?;
+        let confirmed_height = height_of(
+            form.member("confirmed_height").ok_or(ShapeError::BadShape)?,
+        ).ok_or(ShapeError::BadShape)?;
+        let funding_keys = funding_keys_of(
+            form.member("funding_keys").ok_or(ShapeError::BadShape)?,
+        ).ok_or(ShapeError::BadShape)?;
+        Ok(CloseRequest {
+            channel_type,
+            whose,
+            keys,
+            delay_blocks,
+            feerate_per_kw,
+            htlcs: member_htlcs(alloc, form)?,
+            preimages: read_member(alloc, form, "preimages")?,
+            funding_keys,
+            transaction: member_transaction(alloc, form)?,
+            confirmed_height,
+        })
+    }
+}
