@@ -1,4 +1,4 @@
-/* enforce.h: the ways through a script, the scripts of BOLT 3, and the unsigned spend of claims, proved, for programs in C. Drawn from crates/enforce_c/src by `bindings/library --write`: do not edit.
+/* enforce.h: the ways through a script, the scripts of BOLT 3, the claims on a revoked commitment, and the unsigned spend of claims, proved, for programs in C. Drawn from crates/enforce_c/src by `bindings/library --write`: do not edit.
 
      uint8_t script[] = {0x63, 0x51, 0x67, 0x52, 0x68}, bytes[64]; // IF 1 ELSE 2 ENDIF
      enforce_path_row paths[64] = {0}; enforce_fact_row facts[64] = {0}; enforce_answer answer = {0};
@@ -23,6 +23,17 @@ enum {
     ENFORCE_SLOT_SIGNATURE = 1, /* The slot is the signature of `key` over the spend. */
     ENFORCE_SLOT_PREIMAGE = 2, /* The slot is 32 bytes whose SHA-256 is `hash`. */
     ENFORCE_SLOT_EXACT = 3, /* The slot is the `bytes_length` bytes from `bytes_at` on, at most 520. */
+};
+
+enum {
+    ENFORCE_CHANNEL_STATIC_REMOTE_KEY = 1, /* A channel without anchors: `option_static_remotekey` (BOLT 9). */
+    ENFORCE_CHANNEL_ANCHORS = 2, /* A channel with `option_anchors` (BOLT 9). */
+    ENFORCE_DIRECTION_OFFERED = 1, /* The owner of the commitment offered the HTLC. */
+    ENFORCE_DIRECTION_RECEIVED = 2, /* The owner of the commitment received the HTLC. */
+    ENFORCE_OUTPUT_TO_LOCAL = 1, /* To the owner of the commitment, after the delay. The output of an HTLC transaction has the same script. */
+    ENFORCE_OUTPUT_TO_REMOTE = 2, /* To the owner's peer. */
+    ENFORCE_OUTPUT_OFFERED = 3, /* An HTLC that the owner offered. */
+    ENFORCE_OUTPUT_RECEIVED = 4, /* An HTLC that the owner received. */
 };
 
 enum {
@@ -74,17 +85,25 @@ enum {
     ENFORCE_OUTPUTS_EXCEED = 0x503, /* The outputs are worth more than the claimed outputs together. */
     ENFORCE_MEASURED_SIGNATURE = 0x504, /* The path of a claim asks for the length, the hash or the bytes of a signature. */
     ENFORCE_NO_PREIMAGE = 0x505, /* No preimage is given for the hash of a slot. */
-    ENFORCE_NO_INPUTS = 0x604, /* There is no claim, so that the transaction has no input. */
+    ENFORCE_TRUNCATED_TRANSACTION = 0x601, /* The bytes of the transaction end within a field. */
+    ENFORCE_LONG_COUNT = 0x602, /* A compactSize of the transaction is not minimal. */
+    ENFORCE_BAD_MARKER = 0x603, /* The marker of the transaction is not 0, or its flag is not 1 (BIP 144). No call here tells it: such bytes are read without witnesses. */
+    ENFORCE_NO_INPUTS = 0x604, /* There is no claim, or the transaction that is given has no input. */
     ENFORCE_NO_WITNESS = 0x605, /* No witness of the transaction has an item. */
     ENFORCE_VALUE_TOO_LARGE = 0x606, /* The value of an output is above 21,000,000 bitcoins. */
-    ENFORCE_OVER_LIMIT = 0x608, /* There are more than 4,000 claims or outputs, or the script of an output has more than 10,000 bytes. */
+    ENFORCE_TRAILING = 0x607, /* There are bytes after the lock time of the transaction. */
+    ENFORCE_OVER_LIMIT = 0x608, /* There are more than 4,000 claims or outputs, or the script of an output has more than 10,000 bytes; of a transaction that is given, a count is above its limit, or an input has a script. */
     ENFORCE_OUT_OF_RANGE = 0x701, /* A row refers to bytes or to rows that are not there. */
     ENFORCE_NO_SUCH_SLOT = 0x702, /* There is no slot of this kind. */
     ENFORCE_ITEM_TOO_LONG = 0x703, /* The bytes of a slot are more than 520. */
+    ENFORCE_NO_SUCH_CHANNEL_TYPE = 0x801, /* There is no type of channels of this kind. */
+    ENFORCE_NOT_A_COMMITMENT_KEY = 0x802, /* Bytes that are to be a key of the commitment do not have the form of one; the answer has which of its fields it is, from 0. */
+    ENFORCE_NO_SUCH_DIRECTION = 0x803, /* There is no direction of this kind; the answer has the index of the HTLC. */
+    ENFORCE_EXPIRY_TOO_LARGE = 0x804, /* The expiry of an HTLC is 500,000,000 or more, which is a time and not a height; the answer has the index of the HTLC. */
 };
 
 enum {
-    ENFORCE_ABI = 1, /* What declarations mean together: it is raised whenever one changes its meaning. */
+    ENFORCE_ABI = 2, /* What declarations mean together: it is raised whenever one changes its meaning. */
 };
 
 /* How a claim fills a slot of its path. A field that the kind does not name is not read. */
@@ -115,6 +134,40 @@ typedef struct {
     uint64_t height; /* The least lock time, as a height below 500,000,000 (BIP 65); 0 if the path checks none. */
     uint32_t sequence; /* The sequence of the claim's input, which is an age in blocks (BIP 68); 0 if the path checks none. */
 } enforce_due;
+
+/* A commitment, by what its scripts are made of: the keys at its point (BOLT 3, "Key Derivation"), as its owner names them. */
+typedef struct {
+    uint32_t channel_type; /* One of the types of channels. */
+    uint16_t delay_blocks; /* to_self_delay, of to_local and of the outputs of HTLC transactions. */
+    uint8_t revocation[33]; /* revocationpubkey, of the owner's peer. */
+    uint8_t delayed[33]; /* local_delayedpubkey, of the owner. */
+    uint8_t local_htlc[33]; /* local_htlcpubkey, of the owner. */
+    uint8_t remote_htlc[33]; /* remote_htlcpubkey, of the owner's peer. */
+    uint8_t remote[33]; /* remotepubkey, of the owner's peer: its payment basepoint. */
+} enforce_commitment;
+
+/* An HTLC of a commitment, by what its script is made of. */
+typedef struct {
+    uint32_t direction; /* One of the directions. */
+    uint32_t expiry_height; /* cltv_expiry, below 500,000,000. */
+    uint8_t hash[32]; /* SHA-256 of the payment preimage. */
+} enforce_htlc_row;
+
+/* Of a claim, which output of the commitment it is on, and until when it is alone. */
+typedef struct {
+    uint32_t kind; /* One of the kinds of outputs. */
+    bool has_owner_height; /* Whether the owner of the commitment can take the output at all. */
+    uint64_t owner_height; /* The least height of a block in which the owner can. A transaction that takes the output is safe in all blocks below (BOLT 5). */
+} enforce_found_row;
+
+/* What a call that finds claims tells beside its status. Each call writes all of it: the rows and bytes that there are, whether or not they were written, and the number that a refusal carries. There are as many rows of outputs as of claims. */
+typedef struct {
+    size_t claims;
+    size_t slots;
+    size_t others;
+    size_t bytes;
+    size_t number;
+} enforce_found_answer;
 
 /* A form of BOLT 3 with what its script has. A field that the kind does not name is not read. */
 typedef struct {
@@ -222,6 +275,11 @@ uint32_t enforce_claim(const enforce_claim_row *claim, const enforce_slot_row *s
    Proved: AnswersSpend (record { claims = claims.now; slots = slots.now; outputs = outputs.now; bytes = bytes.now }) (preimages_in preimages.now) (record { bytes = tx.old; signatures = signatures.old }) (record { status = result; answer = answer.new; lists = record { bytes = tx.new; signatures = signatures.new } }) (crates/enforce_c/specs/Spent.antt) */
 uint32_t enforce_unsigned_spend(const enforce_claim_row *claims, size_t claims_length, const enforce_slot_row *slots, size_t slots_length, const enforce_output_row *outputs, size_t outputs_length, const enforce_preimage_row *preimages, size_t preimages_length, const uint8_t *bytes, size_t bytes_length, uint8_t *tx, size_t tx_length, enforce_signature_row *signatures, size_t signatures_length, enforce_spend_answer *answer);
 
+/* Finds all that a revoked commitment lets its owner's peer claim of a transaction: the commitment, one of its HTLC transactions, or any other, with witnesses or without. Writes a claim on each output whose script is one of the commitment's, in the order of the outputs, with what `enforce_unsigned_spend` takes: rows of slots, and the bytes that both refer to. Of each claim it writes which output it is on, and the first block in which the owner can take that, where a block of `confirmed_height` has the transaction. Of each other output it writes the index. The statuses of refusals are those of family 8 in this order: the type of the channel, each key, each HTLC; then those of family 6, of the first fault of the transaction; and `TOO_SMALL` if one of the five buffers is too short.
+
+   Proved: AnswersFound (record { commitment = commitment.now; htlcs = htlcs.now; tx = tx.now; confirmed_height = confirmed_height }) (record { claims = claims.old; found = found_outputs.old; slots = slots.old; others = others.old; bytes = bytes.old }) (record { status = result; answer = answer.new; lists = record { claims = claims.new; found = found_outputs.new; slots = slots.new; others = others.new; bytes = bytes.new } }) (crates/enforce_c/specs/Found.antt) */
+uint32_t enforce_revoked(const enforce_commitment *commitment, const enforce_htlc_row *htlcs, size_t htlcs_length, const uint8_t *tx, size_t tx_length, uint32_t confirmed_height, enforce_claim_row *claims, size_t claims_length, enforce_found_row *found_outputs, size_t found_outputs_length, enforce_slot_row *slots, size_t slots_length, uint32_t *others, size_t others_length, uint8_t *bytes, size_t bytes_length, enforce_found_answer *answer);
+
 /* The word for a status. */
 static inline const char *enforce_name(uint32_t status) {
     switch (status) {
@@ -250,13 +308,21 @@ static inline const char *enforce_name(uint32_t status) {
     case ENFORCE_OUTPUTS_EXCEED: return "OutputsExceed";
     case ENFORCE_MEASURED_SIGNATURE: return "MeasuredSignature";
     case ENFORCE_NO_PREIMAGE: return "NoPreimage";
+    case ENFORCE_TRUNCATED_TRANSACTION: return "TruncatedTransaction";
+    case ENFORCE_LONG_COUNT: return "LongCount";
+    case ENFORCE_BAD_MARKER: return "BadMarker";
     case ENFORCE_NO_INPUTS: return "NoInputs";
     case ENFORCE_NO_WITNESS: return "NoWitness";
     case ENFORCE_VALUE_TOO_LARGE: return "ValueTooLarge";
+    case ENFORCE_TRAILING: return "Trailing";
     case ENFORCE_OVER_LIMIT: return "OverLimit";
     case ENFORCE_OUT_OF_RANGE: return "OutOfRange";
     case ENFORCE_NO_SUCH_SLOT: return "NoSuchSlot";
     case ENFORCE_ITEM_TOO_LONG: return "ItemTooLong";
+    case ENFORCE_NO_SUCH_CHANNEL_TYPE: return "NoSuchChannelType";
+    case ENFORCE_NOT_A_COMMITMENT_KEY: return "NotACommitmentKey";
+    case ENFORCE_NO_SUCH_DIRECTION: return "NoSuchDirection";
+    case ENFORCE_EXPIRY_TOO_LARGE: return "ExpiryTooLarge";
     default: return "Unknown";
     }
 }
@@ -286,6 +352,28 @@ _Static_assert(offsetof(enforce_claim_row, slots) == 96, "the layout of enforce_
 _Static_assert(sizeof(enforce_due) == 16, "the layout of enforce_due");
 _Static_assert(offsetof(enforce_due, height) == 0, "the layout of enforce_due");
 _Static_assert(offsetof(enforce_due, sequence) == 8, "the layout of enforce_due");
+_Static_assert(sizeof(enforce_commitment) == 172, "the layout of enforce_commitment");
+_Static_assert(offsetof(enforce_commitment, channel_type) == 0, "the layout of enforce_commitment");
+_Static_assert(offsetof(enforce_commitment, delay_blocks) == 4, "the layout of enforce_commitment");
+_Static_assert(offsetof(enforce_commitment, revocation) == 6, "the layout of enforce_commitment");
+_Static_assert(offsetof(enforce_commitment, delayed) == 39, "the layout of enforce_commitment");
+_Static_assert(offsetof(enforce_commitment, local_htlc) == 72, "the layout of enforce_commitment");
+_Static_assert(offsetof(enforce_commitment, remote_htlc) == 105, "the layout of enforce_commitment");
+_Static_assert(offsetof(enforce_commitment, remote) == 138, "the layout of enforce_commitment");
+_Static_assert(sizeof(enforce_htlc_row) == 40, "the layout of enforce_htlc_row");
+_Static_assert(offsetof(enforce_htlc_row, direction) == 0, "the layout of enforce_htlc_row");
+_Static_assert(offsetof(enforce_htlc_row, expiry_height) == 4, "the layout of enforce_htlc_row");
+_Static_assert(offsetof(enforce_htlc_row, hash) == 8, "the layout of enforce_htlc_row");
+_Static_assert(sizeof(enforce_found_row) == 16, "the layout of enforce_found_row");
+_Static_assert(offsetof(enforce_found_row, kind) == 0, "the layout of enforce_found_row");
+_Static_assert(offsetof(enforce_found_row, has_owner_height) == 4, "the layout of enforce_found_row");
+_Static_assert(offsetof(enforce_found_row, owner_height) == 8, "the layout of enforce_found_row");
+_Static_assert(sizeof(enforce_found_answer) == 40, "the layout of enforce_found_answer");
+_Static_assert(offsetof(enforce_found_answer, claims) == 0, "the layout of enforce_found_answer");
+_Static_assert(offsetof(enforce_found_answer, slots) == 8, "the layout of enforce_found_answer");
+_Static_assert(offsetof(enforce_found_answer, others) == 16, "the layout of enforce_found_answer");
+_Static_assert(offsetof(enforce_found_answer, bytes) == 24, "the layout of enforce_found_answer");
+_Static_assert(offsetof(enforce_found_answer, number) == 32, "the layout of enforce_found_answer");
 _Static_assert(sizeof(enforce_form) == 144, "the layout of enforce_form");
 _Static_assert(offsetof(enforce_form, kind) == 0, "the layout of enforce_form");
 _Static_assert(offsetof(enforce_form, expiry_height) == 4, "the layout of enforce_form");

@@ -27,7 +27,7 @@ type Refused struct {
 
 func (r *Refused) Error() string {
 	switch r.Status {
-	case C.ENFORCE_BAD_OPCODE, C.ENFORCE_TRUNCATED, C.ENFORCE_UNDECIDED:
+	case C.ENFORCE_BAD_OPCODE, C.ENFORCE_TRUNCATED, C.ENFORCE_UNDECIDED, C.ENFORCE_NOT_A_COMMITMENT_KEY, C.ENFORCE_NO_SUCH_DIRECTION, C.ENFORCE_EXPIRY_TOO_LARGE:
 		return fmt.Sprintf("%s %d", r.Name, r.Number)
 	}
 	return r.Name

@@ -22,12 +22,16 @@ if _library.enforce_abi() != raw.ABI:
     raise ImportError("the library is of another version than enforce_raw")
 
 
+# the refusals that carry a position or an index
+_NUMBERED = (raw.BAD_OPCODE, raw.TRUNCATED, raw.UNDECIDED, raw.NOT_A_COMMITMENT_KEY, raw.NO_SUCH_DIRECTION, raw.EXPIRY_TOO_LARGE)
+
+
 class Refused(Exception):
     """Why a call gives nothing: the status, its name, and the number that some refusals carry."""
 
     def __init__(self, status: int, number: int) -> None:
         self.status, self.name = status, raw.NAMES.get(status, "Unknown")
-        self.number = number if status in (raw.BAD_OPCODE, raw.TRUNCATED, raw.UNDECIDED) else None
+        self.number = number if status in _NUMBERED else None
         super().__init__(self.name if self.number is None else f"{self.name} {number}")
 
 
@@ -283,7 +287,7 @@ class _Given:
         return _rows(raw.SlotRow, self.slots) + (_buffer(bytes(self.bytes)), len(self.bytes))
 
 
-_Row = TypeVar("_Row", raw.SlotRow, raw.ClaimRow, raw.OutputRow, raw.PreimageRow)
+_Row = TypeVar("_Row", raw.SlotRow, raw.ClaimRow, raw.OutputRow, raw.PreimageRow, raw.HtlcRow)
 
 
 def _rows(kind: Type[_Row], rows: Sequence[_Row]) -> Tuple["ctypes.Array[_Row]", int]:
@@ -331,3 +335,100 @@ def unsigned_spend(claims: Sequence[Claim], outputs: Sequence[Tuple[int, bytes]]
         if status != raw.TOO_SMALL:
             raise Refused(status, answer.number)
         size, count = answer.bytes, answer.signatures
+
+
+@dataclass(frozen=True)
+class Htlc:
+    """An HTLC of a commitment: one of the directions DIRECTION_.. of enforce_raw, as the commitment's owner sees it, its cltv_expiry, and its payment hash."""
+
+    direction: int
+    expiry_height: int
+    hash: bytes
+
+
+@dataclass(frozen=True)
+class Commitment:
+    """A commitment, by what its scripts are made of: one of the types CHANNEL_.. of enforce_raw, to_self_delay, the keys at its point as its owner names them (BOLT 3, "Key Derivation"), and its HTLCs."""
+
+    channel_type: int
+    delay_blocks: int
+    revocation: bytes
+    delayed: bytes
+    local_htlc: bytes
+    remote_htlc: bytes
+    remote: bytes
+    htlcs: Tuple[Htlc, ...] = ()
+
+
+@dataclass(frozen=True)
+class FoundClaim:
+    """A claim, one of the kinds OUTPUT_.. of enforce_raw of the output that it is on, and the first block in which the commitment's owner can take that, if it can."""
+
+    claim: Claim
+    kind: int
+    owner_height: Optional[int]
+
+
+@dataclass(frozen=True)
+class Found:
+    """The claims on outputs of a transaction, in their order, and the indices of the other outputs."""
+
+    claims: Tuple[FoundClaim, ...]
+    others: Tuple[int, ...]
+
+
+def _commitment(given: Commitment) -> raw.Commitment:
+    row = raw.Commitment(channel_type=_number(given.channel_type, 32, "channel_type"), delay_blocks=_number(given.delay_blocks, 16, "delay_blocks"))
+    for name in ("revocation", "delayed", "local_htlc", "remote_htlc", "remote"):
+        _fill(getattr(row, name), getattr(given, name), name)
+    return row
+
+
+def _htlc(given: Htlc) -> raw.HtlcRow:
+    row = raw.HtlcRow(direction=_number(given.direction, 32, "direction"), expiry_height=_number(given.expiry_height, 32, "expiry_height"))
+    _fill(row.hash, given.hash, "a hash")
+    return row
+
+
+class _Lists:
+    """The buffers of what is found."""
+
+    def __init__(self, claims: int, slots: int, others: int, size: int) -> None:
+        self.claims, self.found = (raw.ClaimRow * claims)(), (raw.FoundRow * claims)()
+        self.slots, self.others, self.bytes = (raw.SlotRow * slots)(), (ctypes.c_uint32 * others)(), (ctypes.c_uint8 * size)()
+
+    def part(self, at: int, length: int) -> bytes:
+        return bytes(self.bytes[at : at + length])
+
+    def slot(self, row: raw.SlotRow) -> Slot:
+        if row.kind == raw.SLOT_SIGNATURE:
+            return Signature(bytes(row.key))
+        return Preimage(bytes(row.hash)) if row.kind == raw.SLOT_PREIMAGE else Exact(self.part(row.bytes_at, row.bytes_length))
+
+    def claim(self, row: raw.ClaimRow) -> Claim:
+        script, program = self.part(row.script_at, row.script_length), self.part(row.program_at, row.program_length)
+        slots = tuple(self.slot(it) for it in self.slots[row.first_slot : row.first_slot + row.slots])
+        return Claim(bytes(row.txid), row.index, row.value, script, program, row.path, slots)
+
+    def arguments(self) -> Tuple[object, ...]:
+        return tuple(word for it in (self.claims, self.found, self.slots, self.others, self.bytes) for word in (it, len(it)))
+
+
+def revoked(commitment: Commitment, tx: bytes, confirmed_height: int) -> Found:
+    """All that a revoked commitment lets its owner's peer claim of a transaction, with witnesses or without: the commitment, one of its HTLC transactions, or any other. Raises Refused.
+
+    Proved of enforce_revoked: each output is claimed, or its index is among the others; each claim is accepted; and each is on the output that it says. A block of confirmed_height has the transaction.
+    """
+    answer, given = raw.FoundAnswer(), _commitment(commitment)
+    htlcs, count = _rows(raw.HtlcRow, list(map(_htlc, commitment.htlcs)))
+    height, room = _number(confirmed_height, 32, "confirmed_height"), (16, 32, 16, 4096)
+    while True:
+        lists = _Lists(*room)
+        status = _library.enforce_revoked(ctypes.byref(given), htlcs, count, _buffer(tx), len(tx), height, *lists.arguments(), ctypes.byref(answer))
+        if status == raw.DONE:
+            rows = zip(lists.claims[: answer.claims], lists.found)
+            claims = tuple(FoundClaim(lists.claim(claim), it.kind, it.owner_height if it.has_owner_height else None) for claim, it in rows)
+            return Found(claims, tuple(lists.others[: answer.others]))
+        if status != raw.TOO_SMALL:
+            raise Refused(status, answer.number)
+        room = answer.claims, answer.slots, answer.others, answer.bytes

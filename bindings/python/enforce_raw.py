@@ -8,6 +8,23 @@ SLOT_PREIMAGE = 0x2
 # The slot is the `bytes_length` bytes from `bytes_at` on, at most 520.
 SLOT_EXACT = 0x3
 
+# A channel without anchors: `option_static_remotekey` (BOLT 9).
+CHANNEL_STATIC_REMOTE_KEY = 0x1
+# A channel with `option_anchors` (BOLT 9).
+CHANNEL_ANCHORS = 0x2
+# The owner of the commitment offered the HTLC.
+DIRECTION_OFFERED = 0x1
+# The owner of the commitment received the HTLC.
+DIRECTION_RECEIVED = 0x2
+# To the owner of the commitment, after the delay. The output of an HTLC transaction has the same script.
+OUTPUT_TO_LOCAL = 0x1
+# To the owner's peer.
+OUTPUT_TO_REMOTE = 0x2
+# An HTLC that the owner offered.
+OUTPUT_OFFERED = 0x3
+# An HTLC that the owner received.
+OUTPUT_RECEIVED = 0x4
+
 # A funding output: both keys, `key` and `other`, in whichever order.
 FORM_FUNDING = 0x1
 # A to_local output: `key` revokes, or `other` after `delay_blocks`.
@@ -94,13 +111,21 @@ OUTPUTS_EXCEED = 0x503
 MEASURED_SIGNATURE = 0x504
 # No preimage is given for the hash of a slot.
 NO_PREIMAGE = 0x505
-# There is no claim, so that the transaction has no input.
+# The bytes of the transaction end within a field.
+TRUNCATED_TRANSACTION = 0x601
+# A compactSize of the transaction is not minimal.
+LONG_COUNT = 0x602
+# The marker of the transaction is not 0, or its flag is not 1 (BIP 144). No call here tells it: such bytes are read without witnesses.
+BAD_MARKER = 0x603
+# There is no claim, or the transaction that is given has no input.
 NO_INPUTS = 0x604
 # No witness of the transaction has an item.
 NO_WITNESS = 0x605
 # The value of an output is above 21,000,000 bitcoins.
 VALUE_TOO_LARGE = 0x606
-# There are more than 4,000 claims or outputs, or the script of an output has more than 10,000 bytes.
+# There are bytes after the lock time of the transaction.
+TRAILING = 0x607
+# There are more than 4,000 claims or outputs, or the script of an output has more than 10,000 bytes; of a transaction that is given, a count is above its limit, or an input has a script.
 OVER_LIMIT = 0x608
 # A row refers to bytes or to rows that are not there.
 OUT_OF_RANGE = 0x701
@@ -108,9 +133,17 @@ OUT_OF_RANGE = 0x701
 NO_SUCH_SLOT = 0x702
 # The bytes of a slot are more than 520.
 ITEM_TOO_LONG = 0x703
+# There is no type of channels of this kind.
+NO_SUCH_CHANNEL_TYPE = 0x801
+# Bytes that are to be a key of the commitment do not have the form of one; the answer has which of its fields it is, from 0.
+NOT_A_COMMITMENT_KEY = 0x802
+# There is no direction of this kind; the answer has the index of the HTLC.
+NO_SUCH_DIRECTION = 0x803
+# The expiry of an HTLC is 500,000,000 or more, which is a time and not a height; the answer has the index of the HTLC.
+EXPIRY_TOO_LARGE = 0x804
 
 # What declarations mean together: it is raised whenever one changes its meaning.
-ABI = 0x1
+ABI = 0x2
 
 NAMES = {
     DONE: "Done",
@@ -138,13 +171,21 @@ NAMES = {
     OUTPUTS_EXCEED: "OutputsExceed",
     MEASURED_SIGNATURE: "MeasuredSignature",
     NO_PREIMAGE: "NoPreimage",
+    TRUNCATED_TRANSACTION: "TruncatedTransaction",
+    LONG_COUNT: "LongCount",
+    BAD_MARKER: "BadMarker",
     NO_INPUTS: "NoInputs",
     NO_WITNESS: "NoWitness",
     VALUE_TOO_LARGE: "ValueTooLarge",
+    TRAILING: "Trailing",
     OVER_LIMIT: "OverLimit",
     OUT_OF_RANGE: "OutOfRange",
     NO_SUCH_SLOT: "NoSuchSlot",
     ITEM_TOO_LONG: "ItemTooLong",
+    NO_SUCH_CHANNEL_TYPE: "NoSuchChannelType",
+    NOT_A_COMMITMENT_KEY: "NotACommitmentKey",
+    NO_SUCH_DIRECTION: "NoSuchDirection",
+    EXPIRY_TOO_LARGE: "ExpiryTooLarge",
 }
 
 
@@ -183,6 +224,52 @@ class Due(Structure):
     _fields_ = [
         ("height", c_uint64),
         ("sequence", c_uint32),
+    ]
+
+
+class Commitment(Structure):
+    """A commitment, by what its scripts are made of: the keys at its point (BOLT 3, "Key Derivation"), as its owner names them."""
+
+    _fields_ = [
+        ("channel_type", c_uint32),
+        ("delay_blocks", c_uint16),
+        ("revocation", c_uint8 * 33),
+        ("delayed", c_uint8 * 33),
+        ("local_htlc", c_uint8 * 33),
+        ("remote_htlc", c_uint8 * 33),
+        ("remote", c_uint8 * 33),
+    ]
+
+
+class HtlcRow(Structure):
+    """An HTLC of a commitment, by what its script is made of."""
+
+    _fields_ = [
+        ("direction", c_uint32),
+        ("expiry_height", c_uint32),
+        ("hash", c_uint8 * 32),
+    ]
+
+
+class FoundRow(Structure):
+    """Of a claim, which output of the commitment it is on, and until when it is alone."""
+
+    _fields_ = [
+        ("kind", c_uint32),
+        ("has_owner_height", c_bool),
+        ("owner_height", c_uint64),
+    ]
+
+
+class FoundAnswer(Structure):
+    """What a call that finds claims tells beside its status. Each call writes all of it: the rows and bytes that there are, whether or not they were written, and the number that a refusal carries. There are as many rows of outputs as of claims."""
+
+    _fields_ = [
+        ("claims", c_size_t),
+        ("slots", c_size_t),
+        ("others", c_size_t),
+        ("bytes", c_size_t),
+        ("number", c_size_t),
     ]
 
 
@@ -285,6 +372,10 @@ LAYOUTS = {
     SlotRow: (88, [0, 4, 37, 72, 80]),
     ClaimRow: (104, [0, 32, 40, 48, 56, 64, 72, 80, 88, 96]),
     Due: (16, [0, 8]),
+    Commitment: (172, [0, 4, 6, 39, 72, 105, 138]),
+    HtlcRow: (40, [0, 4, 8]),
+    FoundRow: (16, [0, 4, 8]),
+    FoundAnswer: (40, [0, 8, 16, 24, 32]),
     Form: (144, [0, 4, 8, 10, 43, 76, 109]),
     PathRow: (56, [0, 8, 16, 24, 32, 40, 48, 52, 53]),
     FactRow: (48, [0, 4, 5, 8, 16, 24, 32, 40]),
@@ -319,6 +410,9 @@ def declare(library: CDLL) -> None:
     # proved: AnswersSpend (record { claims = claims.now; slots = slots.now; outputs = outputs.now; bytes = bytes.now }) (preimages_in preimages.now) (record { bytes = tx.old; signatures = signatures.old }) (record { status = result; answer = answer.new; lists = record { bytes = tx.new; signatures = signatures.new } }) (crates/enforce_c/specs/Spent.antt)
     library.enforce_unsigned_spend.argtypes = [POINTER(ClaimRow), c_size_t, POINTER(SlotRow), c_size_t, POINTER(OutputRow), c_size_t, POINTER(PreimageRow), c_size_t, POINTER(c_uint8), c_size_t, POINTER(c_uint8), c_size_t, POINTER(SignatureRow), c_size_t, POINTER(SpendAnswer)]
     library.enforce_unsigned_spend.restype = c_uint32
+    # proved: AnswersFound (record { commitment = commitment.now; htlcs = htlcs.now; tx = tx.now; confirmed_height = confirmed_height }) (record { claims = claims.old; found = found_outputs.old; slots = slots.old; others = others.old; bytes = bytes.old }) (record { status = result; answer = answer.new; lists = record { claims = claims.new; found = found_outputs.new; slots = slots.new; others = others.new; bytes = bytes.new } }) (crates/enforce_c/specs/Found.antt)
+    library.enforce_revoked.argtypes = [POINTER(Commitment), POINTER(HtlcRow), c_size_t, POINTER(c_uint8), c_size_t, c_uint32, POINTER(ClaimRow), c_size_t, POINTER(FoundRow), c_size_t, POINTER(SlotRow), c_size_t, POINTER(c_uint32), c_size_t, POINTER(c_uint8), c_size_t, POINTER(FoundAnswer)]
+    library.enforce_revoked.restype = c_uint32
     for struct, (size, offsets) in LAYOUTS.items():
         if sizeof(struct) != size or [getattr(struct, field[0]).offset for field in struct._fields_] != offsets:
             raise ImportError(f"the layout of {struct.__name__} is not the library's")

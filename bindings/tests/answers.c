@@ -6,8 +6,9 @@
      form KIND KEY OTHER LOCAL PAYMENT_HASH EXPIRY DELAY the script of a form
      claim CLAIM                                         when a claim is due
      spend CLAIM;.. VALUE/SCRIPT;.. PREIMAGE,..          the transaction of claims, and the signatures that it lacks
+     revoked COMMITMENT HTLC;.. TX HEIGHT                what a revoked commitment lets its owner's peer claim of a transaction
 
-   A CLAIM is SCRIPT/PROGRAM/TXID/INDEX/VALUE/PATH/SLOT,.. and a slot is s=KEY, p=HASH or e=ITEM. What is empty is a hyphen.
+   A CLAIM is SCRIPT/PROGRAM/TXID/INDEX/VALUE/PATH/SLOT,.. and a slot is s=KEY, p=HASH or e=ITEM. A COMMITMENT is TYPE/DELAY/ and its five keys with / between them, an HTLC DIRECTION/EXPIRY/HASH. What is empty is a hyphen.
 
    answers             the answers. Each call is made again with buffers of just their lengths, and with each of them one shorter; each claim also with rows that name what is not there
    answers --threads   the answers, made by four threads at once as well, which must be the same
@@ -22,7 +23,9 @@
 #include <string.h>
 
 enum { PATHS = 64, FACTS = 4096, BYTES = 65536, SIGNATURES = 64, THREADS = 4, FILL = 0x5a };
-enum { CLAIMS = 8, SLOTS = 64, OUTPUTS = 8, PREIMAGES = 8 };
+enum { CLAIMS = 8, SLOTS = 64, OUTPUTS = 8, PREIMAGES = 8, HTLCS = 16, FOUND = 16 };
+/* The buffers of a call: paths or claims, rows of facts, of signatures or of outputs, bytes, slots, and the indices of others. */
+enum { AT_PATHS, AT_ROWS, AT_BYTES, AT_SLOTS, AT_OTHERS, BUFFERS };
 
 #ifdef REFUSING
 extern _Thread_local long refused_number, asked;
@@ -30,15 +33,24 @@ extern _Thread_local long refused_number, asked;
 static _Thread_local long refused_number, asked;
 #endif
 
+/* How much room the buffers have, or how much there is to write into them. */
+typedef struct {
+    size_t of[BUFFERS];
+} rooms;
+
 /* What a call is given and leaves. */
 typedef struct {
+    enforce_claim_row claims[FOUND];
+    enforce_found_row found[FOUND];
+    enforce_slot_row slots[SLOTS];
+    uint32_t others[FOUND];
     enforce_path_row paths[PATHS];
     enforce_fact_row facts[FACTS];
     enforce_signature_row signatures[SIGNATURES];
     uint8_t bytes[BYTES];
     enforce_due due;
-    enforce_answer answer;
-    size_t rows; /* of facts or of signatures */
+    rooms sizes;
+    size_t number;
     uint32_t status;
 } state;
 
@@ -96,7 +108,9 @@ static size_t read_hex(const char *from, uint8_t *bytes, size_t room) {
 
 static void put_status(text *to, const state *s) {
     put(to, "refused %s", enforce_name(s->status));
-    if (s->status == ENFORCE_BAD_OPCODE || s->status == ENFORCE_TRUNCATED || s->status == ENFORCE_UNDECIDED) put(to, " %zu", s->answer.number);
+    switch (s->status) {
+    case ENFORCE_BAD_OPCODE: case ENFORCE_TRUNCATED: case ENFORCE_UNDECIDED: case ENFORCE_NOT_A_COMMITMENT_KEY: case ENFORCE_NO_SUCH_DIRECTION: case ENFORCE_EXPIRY_TOO_LARGE: put(to, " %zu", s->number);
+    }
     put(to, "\n");
 }
 
@@ -162,43 +176,70 @@ typedef struct {
     enforce_slot_row slots[SLOTS];
     enforce_output_row outputs[OUTPUTS];
     enforce_preimage_row preimages[PREIMAGES];
-    size_t claims_length, slots_length, outputs_length, preimages_length;
+    size_t claims_length, slots_length, outputs_length, preimages_length, htlcs_length;
+    enforce_commitment commitment;
+    enforce_htlc_row htlcs[HTLCS];
+    uint32_t confirmed_height;
 } request;
 
 static bool is_named(const request *r, const char *name) { return !strcmp(r->name, name); }
 
-static uint32_t call_spend(const request *r, state *s, size_t signatures, size_t bytes) {
+static uint32_t call_spend(const request *r, state *s, const rooms *room) {
     enforce_spend_answer answer;
     memset(&answer, FILL, sizeof answer);
-    uint32_t status = enforce_unsigned_spend(r->claims, r->claims_length, r->slots, r->slots_length, r->outputs, r->outputs_length, r->preimages, r->preimages_length, r->bytes, r->length, s->bytes, bytes,
-                                             s->signatures, signatures, &answer);
-    s->answer = (enforce_answer){.bytes = answer.bytes, .number = answer.number};
-    s->rows = answer.signatures;
+    uint32_t status = enforce_unsigned_spend(r->claims, r->claims_length, r->slots, r->slots_length, r->outputs, r->outputs_length, r->preimages, r->preimages_length, r->bytes, r->length, s->bytes,
+                                             room->of[AT_BYTES], s->signatures, room->of[AT_ROWS], &answer);
+    s->sizes = (rooms){{[AT_BYTES] = answer.bytes, [AT_ROWS] = answer.signatures}}, s->number = answer.number;
     return status;
 }
 
-/* Makes a call with so much room: paths, rows of facts or of signatures, bytes. */
-static void call(const request *r, state *s, size_t paths, size_t rows, size_t bytes) {
+static uint32_t call_revoked(const request *r, state *s, const rooms *room) {
+    enforce_found_answer answer;
+    memset(&answer, FILL, sizeof answer);
+    uint32_t status = enforce_revoked(&r->commitment, r->htlcs, r->htlcs_length, r->bytes, r->length, r->confirmed_height, s->claims, room->of[AT_PATHS], s->found, room->of[AT_ROWS], s->slots,
+                                      room->of[AT_SLOTS], s->others, room->of[AT_OTHERS], s->bytes, room->of[AT_BYTES], &answer);
+    s->sizes = (rooms){{[AT_PATHS] = answer.claims, [AT_ROWS] = answer.claims, [AT_BYTES] = answer.bytes, [AT_SLOTS] = answer.slots, [AT_OTHERS] = answer.others}}, s->number = answer.number;
+    return status;
+}
+
+static uint32_t call_script(const request *r, state *s, const rooms *room) {
+    enforce_answer answer;
+    memset(&answer, FILL, sizeof answer);
+    uint32_t status;
+    if (is_named(r, "claim"))
+        status = enforce_claim(r->claims, r->slots, r->slots_length, r->bytes, r->length, &s->due, &answer);
+    else if (is_named(r, "list"))
+        status = enforce_script_list(r->bytes, r->length, s->paths, room->of[AT_PATHS], s->facts, room->of[AT_ROWS], s->bytes, room->of[AT_BYTES], &answer);
+    else if (is_named(r, "text"))
+        status = enforce_script_text(r->bytes, r->length, s->bytes, room->of[AT_BYTES], &answer);
+    else
+        status = enforce_form_script(&r->form, s->bytes, room->of[AT_BYTES], &answer);
+    s->sizes = (rooms){{[AT_PATHS] = answer.paths, [AT_ROWS] = answer.facts, [AT_BYTES] = answer.bytes}}, s->number = answer.number;
+    return status;
+}
+
+/* Makes a call with so much room. */
+static void call(const request *r, state *s, rooms room) {
     memset(s, FILL, sizeof *s);
     for (size_t i = 0; i < PATHS; i++) s->paths[i].has_lock = s->paths[i].has_age = false;
     for (size_t i = 0; i < FACTS; i++) s->facts[i].holds = s->facts[i].key_is_slot = false;
-    s->rows = 0;
+    for (size_t i = 0; i < FOUND; i++) s->found[i].has_owner_height = false;
     asked = 0;
-    if (is_named(r, "spend")) {
-        s->status = call_spend(r, s, rows, bytes);
-    } else if (is_named(r, "claim")) {
-        s->status = enforce_claim(r->claims, r->slots, r->slots_length, r->bytes, r->length, &s->due, &s->answer);
-    } else if (is_named(r, "list")) {
-        s->status = enforce_script_list(r->bytes, r->length, s->paths, paths, s->facts, rows, s->bytes, bytes, &s->answer);
-        s->rows = s->answer.facts;
-    } else if (is_named(r, "text")) {
-        s->status = enforce_script_text(r->bytes, r->length, s->bytes, bytes, &s->answer);
-    } else {
-        s->status = enforce_form_script(&r->form, s->bytes, bytes, &s->answer);
-    }
+    s->status = is_named(r, "spend") ? call_spend(r, s, &room) : is_named(r, "revoked") ? call_revoked(r, s, &room) : call_script(r, s, &room);
 }
 
-static size_t most_rows(const request *r) { return is_named(r, "spend") ? SIGNATURES : FACTS; }
+static rooms most(const request *r) {
+    if (is_named(r, "revoked")) return (rooms){{FOUND, FOUND, BYTES, SLOTS, FOUND}};
+    return (rooms){{PATHS, is_named(r, "spend") ? SIGNATURES : FACTS, BYTES, 0, 0}};
+}
+
+static bool has_room(const rooms *room, const rooms *sizes) {
+    for (int i = 0; i < BUFFERS; i++)
+        if (room->of[i] < sizes->of[i]) return false;
+    return true;
+}
+
+static bool are_none(const rooms *sizes) { return has_room(&(rooms){{0}}, sizes); }
 
 static bool is_filled(const void *start, size_t length) {
     const uint8_t *bytes = start;
@@ -210,6 +251,9 @@ static bool is_filled(const void *start, size_t length) {
 /* Nothing but the status and the answer was written. */
 static bool is_left(const state *s) {
     if (!is_filled(s->bytes, sizeof s->bytes) || !is_filled(s->signatures, sizeof s->signatures) || !is_filled(&s->due, sizeof s->due)) return false;
+    if (!is_filled(s->claims, sizeof s->claims) || !is_filled(s->slots, sizeof s->slots) || !is_filled(s->others, sizeof s->others)) return false;
+    for (size_t i = 0; i < FOUND; i++)
+        if ((uint8_t)s->found[i].kind != FILL || (uint8_t)s->found[i].owner_height != FILL || s->found[i].has_owner_height) return false;
     for (size_t i = 0; i < PATHS; i++)
         if (s->paths[i].arity != s->paths[PATHS - 1].arity || (uint8_t)s->paths[i].arity != FILL || s->paths[i].has_lock) return false;
     for (size_t i = 0; i < FACTS; i++)
@@ -231,6 +275,28 @@ static bool is_same_signature(const enforce_signature_row *a, const enforce_sign
     return a->input == b->input && a->item == b->item && !memcmp(a->key, b->key, sizeof a->key) && !memcmp(a->digest, b->digest, sizeof a->digest);
 }
 
+static bool is_same_claim(const enforce_claim_row *a, const enforce_claim_row *b) {
+    return !memcmp(a->txid, b->txid, sizeof a->txid) && a->index == b->index && a->value == b->value && a->script_at == b->script_at && a->script_length == b->script_length && a->program_at == b->program_at
+        && a->program_length == b->program_length && a->path == b->path && a->first_slot == b->first_slot && a->slots == b->slots;
+}
+
+static bool is_same_slot(const enforce_slot_row *a, const enforce_slot_row *b) {
+    return a->kind == b->kind && !memcmp(a->key, b->key, sizeof a->key) && !memcmp(a->hash, b->hash, sizeof a->hash) && a->bytes_at == b->bytes_at && a->bytes_length == b->bytes_length;
+}
+
+static bool is_same_found(const enforce_found_row *a, const enforce_found_row *b) {
+    return a->kind == b->kind && a->has_owner_height == b->has_owner_height && a->owner_height == b->owner_height;
+}
+
+/* The same of what is found. */
+static bool are_same_found(const state *a, const state *b) {
+    for (size_t i = 0; i < FOUND; i++)
+        if (!is_same_claim(&a->claims[i], &b->claims[i]) || !is_same_found(&a->found[i], &b->found[i])) return false;
+    for (size_t i = 0; i < SLOTS; i++)
+        if (!is_same_slot(&a->slots[i], &b->slots[i])) return false;
+    return !memcmp(a->others, b->others, sizeof a->others);
+}
+
 /* The same bytes and rows, field by field: the padding of a row may be anything. */
 static bool are_same(const state *a, const state *b) {
     for (size_t i = 0; i < PATHS; i++)
@@ -239,32 +305,34 @@ static bool are_same(const state *a, const state *b) {
         if (!is_same_fact(&a->facts[i], &b->facts[i])) return false;
     for (size_t i = 0; i < SIGNATURES; i++)
         if (!is_same_signature(&a->signatures[i], &b->signatures[i])) return false;
-    return a->due.height == b->due.height && a->due.sequence == b->due.sequence && !memcmp(a->bytes, b->bytes, BYTES);
+    return a->due.height == b->due.height && a->due.sequence == b->due.sequence && !memcmp(a->bytes, b->bytes, BYTES) && are_same_found(a, b);
 }
 
 /* Makes the call once more with one buffer shorter by one, or with just enough room. */
-static void call_short(work *w, const request *r, const state *s, state *other, size_t paths, size_t rows, size_t bytes) {
-    bool fits = paths >= s->answer.paths && rows >= s->rows && bytes >= s->answer.bytes;
-    call(r, other, paths, rows, bytes);
-    bool same = other->answer.paths == s->answer.paths && other->rows == s->rows && other->answer.bytes == s->answer.bytes;
+static void call_short(work *w, const request *r, const state *s, state *other, rooms room) {
+    bool fits = has_room(&room, &s->sizes);
+    call(r, other, room);
+    bool same = !memcmp(&other->sizes, &s->sizes, sizeof s->sizes);
     if (!same || other->status != (fits ? ENFORCE_DONE : ENFORCE_TOO_SMALL) || (!fits && !is_left(other))) w->wrong++;
     if (fits && !are_same(other, s)) w->wrong++;
     w->short_calls++;
 }
 
 static void call_again(work *w, const request *r, const state *s, state *other) {
-    size_t paths = s->answer.paths, rows = s->rows, bytes = s->answer.bytes;
     if (s->status != ENFORCE_DONE) return;
-    call_short(w, r, s, other, paths, rows, bytes);
-    if (paths) call_short(w, r, s, other, paths - 1, rows, bytes);
-    if (rows) call_short(w, r, s, other, paths, rows - 1, bytes);
-    if (bytes) call_short(w, r, s, other, paths, rows, bytes - 1);
+    call_short(w, r, s, other, s->sizes);
+    for (int i = 0; i < BUFFERS; i++) {
+        rooms shorter = s->sizes;
+        if (!shorter.of[i]) continue;
+        shorter.of[i]--;
+        call_short(w, r, s, other, shorter);
+    }
 }
 
 /* The call with a changed row is refused so, and writes nothing but its answer. */
 static void call_changed(work *w, const request *changed, state *other, uint32_t status) {
-    call(changed, other, PATHS, most_rows(changed), BYTES);
-    if (other->status != status || !is_left(other) || other->rows || other->answer.bytes || other->answer.number) w->wrong++;
+    call(changed, other, most(changed));
+    if (other->status != status || !is_left(other) || !are_none(&other->sizes) || other->number) w->wrong++;
     w->short_calls++;
 }
 
@@ -306,9 +374,9 @@ static void change_rows(work *w, const request *r, state *other) {
 /* Refuses each allocation in turn: the call says so, and writes nothing else. */
 static void refuse_each(work *w, const request *r, state *other) {
     for (refused_number = 1;; refused_number++) {
-        call(r, other, PATHS, most_rows(r), BYTES);
+        call(r, other, most(r));
         if (asked < refused_number) break;
-        if (other->status != ENFORCE_NO_MEMORY || !is_left(other) || other->answer.paths || other->rows || other->answer.bytes || other->answer.number) w->wrong++;
+        if (other->status != ENFORCE_NO_MEMORY || !is_left(other) || !are_none(&other->sizes) || other->number) w->wrong++;
         w->refused++;
     }
     refused_number = 0;
@@ -391,9 +459,59 @@ static void read_form(request *r, char **rest) {
     r->form.delay_blocks = (uint16_t)strtoul(words[6], NULL, 10);
 }
 
+static void read_htlc(request *r, char *text) {
+    char *rest;
+    enforce_htlc_row *htlc = &r->htlcs[r->htlcs_length++];
+    if (r->htlcs_length > HTLCS) fail("too many HTLCs");
+    htlc->direction = (uint32_t)strtoul(first_part(text, "/", &rest), NULL, 10);
+    htlc->expiry_height = (uint32_t)strtoul(word(&rest, "/"), NULL, 10);
+    read_hex(word(&rest, "/"), htlc->hash, 32);
+}
+
+static void read_commitment(request *r, char *text) {
+    char *rest;
+    enforce_commitment *c = &r->commitment;
+    uint8_t *keys[] = {c->revocation, c->delayed, c->local_htlc, c->remote_htlc, c->remote};
+    c->channel_type = (uint32_t)strtoul(first_part(text, "/", &rest), NULL, 10);
+    c->delay_blocks = (uint16_t)strtoul(word(&rest, "/"), NULL, 10);
+    for (int i = 0; i < 5; i++) read_hex(word(&rest, "/"), keys[i], 33);
+}
+
+static void put_digits(text *to, const uint8_t *bytes, size_t length) {
+    if (!length) put(to, "-");
+    put_hex(to, bytes, length);
+}
+
+/* A claim as a line has it. */
+static void put_claim(text *to, const state *s, const enforce_claim_row *c) {
+    put_digits(to, s->bytes + c->script_at, c->script_length), put(to, "/"), put_digits(to, s->bytes + c->program_at, c->program_length), put(to, "/"), put_hex(to, c->txid, sizeof c->txid);
+    put(to, "/%u/%llu/%zu/", c->index, (unsigned long long)c->value, c->path);
+    for (size_t i = 0; i < c->slots; i++) {
+        const enforce_slot_row *slot = s->slots + c->first_slot + i;
+        if (i) put(to, ",");
+        switch (slot->kind) {
+        case ENFORCE_SLOT_SIGNATURE: put(to, "s="), put_hex(to, slot->key, sizeof slot->key); break;
+        case ENFORCE_SLOT_PREIMAGE: put(to, "p="), put_hex(to, slot->hash, sizeof slot->hash); break;
+        default: put(to, "e="), put_digits(to, s->bytes + slot->bytes_at, slot->bytes_length);
+        }
+    }
+    put(to, "\n");
+}
+
+static void put_found(text *to, const state *s) {
+    for (size_t i = 0; i < s->sizes.of[AT_PATHS]; i++) {
+        const enforce_found_row *row = s->found + i;
+        put(to, row->has_owner_height ? "found %u %llu " : "found %u - ", row->kind, (unsigned long long)row->owner_height);
+        put_claim(to, s, s->claims + i);
+    }
+    put(to, "others");
+    for (size_t i = 0; i < s->sizes.of[AT_OTHERS]; i++) put(to, " %u", s->others[i]);
+    put(to, "\n");
+}
+
 static void put_spend(text *to, const state *s) {
-    put(to, "tx "), put_hex(to, s->bytes, s->answer.bytes), put(to, "\n");
-    for (size_t i = 0; i < s->rows; i++) {
+    put(to, "tx "), put_hex(to, s->bytes, s->sizes.of[AT_BYTES]), put(to, "\n");
+    for (size_t i = 0; i < s->sizes.of[AT_ROWS]; i++) {
         const enforce_signature_row *row = s->signatures + i;
         put(to, "sign %zu %zu ", row->input, row->item), put_hex(to, row->key, sizeof row->key);
         put(to, " "), put_hex(to, row->digest, sizeof row->digest), put(to, "\n");
@@ -409,20 +527,22 @@ static void tell(work *w, const request *r, state *s, state *other) {
         return;
     }
     if (w->refuses) refuse_each(w, r, other);
-    call(r, s, PATHS, most_rows(r), BYTES);
+    call(r, s, most(r));
     if (s->status != ENFORCE_DONE) {
         put_status(to, s);
     } else if (is_named(r, "claim")) {
         put(to, "due %llu %u\n", (unsigned long long)s->due.height, s->due.sequence);
     } else if (is_named(r, "spend")) {
         put_spend(to, s);
+    } else if (is_named(r, "revoked")) {
+        put_found(to, s);
     } else if (is_named(r, "list")) {
-        put(to, "paths %zu\n", s->answer.paths);
-        for (size_t k = 0; k < s->answer.paths; k++) put_path(to, s, k);
+        put(to, "paths %zu\n", s->sizes.of[AT_PATHS]);
+        for (size_t k = 0; k < s->sizes.of[AT_PATHS]; k++) put_path(to, s, k);
     } else if (is_named(r, "text")) {
-        put_text(to, s->bytes, s->answer.bytes);
+        put_text(to, s->bytes, s->sizes.of[AT_BYTES]);
     } else {
-        put_hex(to, s->bytes, s->answer.bytes), put(to, "\n");
+        put_hex(to, s->bytes, s->sizes.of[AT_BYTES]), put(to, "\n");
     }
     if (w->refuses) return;
     call_again(w, r, s, other);
@@ -441,6 +561,12 @@ static void read_request(request *r, char *line) {
         read_each(r, claims, ";", read_claim);
         read_each(r, outputs, ";", read_output);
         read_each(r, preimages, ",", read_preimage);
+    } else if (is_named(r, "revoked")) {
+        char *commitment = word(&rest, " "), *htlcs = word(&rest, " ");
+        r->length = read_hex(word(&rest, " "), r->bytes, sizeof r->bytes);
+        r->confirmed_height = (uint32_t)strtoul(word(&rest, " "), NULL, 10);
+        read_commitment(r, commitment);
+        read_each(r, htlcs, ";", read_htlc);
     } else {
         r->length = read_hex(word(&rest, " "), r->bytes, sizeof r->bytes);
     }

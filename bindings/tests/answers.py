@@ -71,7 +71,27 @@ def due_line(text: str) -> str:
     return f"due {found.height} {found.sequence}"
 
 
+def htlc(text: str) -> enforce.Htlc:
+    direction, expiry, payment_hash = text.split("/")
+    return enforce.Htlc(int(direction), int(expiry), data(payment_hash))
+
+
+def claim_text(it: enforce.Claim) -> str:
+    slots = ",".join(f"s={slot.key.hex()}" if isinstance(slot, enforce.Signature) else f"p={slot.hash.hex()}" if isinstance(slot, enforce.Preimage) else f"e={slot.item.hex() or '-'}" for slot in it.slots)
+    return f"{it.script.hex() or '-'}/{it.program.hex() or '-'}/{it.txid.hex()}/{it.index}/{it.value}/{it.path}/{slots}"
+
+
+def revoked(commitment: str, htlcs: str, tx: str, height: str) -> str:
+    channel_type, delay, *keys = commitment.split("/")
+    given = enforce.Commitment(int(channel_type), int(delay), *map(data, keys), tuple(map(htlc, parts(htlcs, ";"))))
+    found = enforce.revoked(given, data(tx), int(height))
+    lines = [f"found {it.kind} {or_dash(it.owner_height)} {claim_text(it.claim)}" for it in found.claims]
+    return "\n".join([*lines, " ".join(["others", *map(str, found.others)])])
+
+
 def answer(name: str, *words: str) -> str:
+    if name == "revoked":
+        return revoked(*words)
     if name == "claim":
         return due_line(*words)
     if name == "spend":

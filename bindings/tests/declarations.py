@@ -136,7 +136,7 @@ def c_type(kind, structs):
 def header(told):
     names = [name for name, _, _ in told.structs]
     lines = [
-        f"/* enforce.h: the ways through a script, the scripts of BOLT 3, and the unsigned spend of claims, proved, for programs in C. {NOTE}",
+        f"/* enforce.h: the ways through a script, the scripts of BOLT 3, the claims on a revoked commitment, and the unsigned spend of claims, proved, for programs in C. {NOTE}",
         "",
         "     uint8_t script[] = {0x63, 0x51, 0x67, 0x52, 0x68}, bytes[64]; // IF 1 ELSE 2 ENDIF",
         "     enforce_path_row paths[64] = {0}; enforce_fact_row facts[64] = {0}; enforce_answer answer = {0};",

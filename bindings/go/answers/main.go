@@ -140,6 +140,55 @@ func spend(words []string) (string, error) {
 	return text, err
 }
 
+func commitment(text, htlcs string) *enforce.Commitment {
+	p := strings.Split(text, "/")
+	found := &enforce.Commitment{ChannelType: enforce.ChannelType(number(p[0])), DelayBlocks: uint16(number(p[1])), Revocation: key(p[2]), Delayed: key(p[3]), LocalHtlc: key(p[4]), RemoteHtlc: key(p[5]), Remote: key(p[6])}
+	for _, it := range parts(htlcs, ";") {
+		h := strings.Split(it, "/")
+		found.Htlcs = append(found.Htlcs, enforce.Htlc{Direction: enforce.Direction(number(h[0])), ExpiryHeight: uint32(number(h[1])), Hash: hash(h[2])})
+	}
+	return found
+}
+
+func orDash(data []byte) string {
+	if len(data) == 0 {
+		return "-"
+	}
+	return hex.EncodeToString(data)
+}
+
+func claimText(claim *enforce.Claim) string {
+	var slots []string
+	for _, it := range claim.Slots {
+		switch {
+		case it.Signature != nil:
+			slots = append(slots, fmt.Sprintf("s=%x", *it.Signature))
+		case it.Preimage != nil:
+			slots = append(slots, fmt.Sprintf("p=%x", *it.Preimage))
+		default:
+			slots = append(slots, "e="+orDash(it.Exact))
+		}
+	}
+	return fmt.Sprintf("%s/%s/%x/%d/%d/%d/%s", orDash(claim.Script), orDash(claim.Program), claim.Txid, claim.Index, claim.Value, claim.Path, strings.Join(slots, ","))
+}
+
+func revoked(words []string) (string, error) {
+	found, err := enforce.Revoked(commitment(words[0], words[1]), data(words[2]), uint32(number(words[3])))
+	text := ""
+	for i := range found.Claims {
+		it, height := &found.Claims[i], "-"
+		if it.OwnerHeight != nil {
+			height = fmt.Sprint(*it.OwnerHeight)
+		}
+		text += fmt.Sprintf("found %d %s %s\n", it.Kind, height, claimText(&it.Claim))
+	}
+	text += "others"
+	for _, it := range found.Others {
+		text += fmt.Sprintf(" %d", it)
+	}
+	return text + "\n", err
+}
+
 func answer(words []string) (string, error) {
 	switch words[0] {
 	case "list":
@@ -154,6 +203,8 @@ func answer(words []string) (string, error) {
 		return fmt.Sprintf("due %d %d\n", due.Height, due.Sequence), err
 	case "spend":
 		return spend(words[1:])
+	case "revoked":
+		return revoked(words[1:])
 	}
 	form := enforce.Form{Kind: uint32(number(words[1])), Key: key(words[2]), Other: key(words[3]), Local: key(words[4]), PaymentHash: hash(words[5]), ExpiryHeight: uint32(number(words[6])), DelayBlocks: uint16(number(words[7]))}
 	script, err := form.Script()

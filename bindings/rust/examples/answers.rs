@@ -1,5 +1,5 @@
 //! Makes the calls that standard input names, a line each, and prints what each answers, as `bindings/tests/answers.c` does.
-use enforce::{Claim, Fact, Form, KeySource, Output, Path, Refused, Slot, Stated};
+use enforce::{ChannelType, Claim, Commitment, Direction, Fact, Form, FoundClaim, Htlc, KeySource, Output, OutputKind, Path, Refused, Slot, Stated};
 use std::io::{self, BufRead};
 
 fn hex(bytes: &[u8]) -> String {
@@ -106,6 +106,72 @@ fn spend(claims: &str, outputs: &str, preimages: &str) -> Result<String, Refused
     Ok(format!("tx {}\n", hex(&found.tx)) + &lines.collect::<String>())
 }
 
+fn htlc(text: &str) -> Option<Htlc> {
+    let parts: Vec<&str> = text.split('/').collect();
+    let direction = match parts[0] {
+        "1" => Direction::Offered,
+        "2" => Direction::Received,
+        _ => return None,
+    };
+    Some(Htlc { direction, expiry_height: parts[1].parse().expect("a height"), hash: array(parts[2]) })
+}
+
+/// The commitment that words name; the refusal of a kind that no value of these types has.
+fn commitment(text: &str, htlcs: &str) -> Result<Commitment, String> {
+    let parts: Vec<&str> = text.split('/').collect();
+    let channel_type = match parts[0] {
+        "1" => ChannelType::StaticRemoteKey,
+        "2" => ChannelType::Anchors,
+        _ => return Err("refused NoSuchChannelType\n".to_owned()),
+    };
+    let keys: Vec<[u8; 33]> = parts[2..].iter().map(|it| array(it)).collect();
+    let read = each(htlcs, ';', htlc);
+    if let Some(at) = read.iter().position(Option::is_none) {
+        return Err(format!("refused NoSuchDirection {at}\n"));
+    }
+    Ok(Commitment {
+        channel_type,
+        delay_blocks: parts[1].parse().expect("a delay"),
+        revocation: keys[0],
+        delayed: keys[1],
+        local_htlc: keys[2],
+        remote_htlc: keys[3],
+        remote: keys[4],
+        htlcs: read.into_iter().flatten().collect(),
+    })
+}
+
+fn dash(bytes: &[u8]) -> String {
+    if bytes.is_empty() { "-".to_owned() } else { hex(bytes) }
+}
+
+fn found(it: &FoundClaim) -> String {
+    let kind = match it.kind {
+        OutputKind::ToLocal => 1,
+        OutputKind::ToRemote => 2,
+        OutputKind::Offered => 3,
+        OutputKind::Received => 4,
+    };
+    let slots = it.claim.slots.iter().map(|slot| match slot {
+        Slot::Signature(key) => format!("s={}", hex(key)),
+        Slot::Preimage(hash) => format!("p={}", hex(hash)),
+        Slot::Exact(item) => format!("e={}", dash(item)),
+    });
+    let Claim { script, program, txid, index, value, path, .. } = &it.claim;
+    let slots = slots.collect::<Vec<_>>().join(",");
+    format!("found {kind} {} {}/{}/{}/{index}/{value}/{path}/{slots}\n", or_dash(it.owner_height), dash(script), dash(program), hex(txid))
+}
+
+fn revoked(words: &[&str]) -> Result<String, Refused> {
+    let given = match commitment(words[0], words[1]) {
+        Ok(given) => given,
+        Err(told) => return Ok(told),
+    };
+    let all = enforce::revoked(&given, &bytes(words[2]), words[3].parse().expect("a height"))?;
+    let others: String = all.others.iter().map(|it| format!(" {it}")).collect();
+    Ok(all.claims.iter().map(found).collect::<String>() + &format!("others{others}\n"))
+}
+
 fn answer(line: &str) -> Result<String, Refused> {
     let words: Vec<&str> = line.split(' ').collect();
     match words[0] {
@@ -117,6 +183,7 @@ fn answer(line: &str) -> Result<String, Refused> {
         "program" => Ok(hex(&enforce::program(&bytes(words[1]))) + "\n"),
         "claim" => claim(words[1]).accept().map(|due| format!("due {} {}\n", due.height, due.sequence)),
         "spend" => spend(words[1], words[2], words[3]),
+        "revoked" => revoked(&words[1..]),
         _ => match form(&words[1..]) {
             Some(form) => Ok(hex(&form.script()?) + "\n"),
             // no value of `Form` has another kind

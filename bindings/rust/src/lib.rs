@@ -49,7 +49,7 @@ pub enum Refused {
     MeasuredSignature,
     /// No preimage is given for the hash of a slot.
     NoPreimage,
-    /// There is no claim.
+    /// There is no claim, or a transaction has no input.
     NoInputs,
     NoWitness,
     ValueTooLarge,
@@ -57,6 +57,16 @@ pub enum Refused {
     OverLimit,
     /// The bytes of a slot are more than 520.
     ItemTooLong,
+    /// The bytes of a transaction end within a field.
+    TruncatedTransaction,
+    /// A compactSize of a transaction is not minimal.
+    LongCount,
+    /// There are bytes after the lock time of a transaction.
+    Trailing,
+    /// The key of a commitment, in the order of the fields, does not have the form of one.
+    NotACommitmentKey(usize),
+    /// The expiry of the HTLC at this index is 500,000,000 or more, which is a time and not a height.
+    ExpiryTooLarge(usize),
     /// A status that these declarations do not have.
     Unknown(u32),
 }
@@ -67,6 +77,8 @@ impl fmt::Display for Refused {
             Refused::BadOpcode(at) => write!(f, "BadOpcode {at}"),
             Refused::Truncated(at) => write!(f, "Truncated {at}"),
             Refused::Undecided(at) => write!(f, "Undecided {at}"),
+            Refused::NotACommitmentKey(at) => write!(f, "NotACommitmentKey {at}"),
+            Refused::ExpiryTooLarge(at) => write!(f, "ExpiryTooLarge {at}"),
             Refused::Unknown(status) => write!(f, "Unknown {status:#x}"),
             other => write!(f, "{other:?}"),
         }
@@ -102,6 +114,11 @@ fn refused(status: u32, number: usize) -> Refused {
         raw::VALUE_TOO_LARGE => Refused::ValueTooLarge,
         raw::OVER_LIMIT => Refused::OverLimit,
         raw::ITEM_TOO_LONG => Refused::ItemTooLong,
+        raw::TRUNCATED_TRANSACTION => Refused::TruncatedTransaction,
+        raw::LONG_COUNT => Refused::LongCount,
+        raw::TRAILING => Refused::Trailing,
+        raw::NOT_A_COMMITMENT_KEY => Refused::NotACommitmentKey(number),
+        raw::EXPIRY_TOO_LARGE => Refused::ExpiryTooLarge(number),
         other => Refused::Unknown(other),
     }
 }
@@ -487,6 +504,180 @@ pub fn unsigned_spend(claims: &[Claim], outputs: &[Output], preimages: &[[u8; 32
                 tx.resize(answer.bytes, 0);
                 signatures.resize(answer.signatures, blank);
             }
+            other => return Err(refused(other, answer.number)),
+        }
+    }
+}
+
+/// The type of a channel (BOLT 9).
+#[derive(Clone, Copy, Debug, PartialEq, Eq)]
+pub enum ChannelType {
+    /// `option_static_remotekey`, without anchors.
+    StaticRemoteKey,
+    Anchors,
+}
+
+/// Whether the owner of a commitment offered an HTLC or received it.
+#[derive(Clone, Copy, Debug, PartialEq, Eq)]
+pub enum Direction {
+    Offered,
+    Received,
+}
+
+/// An HTLC of a commitment.
+#[derive(Clone, Copy, Debug, PartialEq, Eq)]
+pub struct Htlc {
+    pub direction: Direction,
+    /// cltv_expiry, below 500,000,000.
+    pub expiry_height: u32,
+    /// SHA-256 of the payment preimage.
+    pub hash: [u8; 32],
+}
+
+/// A commitment, by what its scripts are made of: the keys at its point (BOLT 3, "Key Derivation"), as its owner names them.
+#[derive(Clone, Debug, PartialEq, Eq)]
+pub struct Commitment {
+    pub channel_type: ChannelType,
+    /// to_self_delay.
+    pub delay_blocks: u16,
+    pub revocation: [u8; 33],
+    pub delayed: [u8; 33],
+    pub local_htlc: [u8; 33],
+    pub remote_htlc: [u8; 33],
+    pub remote: [u8; 33],
+    /// In any order.
+    pub htlcs: Vec<Htlc>,
+}
+
+/// An output of a commitment.
+#[derive(Clone, Copy, Debug, PartialEq, Eq)]
+pub enum OutputKind {
+    /// To the owner, after the delay. The output of an HTLC transaction has the same script.
+    ToLocal,
+    ToRemote,
+    Offered,
+    Received,
+}
+
+/// A claim on an output of a transaction.
+#[derive(Clone, Debug, PartialEq, Eq)]
+pub struct FoundClaim {
+    pub claim: Claim,
+    pub kind: OutputKind,
+    /// The first block in which the commitment's owner can take the output, if it can.
+    pub owner_height: Option<u64>,
+}
+
+/// What was found in a transaction.
+#[derive(Clone, Debug, PartialEq, Eq)]
+pub struct Found {
+    /// In the order of the outputs.
+    pub claims: Vec<FoundClaim>,
+    /// The indices of the other outputs.
+    pub others: Vec<u32>,
+}
+
+/// The rows of what is found, with room for them.
+#[derive(Default)]
+struct Lists {
+    claims: Vec<raw::ClaimRow>,
+    found: Vec<raw::FoundRow>,
+    slots: Vec<raw::SlotRow>,
+    others: Vec<u32>,
+    bytes: Vec<u8>,
+}
+
+impl Lists {
+    fn make_room(&mut self, claims: usize, slots: usize, others: usize, bytes: usize) {
+        let claim =
+            raw::ClaimRow { txid: [0; 32], index: 0, value: 0, script_at: 0, script_length: 0, program_at: 0, program_length: 0, path: 0, first_slot: 0, slots: 0 };
+        self.claims.resize(claims, claim);
+        self.found.resize(claims, raw::FoundRow { kind: 0, has_owner_height: false, owner_height: 0 });
+        self.slots.resize(slots, raw::SlotRow { kind: 0, key: [0; 33], hash: [0; 32], bytes_at: 0, bytes_length: 0 });
+        self.others.resize(others, 0);
+        self.bytes.resize(bytes, 0);
+    }
+
+    fn part(&self, at: usize, length: usize) -> Vec<u8> {
+        self.bytes[at..at + length].to_vec()
+    }
+
+    fn slot(&self, row: &raw::SlotRow) -> Slot {
+        match row.kind {
+            raw::SLOT_SIGNATURE => Slot::Signature(row.key),
+            raw::SLOT_PREIMAGE => Slot::Preimage(row.hash),
+            _ => Slot::Exact(self.part(row.bytes_at, row.bytes_length)),
+        }
+    }
+
+    fn claim(&self, row: &raw::ClaimRow) -> Claim {
+        Claim {
+            txid: row.txid,
+            index: row.index,
+            value: row.value,
+            script: self.part(row.script_at, row.script_length),
+            program: self.part(row.program_at, row.program_length),
+            path: row.path,
+            slots: self.slots[row.first_slot..row.first_slot + row.slots].iter().map(|it| self.slot(it)).collect(),
+        }
+    }
+
+    fn found(&self, answer: &raw::FoundAnswer) -> Found {
+        let claims = self.claims[..answer.claims].iter().zip(&self.found).map(|(claim, row)| FoundClaim {
+            claim: self.claim(claim),
+            kind: match row.kind {
+                raw::OUTPUT_TO_LOCAL => OutputKind::ToLocal,
+                raw::OUTPUT_TO_REMOTE => OutputKind::ToRemote,
+                raw::OUTPUT_OFFERED => OutputKind::Offered,
+                _ => OutputKind::Received,
+            },
+            owner_height: row.has_owner_height.then_some(row.owner_height),
+        });
+        Found { claims: claims.collect(), others: self.others[..answer.others].to_vec() }
+    }
+}
+
+impl Commitment {
+    fn raw(&self) -> (raw::Commitment, Vec<raw::HtlcRow>) {
+        let channel_type = match self.channel_type {
+            ChannelType::StaticRemoteKey => raw::CHANNEL_STATIC_REMOTE_KEY,
+            ChannelType::Anchors => raw::CHANNEL_ANCHORS,
+        };
+        let htlcs = self.htlcs.iter().map(|it| raw::HtlcRow {
+            direction: match it.direction {
+                Direction::Offered => raw::DIRECTION_OFFERED,
+                Direction::Received => raw::DIRECTION_RECEIVED,
+            },
+            expiry_height: it.expiry_height,
+            hash: it.hash,
+        });
+        let Commitment { delay_blocks, revocation, delayed, local_htlc, remote_htlc, remote, .. } = *self;
+        (raw::Commitment { channel_type, delay_blocks, revocation, delayed, local_htlc, remote_htlc, remote }, htlcs.collect())
+    }
+}
+
+/// All that a revoked commitment lets its owner's peer claim of a transaction, with witnesses or without: the commitment, one of its HTLC transactions, or any other. A block of
+/// `confirmed_height` has the transaction.
+///
+/// Proved (`enforce_revoked`): each output is claimed, or its index is among the others; each claim is accepted, and is on the output that it says. A refusal is the first that holds: of a
+/// key, of an HTLC, of the transaction's bytes.
+pub fn revoked(commitment: &Commitment, tx: &[u8], confirmed_height: u32) -> Result<Found, Refused> {
+    let (given, htlcs) = commitment.raw();
+    let mut lists = Lists::default();
+    lists.make_room(16, 32, 16, 4096);
+    loop {
+        let mut answer = raw::FoundAnswer { claims: 0, slots: 0, others: 0, bytes: 0, number: 0 };
+        let Lists { claims, found, slots, others, bytes } = &mut lists;
+        // SAFETY: each pointer is of a value or of a slice that lives over the call, with that slice's length.
+        let status = unsafe {
+            raw::enforce_revoked(
+                &given, htlcs.as_ptr(), htlcs.len(), tx.as_ptr(), tx.len(), confirmed_height, claims.as_mut_ptr(), claims.len(), found.as_mut_ptr(), found.len(),
+                slots.as_mut_ptr(), slots.len(), others.as_mut_ptr(), others.len(), bytes.as_mut_ptr(), bytes.len(), &mut answer,
+            )
+        };
+        match status {
+            raw::DONE => return Ok(lists.found(&answer)),
+            raw::TOO_SMALL => lists.make_room(answer.claims, answer.slots, answer.others, answer.bytes),
             other => return Err(refused(other, answer.number)),
         }
     }

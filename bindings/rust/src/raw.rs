@@ -8,6 +8,23 @@ pub const SLOT_PREIMAGE: u32 = 0x2;
 /// The slot is the `bytes_length` bytes from `bytes_at` on, at most 520.
 pub const SLOT_EXACT: u32 = 0x3;
 
+/// A channel without anchors: `option_static_remotekey` (BOLT 9).
+pub const CHANNEL_STATIC_REMOTE_KEY: u32 = 0x1;
+/// A channel with `option_anchors` (BOLT 9).
+pub const CHANNEL_ANCHORS: u32 = 0x2;
+/// The owner of the commitment offered the HTLC.
+pub const DIRECTION_OFFERED: u32 = 0x1;
+/// The owner of the commitment received the HTLC.
+pub const DIRECTION_RECEIVED: u32 = 0x2;
+/// To the owner of the commitment, after the delay. The output of an HTLC transaction has the same script.
+pub const OUTPUT_TO_LOCAL: u32 = 0x1;
+/// To the owner's peer.
+pub const OUTPUT_TO_REMOTE: u32 = 0x2;
+/// An HTLC that the owner offered.
+pub const OUTPUT_OFFERED: u32 = 0x3;
+/// An HTLC that the owner received.
+pub const OUTPUT_RECEIVED: u32 = 0x4;
+
 /// A funding output: both keys, `key` and `other`, in whichever order.
 pub const FORM_FUNDING: u32 = 0x1;
 /// A to_local output: `key` revokes, or `other` after `delay_blocks`.
@@ -94,13 +111,21 @@ pub const OUTPUTS_EXCEED: u32 = 0x503;
 pub const MEASURED_SIGNATURE: u32 = 0x504;
 /// No preimage is given for the hash of a slot.
 pub const NO_PREIMAGE: u32 = 0x505;
-/// There is no claim, so that the transaction has no input.
+/// The bytes of the transaction end within a field.
+pub const TRUNCATED_TRANSACTION: u32 = 0x601;
+/// A compactSize of the transaction is not minimal.
+pub const LONG_COUNT: u32 = 0x602;
+/// The marker of the transaction is not 0, or its flag is not 1 (BIP 144). No call here tells it: such bytes are read without witnesses.
+pub const BAD_MARKER: u32 = 0x603;
+/// There is no claim, or the transaction that is given has no input.
 pub const NO_INPUTS: u32 = 0x604;
 /// No witness of the transaction has an item.
 pub const NO_WITNESS: u32 = 0x605;
 /// The value of an output is above 21,000,000 bitcoins.
 pub const VALUE_TOO_LARGE: u32 = 0x606;
-/// There are more than 4,000 claims or outputs, or the script of an output has more than 10,000 bytes.
+/// There are bytes after the lock time of the transaction.
+pub const TRAILING: u32 = 0x607;
+/// There are more than 4,000 claims or outputs, or the script of an output has more than 10,000 bytes; of a transaction that is given, a count is above its limit, or an input has a script.
 pub const OVER_LIMIT: u32 = 0x608;
 /// A row refers to bytes or to rows that are not there.
 pub const OUT_OF_RANGE: u32 = 0x701;
@@ -108,9 +133,17 @@ pub const OUT_OF_RANGE: u32 = 0x701;
 pub const NO_SUCH_SLOT: u32 = 0x702;
 /// The bytes of a slot are more than 520.
 pub const ITEM_TOO_LONG: u32 = 0x703;
+/// There is no type of channels of this kind.
+pub const NO_SUCH_CHANNEL_TYPE: u32 = 0x801;
+/// Bytes that are to be a key of the commitment do not have the form of one; the answer has which of its fields it is, from 0.
+pub const NOT_A_COMMITMENT_KEY: u32 = 0x802;
+/// There is no direction of this kind; the answer has the index of the HTLC.
+pub const NO_SUCH_DIRECTION: u32 = 0x803;
+/// The expiry of an HTLC is 500,000,000 or more, which is a time and not a height; the answer has the index of the HTLC.
+pub const EXPIRY_TOO_LARGE: u32 = 0x804;
 
 /// What declarations mean together: it is raised whenever one changes its meaning.
-pub const ABI: u32 = 0x1;
+pub const ABI: u32 = 0x2;
 
 /// How a claim fills a slot of its path. A field that the kind does not name is not read.
 #[repr(C)]
@@ -191,6 +224,95 @@ const _: () = {
     assert!(size_of::<Due>() == 16);
     assert!(core::mem::offset_of!(Due, height) == 0);
     assert!(core::mem::offset_of!(Due, sequence) == 8);
+};
+
+/// A commitment, by what its scripts are made of: the keys at its point (BOLT 3, "Key Derivation"), as its owner names them.
+#[repr(C)]
+#[derive(Clone, Copy, Debug, PartialEq, Eq)]
+pub struct Commitment {
+    /// One of the types of channels.
+    pub channel_type: u32,
+    /// to_self_delay, of to_local and of the outputs of HTLC transactions.
+    pub delay_blocks: u16,
+    /// revocationpubkey, of the owner's peer.
+    pub revocation: [u8; 33],
+    /// local_delayedpubkey, of the owner.
+    pub delayed: [u8; 33],
+    /// local_htlcpubkey, of the owner.
+    pub local_htlc: [u8; 33],
+    /// remote_htlcpubkey, of the owner's peer.
+    pub remote_htlc: [u8; 33],
+    /// remotepubkey, of the owner's peer: its payment basepoint.
+    pub remote: [u8; 33],
+}
+
+const _: () = {
+    assert!(size_of::<Commitment>() == 172);
+    assert!(core::mem::offset_of!(Commitment, channel_type) == 0);
+    assert!(core::mem::offset_of!(Commitment, delay_blocks) == 4);
+    assert!(core::mem::offset_of!(Commitment, revocation) == 6);
+    assert!(core::mem::offset_of!(Commitment, delayed) == 39);
+    assert!(core::mem::offset_of!(Commitment, local_htlc) == 72);
+    assert!(core::mem::offset_of!(Commitment, remote_htlc) == 105);
+    assert!(core::mem::offset_of!(Commitment, remote) == 138);
+};
+
+/// An HTLC of a commitment, by what its script is made of.
+#[repr(C)]
+#[derive(Clone, Copy, Debug, PartialEq, Eq)]
+pub struct HtlcRow {
+    /// One of the directions.
+    pub direction: u32,
+    /// cltv_expiry, below 500,000,000.
+    pub expiry_height: u32,
+    /// SHA-256 of the payment preimage.
+    pub hash: [u8; 32],
+}
+
+const _: () = {
+    assert!(size_of::<HtlcRow>() == 40);
+    assert!(core::mem::offset_of!(HtlcRow, direction) == 0);
+    assert!(core::mem::offset_of!(HtlcRow, expiry_height) == 4);
+    assert!(core::mem::offset_of!(HtlcRow, hash) == 8);
+};
+
+/// Of a claim, which output of the commitment it is on, and until when it is alone.
+#[repr(C)]
+#[derive(Clone, Copy, Debug, PartialEq, Eq)]
+pub struct FoundRow {
+    /// One of the kinds of outputs.
+    pub kind: u32,
+    /// Whether the owner of the commitment can take the output at all.
+    pub has_owner_height: bool,
+    /// The least height of a block in which the owner can. A transaction that takes the output is safe in all blocks below (BOLT 5).
+    pub owner_height: u64,
+}
+
+const _: () = {
+    assert!(size_of::<FoundRow>() == 16);
+    assert!(core::mem::offset_of!(FoundRow, kind) == 0);
+    assert!(core::mem::offset_of!(FoundRow, has_owner_height) == 4);
+    assert!(core::mem::offset_of!(FoundRow, owner_height) == 8);
+};
+
+/// What a call that finds claims tells beside its status. Each call writes all of it: the rows and bytes that there are, whether or not they were written, and the number that a refusal carries. There are as many rows of outputs as of claims.
+#[repr(C)]
+#[derive(Clone, Copy, Debug, PartialEq, Eq)]
+pub struct FoundAnswer {
+    pub claims: usize,
+    pub slots: usize,
+    pub others: usize,
+    pub bytes: usize,
+    pub number: usize,
+}
+
+const _: () = {
+    assert!(size_of::<FoundAnswer>() == 40);
+    assert!(core::mem::offset_of!(FoundAnswer, claims) == 0);
+    assert!(core::mem::offset_of!(FoundAnswer, slots) == 8);
+    assert!(core::mem::offset_of!(FoundAnswer, others) == 16);
+    assert!(core::mem::offset_of!(FoundAnswer, bytes) == 24);
+    assert!(core::mem::offset_of!(FoundAnswer, number) == 32);
 };
 
 /// A form of BOLT 3 with what its script has. A field that the kind does not name is not read.
@@ -405,6 +527,10 @@ unsafe extern "C" {
     ///
     /// Proved: `AnswersSpend (record { claims = claims.now; slots = slots.now; outputs = outputs.now; bytes = bytes.now }) (preimages_in preimages.now) (record { bytes = tx.old; signatures = signatures.old }) (record { status = result; answer = answer.new; lists = record { bytes = tx.new; signatures = signatures.new } }) (crates/enforce_c/specs/Spent.antt)`
     pub fn enforce_unsigned_spend(claims: *const ClaimRow, claims_length: usize, slots: *const SlotRow, slots_length: usize, outputs: *const OutputRow, outputs_length: usize, preimages: *const PreimageRow, preimages_length: usize, bytes: *const u8, bytes_length: usize, tx: *mut u8, tx_length: usize, signatures: *mut SignatureRow, signatures_length: usize, answer: *mut SpendAnswer) -> u32;
+    /// Finds all that a revoked commitment lets its owner's peer claim of a transaction: the commitment, one of its HTLC transactions, or any other, with witnesses or without. Writes a claim on each output whose script is one of the commitment's, in the order of the outputs, with what `enforce_unsigned_spend` takes: rows of slots, and the bytes that both refer to. Of each claim it writes which output it is on, and the first block in which the owner can take that, where a block of `confirmed_height` has the transaction. Of each other output it writes the index. The statuses of refusals are those of family 8 in this order: the type of the channel, each key, each HTLC; then those of family 6, of the first fault of the transaction; and `TOO_SMALL` if one of the five buffers is too short.
+    ///
+    /// Proved: `AnswersFound (record { commitment = commitment.now; htlcs = htlcs.now; tx = tx.now; confirmed_height = confirmed_height }) (record { claims = claims.old; found = found_outputs.old; slots = slots.old; others = others.old; bytes = bytes.old }) (record { status = result; answer = answer.new; lists = record { claims = claims.new; found = found_outputs.new; slots = slots.new; others = others.new; bytes = bytes.new } }) (crates/enforce_c/specs/Found.antt)`
+    pub fn enforce_revoked(commitment: *const Commitment, htlcs: *const HtlcRow, htlcs_length: usize, tx: *const u8, tx_length: usize, confirmed_height: u32, claims: *mut ClaimRow, claims_length: usize, found_outputs: *mut FoundRow, found_outputs_length: usize, slots: *mut SlotRow, slots_length: usize, others: *mut u32, others_length: usize, bytes: *mut u8, bytes_length: usize, answer: *mut FoundAnswer) -> u32;
 }
 
 /// The word for a status.
@@ -435,13 +561,21 @@ pub fn name(status: u32) -> &'static str {
         OUTPUTS_EXCEED => "OutputsExceed",
         MEASURED_SIGNATURE => "MeasuredSignature",
         NO_PREIMAGE => "NoPreimage",
+        TRUNCATED_TRANSACTION => "TruncatedTransaction",
+        LONG_COUNT => "LongCount",
+        BAD_MARKER => "BadMarker",
         NO_INPUTS => "NoInputs",
         NO_WITNESS => "NoWitness",
         VALUE_TOO_LARGE => "ValueTooLarge",
+        TRAILING => "Trailing",
         OVER_LIMIT => "OverLimit",
         OUT_OF_RANGE => "OutOfRange",
         NO_SUCH_SLOT => "NoSuchSlot",
         ITEM_TOO_LONG => "ItemTooLong",
+        NO_SUCH_CHANNEL_TYPE => "NoSuchChannelType",
+        NOT_A_COMMITMENT_KEY => "NotACommitmentKey",
+        NO_SUCH_DIRECTION => "NoSuchDirection",
+        EXPIRY_TOO_LARGE => "ExpiryTooLarge",
         _ => "Unknown",
     }
 }

@@ -1,5 +1,6 @@
 pub mod Answering
 mod StatusExamples
+mod FoundExamples
 mod SpendExamples
 mod RowExamples
 mod RangeExamples
@@ -8,3 +9,8 @@ pub mod Slots
 pub mod Spends
 pub mod Spelled
 pub mod FormBytes
+pub mod Commitments
+pub mod Parts
+pub mod SlotRows
+pub mod ClaimRows
+pub mod FoundClaims

@@ -11,7 +11,9 @@ use Rattle.facts.specs.declared.symbols.FactOver.TheVariants.{Truth}
 use Rattle.tx.specs.declared.errors.FieldError.{FieldError}
 use Rattle.tx.specs.declared.errors.FieldError.TheVariants.{NoInputs, ValueTooLarge, OverLimit}
 use Rattle.tx.specs.declared.errors.EncodeError.TheVariants.{NoWitness}
-use Rattle.tx.specs.Refusals.{field_refusal_number, encode_refusal_number}
+use Rattle.tx.specs.declared.errors.DecodeError.{DecodeError}
+use Rattle.tx.specs.declared.errors.DecodeError.TheVariants as decode
+use Rattle.tx.specs.Refusals.{field_refusal_number, encode_refusal_number, decode_refusal_number}
 use Rattle.claim.specs.declared.errors.AcceptError.{AcceptError}
 use Rattle.claim.specs.declared.errors.AcceptError.TheVariants.{NoSuchPath, WrongArity, Unmet, Contradiction, WrongProgram, WrongShell}
 use Rattle.claim.specs.Refusals.{refusal_number as accept_error_number}
@@ -24,7 +26,7 @@ use Rattle.enforce_c.specs.declared.claim_rows.SlotRow.{SlotRow}
 use Rattle.enforce_c.specs.declared.spend_rows.OutputRow.{OutputRow}
 use Rattle.enforce_c.specs.declared.spend_rows.SignatureRow.{SignatureRow}
 use Rattle.enforce_c.specs.declared.statuses.Refusal.TheVariants.{OutOfRange, Field}
-use Rattle.enforce_c.specs.Statuses.{parse_status, check_status, accept_status, spend_status, field_status, encode_status}
+use Rattle.enforce_c.specs.Statuses.{parse_status, check_status, accept_status, spend_status, field_status, encode_status, decode_status}
 use Rattle.enforce_c.specs.Spent.{SpendLists, number_fault, output_of, outputs_of, AreClaimsOf, left_by_lists}
 
 -- ---- the numbers of rows
@@ -121,3 +123,9 @@ field_numbered = refl
 
 encode_numbered : encode_status NoWitness ≡ 6 * 256 + encode_refusal_number NoWitness
 encode_numbered = refl
+
+abbrev decode_faults : List DecodeError
+decode_faults = decode.Truncated ∷ decode.LongCount ∷ decode.BadMarker ∷ decode.NoInputs ∷ decode.NoWitness ∷ decode.ValueTooLarge ∷ decode.Trailing ∷ decode.OverLimit ∷ []
+
+decode_numbered : map decode_status decode_faults ≡ map (λ e. 6 * 256 + decode_refusal_number e) decode_faults
+decode_numbered = refl

@@ -5,10 +5,11 @@ use Rattle.paths.specs.declared.errors.CheckError.TheVariants.{NoMemory as ListM
 use Rattle.facts.specs.declared.symbols.FactOver.TheVariants.{Truth}
 use Rattle.tx.specs.declared.errors.FieldError.TheVariants.{NoInputs, ValueTooLarge, OverLimit}
 use Rattle.tx.specs.declared.errors.EncodeError.TheVariants.{NoMemory as EncodeMemory, NoWitness}
+use Rattle.tx.specs.declared.errors.DecodeError.TheVariants as decode
 use Rattle.claim.specs.declared.errors.AcceptError.TheVariants.{NoMemory as AcceptMemory, NoSuchPath, WrongArity, Unmet, Contradiction, WrongProgram, WrongShell}
 use Rattle.filling.specs.declared.errors.SpendError.TheVariants.{NoMemory as SpendMemory, FixedTransaction, SameOutpoint, OutputsExceed, MeasuredSignature, NoPreimage}
-use Rattle.enforce_c.specs.declared.statuses.Refusal.TheVariants.{NoMemory, Parse, Check, NoSuchForm, NotAKey, NotAHeight, OutOfRange, NoSuchSlot, ItemTooLong, Accept, Field, Spend, Encode}
-use Rattle.enforce_c.specs.Statuses.{parse_status, check_status, accept_status, spend_status, field_status, encode_status, status_of, parse_number, check_number, number_of}
+use Rattle.enforce_c.specs.declared.statuses.Refusal.TheVariants.{NoMemory, Parse, Check, NoSuchForm, NotAKey, NotAHeight, OutOfRange, NoSuchSlot, ItemTooLong, Accept, Field, Spend, Encode, Decode, NoSuchChannelType, NotACommitmentKey, NoSuchDirection, ExpiryTooLarge}
+use Rattle.enforce_c.specs.Statuses.{parse_status, check_status, accept_status, spend_status, field_status, encode_status, decode_status, status_of, parse_number, check_number, number_of}
 
 parse_statuses : map parse_status (ParseMemory ∷ BadOpcode 7 ∷ Truncated 8 ∷ TooLong ∷ []) ≡ 1 ∷ 257 ∷ 258 ∷ 259 ∷ []
 parse_statuses = refl
@@ -28,6 +29,10 @@ field_statuses = refl
 encode_statuses : map encode_status (EncodeMemory ∷ NoWitness ∷ []) ≡ 1 ∷ 1541 ∷ []
 encode_statuses = refl
 
+decode_statuses : map decode_status (decode.NoMemory ∷ decode.Truncated ∷ decode.LongCount ∷ decode.BadMarker ∷ decode.NoInputs ∷ decode.NoWitness ∷ decode.ValueTooLarge ∷ decode.Trailing ∷ decode.OverLimit ∷ [])
+    ≡ 1 ∷ 1537 ∷ 1538 ∷ 1539 ∷ 1540 ∷ 1541 ∷ 1542 ∷ 1543 ∷ 1544 ∷ []
+decode_statuses = refl
+
 statuses : map status_of (NoMemory ∷ Parse (BadOpcode 7) ∷ Parse TooLong ∷ Check (Undecided 9) ∷ Check TooTall ∷ NoSuchForm ∷ NotAKey ∷ NotAHeight ∷ []) ≡ 1 ∷ 257 ∷ 259 ∷ 515 ∷ 517 ∷ 1025 ∷ 1026 ∷ 1027 ∷ []
 statuses = refl
 
@@ -46,3 +51,9 @@ numbers = refl
 
 more_numbers : map number_of (OutOfRange ∷ NoSuchSlot ∷ ItemTooLong ∷ Accept NoSuchPath ∷ Spend NoPreimage ∷ Field OverLimit ∷ Encode NoWitness ∷ []) ≡ 0 ∷ 0 ∷ 0 ∷ 0 ∷ 0 ∷ 0 ∷ 0 ∷ []
 more_numbers = refl
+
+commitment_statuses : map status_of (NoSuchChannelType ∷ NotACommitmentKey 3 ∷ NoSuchDirection 5 ∷ ExpiryTooLarge 7 ∷ Decode decode.Trailing ∷ Decode decode.NoMemory ∷ []) ≡ 2049 ∷ 2050 ∷ 2051 ∷ 2052 ∷ 1543 ∷ 1 ∷ []
+commitment_statuses = refl
+
+commitment_numbers : map number_of (NoSuchChannelType ∷ NotACommitmentKey 3 ∷ NotACommitmentKey 4 ∷ NoSuchDirection 5 ∷ NoSuchDirection 50 ∷ ExpiryTooLarge 7 ∷ ExpiryTooLarge 70 ∷ Decode decode.Trailing ∷ []) ≡ 0 ∷ 3 ∷ 4 ∷ 5 ∷ 50 ∷ 7 ∷ 70 ∷ 0 ∷ []
+commitment_numbers = refl

@@ -6,3 +6,6 @@ pub mod FormScripts
 pub mod Ranges
 pub mod Claimed
 pub mod Spent
+pub mod ClaimLists
+pub mod Commitments
+pub mod Found

@@ -8,12 +8,14 @@ use Rattle.tx.specs.declared.errors.FieldError.{FieldError}
 use Rattle.tx.specs.declared.errors.FieldError.TheVariants.{NoInputs, ValueTooLarge, OverLimit}
 use Rattle.tx.specs.declared.errors.EncodeError.{EncodeError}
 use Rattle.tx.specs.declared.errors.EncodeError.TheVariants.{NoMemory as EncodeMemory, NoWitness}
+use Rattle.tx.specs.declared.errors.DecodeError.{DecodeError}
+use Rattle.tx.specs.declared.errors.DecodeError.TheVariants as decode
 use Rattle.claim.specs.declared.errors.AcceptError.{AcceptError}
 use Rattle.claim.specs.declared.errors.AcceptError.TheVariants.{NoMemory as AcceptMemory, NoSuchPath, WrongArity, Unmet, Contradiction, WrongProgram, WrongShell}
 use Rattle.filling.specs.declared.errors.SpendError.{SpendError}
 use Rattle.filling.specs.declared.errors.SpendError.TheVariants.{NoMemory as SpendMemory, FixedTransaction, SameOutpoint, OutputsExceed, MeasuredSignature, NoPreimage}
 use Rattle.enforce_c.specs.declared.statuses.Refusal.{Refusal}
-use Rattle.enforce_c.specs.declared.statuses.Refusal.TheVariants.{NoMemory, Parse, Check, NoSuchForm, NotAKey, NotAHeight, OutOfRange, NoSuchSlot, ItemTooLong, Accept, Field, Spend, Encode}
+use Rattle.enforce_c.specs.declared.statuses.Refusal.TheVariants.{NoMemory, Parse, Check, NoSuchForm, NotAKey, NotAHeight, OutOfRange, NoSuchSlot, ItemTooLong, Accept, Field, Spend, Encode, Decode, NoSuchChannelType, NotACommitmentKey, NoSuchDirection, ExpiryTooLarge}
 
 -- of a script's bytes
 abbrev pub parse_status : ParseError → ℕ
@@ -60,6 +62,17 @@ abbrev pub encode_status : EncodeError → ℕ
 encode_status EncodeMemory = 1
 encode_status NoWitness = 1541
 
+abbrev pub decode_status : DecodeError → ℕ
+decode_status decode.NoMemory = 1
+decode_status decode.Truncated = 1537
+decode_status decode.LongCount = 1538
+decode_status decode.BadMarker = 1539
+decode_status decode.NoInputs = 1540
+decode_status decode.NoWitness = 1541
+decode_status decode.ValueTooLarge = 1542
+decode_status decode.Trailing = 1543
+decode_status decode.OverLimit = 1544
+
 abbrev pub status_of : Refusal → ℕ
 status_of NoMemory = 1
 status_of (Parse e) = parse_status e
@@ -74,6 +87,11 @@ status_of (Encode e) = encode_status e
 status_of OutOfRange = 1793
 status_of NoSuchSlot = 1794
 status_of ItemTooLong = 1795
+status_of (Decode e) = decode_status e
+status_of NoSuchChannelType = 2049
+status_of (NotACommitmentKey number) = 2050
+status_of (NoSuchDirection index) = 2051
+status_of (ExpiryTooLarge index) = 2052
 
 -- the number that a refusal carries
 abbrev pub parse_number : ParseError → ℕ
@@ -88,4 +106,7 @@ check_number e = 0
 abbrev pub number_of : Refusal → ℕ
 number_of (Parse e) = parse_number e
 number_of (Check e) = check_number e
+number_of (NotACommitmentKey number) = number
+number_of (NoSuchDirection index) = index
+number_of (ExpiryTooLarge index) = index
 number_of e = 0

@@ -5,9 +5,12 @@ ghost use Rattle.enforce_c.specs.Statuses.{status_of};
 ghost use Rattle.enforce_c.specs.Answers.{left_by_rows, left_by_bytes, bytes_answer, refused_with};
 ghost use Rattle.enforce_c.specs.Claimed.{due_of};
 ghost use Rattle.enforce_c.specs.Spent.{left_by_lists, spend_refused};
+ghost use Rattle.enforce_c.specs.Found.{left_by_found, found_refused};
 
 use crate::buffers::put;
-use crate::claim_rows::Due;
+use crate::claim_rows::{ClaimRow, Due, SlotRow};
+use crate::commitment_rows::{FoundAnswer, FoundRow};
+use crate::finding::Finding;
 use crate::rows::{Answer, FactRow, PathRow};
 use crate::spend_rows::{SignatureRow, SpendAnswer};
 use crate::spending::Spending;
@@ -128,6 +131,58 @@ pub(crate) fn refuse_spend(refusal: &Refusal, answer: &mut SpendAnswer) -> u32
     *answer = SpendAnswer {
         bytes: 0,
         signatures: 0,
+        number: refusal.number(),
+    };
+    refusal.status()
+}
+
+/// Writes what is found if there is room for it, and how much there is. Gives the status.
+pub(crate) fn write_found(
+    finding: &Finding,
+    claims: &mut [ClaimRow],
+    found: &mut [FoundRow],
+    slots: &mut [SlotRow],
+    others: &mut [u32],
+    bytes: &mut [u8],
+    answer: &mut FoundAnswer,
+) -> u32
+    ensures { left_by_found finding.now (record { claims = claims.old; found = found.old; slots = slots.old; others = others.old; bytes = bytes.old })
+        ≡ record { status = result; answer = answer.new; lists = record { claims = claims.new; found = found.new; slots = slots.new; others = others.new; bytes = bytes.new } } }
+{
+    *answer = FoundAnswer {
+        claims: finding.claims.len(),
+        slots: finding.slots.len(),
+        others: finding.others.len(),
+        bytes: finding.bytes.len(),
+        number: 0,
+    };
+    if finding.claims.len() <= claims.len()
+        && finding.found.len() <= found.len()
+        && finding.slots.len() <= slots.len()
+        && finding.others.len() <= others.len()
+        && finding.bytes.len() <= bytes.len()
+    {
+        put(claims, finding.claims.as_slice());
+        put(found, finding.found.as_slice());
+        put(slots, finding.slots.as_slice());
+        put(others, finding.others.as_slice());
+        put(bytes, finding.bytes.as_slice());
+        DONE
+    } else {
+        TOO_SMALL
+    }
+}
+
+/// Writes the answer of refused rows of a commitment, or of a refused transaction. Gives its status.
+pub(crate) fn refuse_found(refusal: &Refusal, answer: &mut FoundAnswer) -> u32
+    ensures status { result ≡ status_of refusal.now }
+    ensures answer { answer.new ≡ found_refused refusal.now }
+{
+    *answer = FoundAnswer {
+        claims: 0,
+        slots: 0,
+        others: 0,
+        bytes: 0,
         number: refusal.number(),
     };
     refusal.status()

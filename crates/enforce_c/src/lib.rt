@@ -1,4 +1,4 @@
-//! The ways through a script, the scripts of BOLT 3, and the unsigned spend of claims, for programs in C, as a static library.
+//! The ways through a script, the scripts of BOLT 3, the claims that a revoked commitment lets its owner's peer make, and their unsigned spend, for programs in C, as a static library.
 //!
 //! Each export writes only to what it is given by a pointer that is not const, keeps no pointer, and may be called
 //! from several threads at once. No export has a `requires`: whatever bytes and lengths a caller gives, it is
@@ -6,7 +6,7 @@
 //! A buffer that is too short is left as it was, and the [`Answer`] says how long it has to be.
 //!
 //! `paths` lists the ways through a script, and `script_words` has the text of a listing. `terms` defines the scripts of BOLT 3 and
-//! `forms` their ways; `sighash` has the program of a script. `claim` accepts claims, and `filling` makes their spend. Signatures are not among the arguments:
+//! `forms` their ways; `sighash` has the program of a script. `claim` accepts claims, `revoked` finds them, and `filling` makes their spend. Signatures are not among the arguments:
 //! an accepted claim can't fail with tokens, or with valid signatures where none is measured. No crate depends on this one.
 //! `docs/BINDINGS.md` has the header, and callers in C and in other languages.
 //!
@@ -24,11 +24,16 @@ ghost use Rattle.enforce_c.specs.Listed.{AnswersListing, AnswersText};
 ghost use Rattle.enforce_c.specs.FormScripts.{AnswersForm};
 ghost use Rattle.enforce_c.specs.Claimed.{AnswersClaim};
 ghost use Rattle.enforce_c.specs.Spent.{AnswersSpend, preimages_in};
+ghost use Rattle.enforce_c.specs.Found.{AnswersFound};
 
 mod answers;
 mod buffers;
+mod claim_lists;
 mod claim_rows;
 mod claims_of_c;
+mod commitment_rows;
+mod commitments_of_c;
+mod finding;
 mod forms_of_c;
 mod listing;
 mod ranges;
@@ -39,12 +44,21 @@ mod spending;
 mod statuses;
 mod telling;
 
-use crate::answers::{refuse, refuse_spend, write_bytes, write_due, write_rows, write_spend};
+use crate::answers::{
+    refuse, refuse_found, refuse_spend, write_bytes, write_due, write_found, write_rows,
+    write_spend,
+};
 use crate::claims_of_c::claimed;
+use crate::finding::found;
 use crate::forms_of_c::form_bytes;
 use crate::listing::{text_of, told};
 use crate::spending::spent;
 pub use claim_rows::{ClaimRow, Due, SLOT_EXACT, SLOT_PREIMAGE, SLOT_SIGNATURE, SlotRow};
+pub use commitment_rows::{
+    CHANNEL_ANCHORS, CHANNEL_STATIC_REMOTE_KEY, Commitment, DIRECTION_OFFERED, DIRECTION_RECEIVED,
+    FoundAnswer, FoundRow, HtlcRow, OUTPUT_OFFERED, OUTPUT_RECEIVED, OUTPUT_TO_LOCAL,
+    OUTPUT_TO_REMOTE,
+};
 use digest::sha256;
 pub use forms_of_c::{
     FORM_FUNDING, FORM_KEY_HASH, FORM_OFFERED, FORM_RECEIVED, FORM_TO_LOCAL, Form,
@@ -55,7 +69,7 @@ pub use statuses::DONE;
 use std::alloc::Global;
 
 /// What declarations mean together: it is raised whenever one changes its meaning.
-pub const ABI: u32 = 1;
+pub const ABI: u32 = 2;
 
 /// The library's `ABI`, to be compared with that of the declarations once, at the start.
 #[unsafe(no_mangle)]
@@ -179,5 +193,43 @@ pub extern "C" fn enforce_unsigned_spend(
     match spent(alloc, claims, slots, outputs, preimages, bytes) {
         Ok(spending) => write_spend(&spending, tx, signatures, answer),
         Err(refusal) => refuse_spend(&refusal, answer),
+    }
+}
+
+/// Finds all that a revoked commitment lets its owner's peer claim of a transaction: the commitment, one of its HTLC transactions, or any other, with witnesses or without. Writes a claim on each output whose script is
+/// one of the commitment's, in the order of the outputs, with what `enforce_unsigned_spend` takes: rows of slots, and the bytes that both refer to. Of each claim it writes which output it is on, and the first block in which the owner can take that, where a block of
+/// `confirmed_height` has the transaction. Of each other output it writes the index. The statuses of refusals are those of family 8 in this order: the type of the channel, each key, each HTLC; then those of family 6, of the first fault of the
+/// transaction; and `TOO_SMALL` if one of the five buffers is too short.
+#[unsafe(no_mangle)]
+#[tactic(auto, using(crate::proofs::FoundClaims::found_lists, crate::proofs::FoundClaims::refused_found))]
+pub extern "C" fn enforce_revoked(
+    alloc: Global,
+    commitment: &Commitment,
+    htlcs: &[HtlcRow],
+    tx: &[u8],
+    confirmed_height: u32,
+    claims: &mut [ClaimRow],
+    found_outputs: &mut [FoundRow],
+    slots: &mut [SlotRow],
+    others: &mut [u32],
+    bytes: &mut [u8],
+    answer: &mut FoundAnswer,
+) -> u32
+    ensures { AnswersFound
+        (record { commitment = commitment.now; htlcs = htlcs.now; tx = tx.now; confirmed_height = confirmed_height })
+        (record { claims = claims.old; found = found_outputs.old; slots = slots.old; others = others.old; bytes = bytes.old })
+        (record { status = result; answer = answer.new; lists = record { claims = claims.new; found = found_outputs.new; slots = slots.new; others = others.new; bytes = bytes.new } }) }
+{
+    match found(alloc, commitment, htlcs, tx, confirmed_height) {
+        Ok(finding) => write_found(
+            &finding,
+            claims,
+            found_outputs,
+            slots,
+            others,
+            bytes,
+            answer,
+        ),
+        Err(refusal) => refuse_found(&refusal, answer),
     }
 }

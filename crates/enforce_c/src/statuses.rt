@@ -1,7 +1,7 @@
 // Why a call gives nothing: the statuses.
 
 ghost use Rattle.std.specs.Prelude.{◌≡◌, ◌<◌};
-ghost use Rattle.enforce_c.specs.Statuses.{parse_status, check_status, accept_status, spend_status, field_status, encode_status, status_of, number_of};
+ghost use Rattle.enforce_c.specs.Statuses.{parse_status, check_status, accept_status, spend_status, field_status, encode_status, decode_status, status_of, number_of};
 ghost use Rattle.enforce_c.specs.declared.statuses.Refusal.TheVariants.{NoMemory};
 
 use claim::AcceptError;
@@ -9,7 +9,7 @@ use filling::SpendError;
 use paths::CheckError;
 use script::ParseError;
 use std::alloc::{AllocError, AllocFailed};
-use tx::{EncodeError, FieldError};
+use tx::{DecodeError, EncodeError, FieldError};
 
 /// The call did what it is for.
 pub const DONE: u32 = 0x000;
@@ -61,13 +61,21 @@ pub const OUTPUTS_EXCEED: u32 = 0x503;
 pub const MEASURED_SIGNATURE: u32 = 0x504;
 /// No preimage is given for the hash of a slot.
 pub const NO_PREIMAGE: u32 = 0x505;
-/// There is no claim, so that the transaction has no input.
+/// The bytes of the transaction end within a field.
+pub const TRUNCATED_TRANSACTION: u32 = 0x601;
+/// A compactSize of the transaction is not minimal.
+pub const LONG_COUNT: u32 = 0x602;
+/// The marker of the transaction is not 0, or its flag is not 1 (BIP 144). No call here tells it: such bytes are read without witnesses.
+pub const BAD_MARKER: u32 = 0x603;
+/// There is no claim, or the transaction that is given has no input.
 pub const NO_INPUTS: u32 = 0x604;
 /// No witness of the transaction has an item.
 pub const NO_WITNESS: u32 = 0x605;
 /// The value of an output is above 21,000,000 bitcoins.
 pub const VALUE_TOO_LARGE: u32 = 0x606;
-/// There are more than 4,000 claims or outputs, or the script of an output has more than 10,000 bytes.
+/// There are bytes after the lock time of the transaction.
+pub const TRAILING: u32 = 0x607;
+/// There are more than 4,000 claims or outputs, or the script of an output has more than 10,000 bytes; of a transaction that is given, a count is above its limit, or an input has a script.
 pub const OVER_LIMIT: u32 = 0x608;
 /// A row refers to bytes or to rows that are not there.
 pub const OUT_OF_RANGE: u32 = 0x701;
@@ -75,6 +83,14 @@ pub const OUT_OF_RANGE: u32 = 0x701;
 pub const NO_SUCH_SLOT: u32 = 0x702;
 /// The bytes of a slot are more than 520.
 pub const ITEM_TOO_LONG: u32 = 0x703;
+/// There is no type of channels of this kind.
+pub const NO_SUCH_CHANNEL_TYPE: u32 = 0x801;
+/// Bytes that are to be a key of the commitment do not have the form of one; the answer has which of its fields it is, from 0.
+pub const NOT_A_COMMITMENT_KEY: u32 = 0x802;
+/// There is no direction of this kind; the answer has the index of the HTLC.
+pub const NO_SUCH_DIRECTION: u32 = 0x803;
+/// The expiry of an HTLC is 500,000,000 or more, which is a time and not a height; the answer has the index of the HTLC.
+pub const EXPIRY_TOO_LARGE: u32 = 0x804;
 
 /// Why a call gives nothing.
 #[derive(Drop)]
@@ -92,6 +108,14 @@ pub enum Refusal {
     Field(FieldError),
     Spend(SpendError),
     Encode(EncodeError),
+    Decode(DecodeError),
+    NoSuchChannelType,
+    /// Which key it is, in the order of the fields.
+    NotACommitmentKey(usize),
+    /// Which HTLC it is of.
+    NoSuchDirection(usize),
+    /// Which HTLC it is of.
+    ExpiryTooLarge(usize),
 }
 
 // The status of a refused claim.
@@ -148,6 +172,24 @@ fn encode_status(error: &EncodeError) -> u32
     }
 }
 
+// The status of a transaction's bytes that are refused.
+fn decode_status(error: &DecodeError) -> u32
+    ensures value { result ≡ decode_status error.now }
+    ensures refused { DONE < result }
+{
+    match error {
+        DecodeError::NoMemory => NO_MEMORY,
+        DecodeError::Truncated => TRUNCATED_TRANSACTION,
+        DecodeError::LongCount => LONG_COUNT,
+        DecodeError::BadMarker => BAD_MARKER,
+        DecodeError::NoInputs => NO_INPUTS,
+        DecodeError::NoWitness => NO_WITNESS,
+        DecodeError::ValueTooLarge => VALUE_TOO_LARGE,
+        DecodeError::Trailing => TRAILING,
+        DecodeError::OverLimit => OVER_LIMIT,
+    }
+}
+
 // The status of a script's bytes that are refused.
 fn parse_status(error: &ParseError) -> u32
     ensures value { result ≡ parse_status error.now }
@@ -196,10 +238,15 @@ impl Refusal {
             Refusal::Field(error) => field_status(error),
             Refusal::Spend(error) => spend_status(error),
             Refusal::Encode(error) => encode_status(error),
+            Refusal::Decode(error) => decode_status(error),
+            Refusal::NoSuchChannelType => NO_SUCH_CHANNEL_TYPE,
+            Refusal::NotACommitmentKey(_) => NOT_A_COMMITMENT_KEY,
+            Refusal::NoSuchDirection(_) => NO_SUCH_DIRECTION,
+            Refusal::ExpiryTooLarge(_) => EXPIRY_TOO_LARGE,
         }
     }
 
-    /// The number that the refusal carries: a byte's position or an opcode's index, from 0; else 0.
+    /// The number that the refusal carries: a byte's position, or the index of an opcode, a key or an HTLC, from 0; else 0.
     pub fn number(&self) -> usize
         ensures { result ≡ number_of self.now }
     {
@@ -207,6 +254,9 @@ impl Refusal {
             Refusal::Parse(ParseError::BadOpcode(at)) => *at,
             Refusal::Parse(ParseError::Truncated(at)) => *at,
             Refusal::Check(CheckError::Undecided(at)) => *at,
+            Refusal::NotACommitmentKey(number) => *number,
+            Refusal::NoSuchDirection(index) => *index,
+            Refusal::ExpiryTooLarge(index) => *index,
             _ => 0,
         }
     }

@@ -1,0 +1,130 @@
+-- The rows of slots, as they are written, are read as these slots.
+use Rattle.std.proofs.Common.{◌≡◌, ℕ, suc, List, [], ◌∷◌, ◌++◌, length, refl, subst, sym, ap, ◌∙◌, append_assoc}
+use Rattle.std.specs.Prelude.{Option, Some, None, Bool, true, false, ◌==◌, nat_lt, if◌then◌else◌}
+use Rattle.std.proofs.lemmas.Bool.{le-ltb}
+use Rattle.std.proofs.lemmas.List.{append-nil}
+use Rattle.script.specs.Token.{is_key}
+use Rattle.script.specs.declared.limits.TheConstants.{MAX_SCRIPT_ELEMENT_SIZE}
+use Rattle.claim.specs.declared.parts.Slot.{Slot}
+use Rattle.claim.specs.declared.parts.Slot.TheVariants.{Sig, Preimage, Exact}
+use Rattle.enforce_c.specs.declared.claim_rows.SlotRow.{SlotRow}
+use Rattle.enforce_c.specs.declared.statuses.Refusal.{Refusal}
+use Rattle.enforce_c.specs.declared.statuses.Refusal.TheVariants.{NotAKey, OutOfRange, NoSuchSlot, ItemTooLong}
+use Rattle.enforce_c.specs.Ranges.{has_part, part}
+use Rattle.enforce_c.specs.Claimed.{or_then, item_fault, slot_fault, slots_fault, FillsAs, FillAs}
+use Rattle.enforce_c.specs.ClaimLists.{ListsOfClaims, slot_row, item_in, with_slot, with_slots}
+use Rattle.enforce_c.proofs.Parts.{Stands, stands_here, stands_more}
+
+-- the fault of a slot's row, by that of its item
+abbrev by_item : (is_signed is_preimage is_exact : Bool) (key item : Option Refusal) → Option Refusal
+by_item is_signed is_preimage is_exact key item = if is_signed then key else if is_preimage then None else if is_exact then item else Some NoSuchSlot
+
+still_none : (a b c : Bool) (k f g : Option Refusal) → by_item a b c k f ≡ None → (f ≡ None → g ≡ None) → by_item a b c k g ≡ None
+still_none true b c k f g e more = e
+still_none false true c k f g e more = refl
+still_none false false true k f g e more = more e
+still_none false false false k f g e more = e
+
+-- an item that is there, and is not too long
+record IsItem (bytes : List ℕ) (row : SlotRow) : Type 0 where
+  there : has_part row.bytes_at row.bytes_length bytes ≡ true
+  short : nat_lt MAX_SCRIPT_ELEMENT_SIZE (length (part row.bytes_at row.bytes_length bytes)) ≡ false
+
+abbrev item_by : Bool → Bool → Option Refusal
+item_by there long = if there then (if long then Some ItemTooLong else None) else Some OutOfRange
+
+no_fault : (there long : Bool) → item_by there long ≡ None → (there ≡ true) × (long ≡ false)
+no_fault true true e = absurd (let t : Some ItemTooLong ≡ None = e in cc)
+no_fault true false e = (refl, refl)
+no_fault false long e = absurd (let t : Some OutOfRange ≡ None = e in cc)
+
+is_item : (bytes : List ℕ) (row : SlotRow) → item_fault bytes row ≡ None → IsItem bytes row
+is_item bytes row e =
+    let two = no_fault (has_part row.bytes_at row.bytes_length bytes) (nat_lt MAX_SCRIPT_ELEMENT_SIZE (length (part row.bytes_at row.bytes_length bytes))) e in
+    record { there = two.0; short = two.1 }
+
+faultless_item : (bytes : List ℕ) (row : SlotRow) → IsItem bytes row → item_fault bytes row ≡ None
+faultless_item bytes row h = ap (λ b. item_by b (nat_lt MAX_SCRIPT_ELEMENT_SIZE (length (part row.bytes_at row.bytes_length bytes)))) h.there ∙ ap (item_by true) h.short
+
+-- in more bytes an item is what it was
+item_more : (bytes more : List ℕ) (row : SlotRow) → item_fault bytes row ≡ None → item_fault (bytes ++ more) row ≡ None
+item_more bytes more row e =
+    let h = is_item bytes row e in
+    let s = stands_more row.bytes_at row.bytes_length bytes more h.there in
+    faultless_item (bytes ++ more) row (record { there = s.there; short = ap (λ xs. nat_lt MAX_SCRIPT_ELEMENT_SIZE (length xs)) s.same ∙ h.short })
+
+slot_more : (bytes more : List ℕ) (row : SlotRow) → slot_fault bytes row ≡ None → slot_fault (bytes ++ more) row ≡ None
+slot_more bytes more row e =
+    still_none (row.kind == 1) (row.kind == 2) (row.kind == 3) (if is_key row.key then None else Some NotAKey) (item_fault bytes row) (item_fault (bytes ++ more) row) e (item_more bytes more row)
+
+pub first_none : (x y : Option Refusal) → or_then x y ≡ None → (x ≡ None) × (y ≡ None)
+first_none None y e = (refl, e)
+first_none (Some x) y e = absurd (let t : Some x ≡ None = e in cc)
+
+pub slots_more : (bytes more : List ℕ) (rows : List SlotRow) → slots_fault bytes rows ≡ None → slots_fault (bytes ++ more) rows ≡ None
+slots_more bytes more [] e = refl
+slots_more bytes more (row ∷ rows) e =
+    let two = first_none (slot_fault bytes row) (slots_fault bytes rows) e in
+    ap (λ x. or_then x (slots_fault (bytes ++ more) rows)) (slot_more bytes more row two.0) ∙ slots_more bytes more rows two.1
+
+exact_item : (bytes : List ℕ) (row : SlotRow) → row.kind ≡ 3 → slot_fault bytes row ≡ None → item_fault bytes row ≡ None
+exact_item bytes row is e =
+    let key = if is_key row.key then None else Some NotAKey in
+    sym (ap (λ k. by_item (k == 1) (k == 2) (k == 3) key (item_fault bytes row)) is) ∙ e
+
+fills_more : (bytes more : List ℕ) (row : SlotRow) (s : Slot) → slot_fault bytes row ≡ None → FillsAs bytes row s → FillsAs (bytes ++ more) row s
+fills_more bytes more row (Sig k) e h = h
+fills_more bytes more row (Preimage p) e h = h
+fills_more bytes more row (Exact w) e h =
+    let item = is_item bytes row (exact_item bytes row h.0 e) in
+    (h.0, h.1 ∙ sym (stands_more row.bytes_at row.bytes_length bytes more item.there).same)
+
+pub fill_more : (bytes more : List ℕ) (rows : List SlotRow) (ss : List Slot) → slots_fault bytes rows ≡ None → FillAs bytes rows ss → FillAs (bytes ++ more) rows ss
+fill_more bytes more [] [] e all = tt
+fill_more bytes more [] (s ∷ ss) e all = absurd all
+fill_more bytes more (row ∷ rows) [] e all = absurd all
+fill_more bytes more (row ∷ rows) (s ∷ ss) e all =
+    let two = first_none (slot_fault bytes row) (slots_fault bytes rows) e in
+    (fills_more bytes more row s two.0 all.0, fill_more bytes more rows ss two.1 all.1)
+
+-- a slot that is written is read as that slot
+fills_here : (before after : List ℕ) (s : Slot) → FillsAs ((before ++ item_in s) ++ after) (slot_row s (length before)) s
+fills_here before after (Sig k) = (refl, refl)
+fills_here before after (Preimage h) = (refl, refl)
+fills_here before after (Exact w) = (refl, sym (stands_here before w.item after).same)
+
+faultless_here : (before after : List ℕ) (s : Slot) → slot_fault ((before ++ item_in s) ++ after) (slot_row s (length before)) ≡ None
+faultless_here before after (Sig k) = ap (λ b. if b then None else Some NotAKey) k.form
+faultless_here before after (Preimage h) = refl
+faultless_here before after (Exact w) =
+    let s = stands_here before w.item after in
+    faultless_item ((before ++ w.item) ++ after) (slot_row (Exact w) (length before))
+    (record { there = s.there; short = ap (λ xs. nat_lt MAX_SCRIPT_ELEMENT_SIZE (length xs)) s.same ∙ le-ltb MAX_SCRIPT_ELEMENT_SIZE (length w.item) w.short })
+
+-- what slots add to the lists, and that they are read as these slots
+pub record Adds (ss : List Slot) (l after : ListsOfClaims) : Type 0 where
+  pub rows : List SlotRow
+  pub more : List ℕ
+  pub slots : after.slots ≡ l.slots ++ rows
+  pub bytes : after.bytes ≡ l.bytes ++ more
+  pub claims : after.claims ≡ l.claims
+  pub count : length rows ≡ length ss
+  pub faultless : slots_fault after.bytes rows ≡ None
+  pub filled : FillAs after.bytes rows ss
+
+pub adds : (ss : List Slot) (l : ListsOfClaims) → Adds ss l (with_slots ss l)
+adds [] l = record { rows = []; more = []; slots = sym (append-nil l.slots); bytes = sym (append-nil l.bytes); claims = refl; count = refl; faultless = refl; filled = tt }
+adds (s ∷ ss) l =
+    let a = adds ss (with_slot s l) in
+    let row = slot_row s (length l.bytes) in
+    let bytes : (l.bytes ++ item_in s) ++ a.more ≡ (with_slots ss (with_slot s l)).bytes = sym a.bytes in
+    record {
+      rows = row ∷ a.rows;
+      more = item_in s ++ a.more;
+      slots = a.slots ∙ append_assoc l.slots (row ∷ []) a.rows;
+      bytes = a.bytes ∙ append_assoc l.bytes (item_in s) a.more;
+      claims = a.claims;
+      count = ap (λ n. suc n) a.count;
+      faultless = ap (λ x. or_then x (slots_fault (with_slots ss (with_slot s l)).bytes a.rows)) (subst (λ b. slot_fault b row ≡ None) bytes (faultless_here l.bytes a.more s)) ∙ a.faultless;
+      filled = (subst (λ b. FillsAs b row s) bytes (fills_here l.bytes a.more s), a.filled);
+    }
