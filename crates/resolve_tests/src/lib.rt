@@ -1,4 +1,4 @@
-//! Tests of what is due on the chain and of the watch and the reader that find it: `resolve`, `watch` and `side`.
+//! Tests of what is due on the chain and of the watch, the sights and the reader that find it: `resolve`, `watch`, `sights` and `side`.
 //!
 //! They stand apart so that each library is proved without them. The examples of the libraries' pages are among them.
 #![tactic(auto)]
@@ -13,5 +13,7 @@ mod lookouts;
 mod preimages;
 #[cfg(test)]
 mod readers;
+#[cfg(test)]
+mod told;
 #[cfg(test)]
 mod watches;

@@ -1,0 +1,7 @@
+mod Noted
+mod Looked
+mod Reading
+mod Followed
+mod Claimed
+mod Staying
+mod SightsExamples

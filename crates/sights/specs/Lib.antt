@@ -1,0 +1,5 @@
+pub mod Sights
+pub mod Origins
+pub mod Deadlines
+pub mod Telling
+pub mod Following
