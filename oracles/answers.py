@@ -14,11 +14,11 @@ import sys
 from bitcoin import little_endian, script_program, sha256d
 
 TOP = os.path.dirname(os.path.dirname(os.path.abspath(__file__)))
-USAGE = "usage: trace scenario [--strict | --dump A|B] | dump | script [--text] [HEX] | witness [--text]\n"
+USAGE = "usage: trace scenario [--strict | --dump A|B] | dump | script [--text] [HEX] | witness [--text] [--lines]\n"
 # what follows the usage: the line that helps
 HELP = USAGE + "note: trace --help says which words there are\n"
 SCRIPT = USAGE + "note: script takes one script in hexadecimal, after --text if that is wished, or reads scripts from standard input, one a line: trace script --text HEX\n"
-WITNESS = USAGE + "note: witness reads a transaction and the outputs that it spends from standard input, and takes --text or no word: trace witness --text <FILE\n"
+WITNESS = USAGE + "note: witness reads a transaction and the outputs that it spends from standard input, and takes --text, --lines, both or no word: trace witness --text <FILE\n"
 DUMP = USAGE + "note: dump takes no more words, and reads the dump of a book from standard input: trace dump <FILE\n"
 PLAY = USAGE + "note: scenario reads the scenario from standard input, and takes --strict, --dump A or --dump B, or no word: trace scenario <FILE\n"
 # inputs that are no text of a row: one without an end, and one that can't be read
@@ -32,6 +32,9 @@ ONE = "02000000000101" + "01" * 32 + "00000000" + "00" + "00000000" + "01" + "00
 PROGRAM = "00204ae81572f06e1b88fd5ced7a1a000945432e83e1551e6f721ee9c00b8cc33260"
 # the same with a second input that has a script of its own, one byte
 TWO = ONE.replace("000101", "000102", 1).replace("01" * 32 + "00000000" + "00" + "00000000", "01" * 32 + "00000000" + "00" + "00000000" + "02" * 32 + "00000000" + "0151" + "00000000")
+# the transaction with the output that it spends on one line, and what is told of it
+ONE_LINE = ONE.replace("\n", f";5 {PROGRAM}")
+CLEAN_ONE = '{"input":0,"path":0,"counted":0,"height":1,"digest":"253718d653b5d70472113039231274aaa2670c97ca0c53f1114037fe8554401d"}\n'
 OTHER_PROGRAM = "input 0 is refused: OtherProgram: the program is not of version 0 with the hash of a key or of a script\n"
 
 
@@ -49,6 +52,8 @@ note: a real signature stands there (DER, BIP 66), which is not judged here, whe
 """
 # the notes on texts that are no transaction with its outputs
 OUTPUTS = "note: after the transaction comes a line for each of its inputs: the value in satoshis of the output that it spends, a space, and the output's program\n"
+BAD_COUNT = '{"refused":"BadCount","notes":["the last line is blank: leave it out"]}\n'
+NO_HEX = '{"refused":"BadHex","notes":["the first line has the transaction in hexadecimal (BIP 144)"]}\n'
 PSBT = "note: this is a PSBT (BIP 174), and not a transaction: give the transaction that it is finalized to, in hexadecimal\n"
 NO_WITNESS = "note: a transaction without a witness is not read here: it is not signed yet, or spends outputs of older forms alone\n"
 SCRIPTED = "note: an input has a script of its own (scriptSig), as inputs of older forms and nested ones have: only inputs with a witness alone are read here\n"
@@ -200,6 +205,21 @@ ROWS = [
     ("witness --text", ONE + "5 bc1qw508d6qejxtdg4y5r3zarvary0c5xw7kv8f3t4\n", "refused BadLine 2\nnote: this looks like an address: give the output's program, in hexadecimal\n", 1),
     ("witness --text", ONE + "5 0014\n", OTHER_PROGRAM, 1),
     ("witness --text", ONE + f"5 {PROGRAM}\r\n", "input 0 runs clean on path 0: 0 opcodes counted, 1 entry at most\n", 0),
+    # each line a text, and its answer that of the text: of two inputs each, of a refusal, and of no text
+    ("witness --lines", "", "", 0),
+    ("witness --lines", "\n", '{"refused":"Truncated"}\n', 1),
+    ("witness --lines", ONE_LINE, CLEAN_ONE, 0),
+    ("witness --lines", ONE_LINE + "\n" + ONE_LINE + "\r\n", CLEAN_ONE + CLEAN_ONE, 0),
+    ("witness --lines", ONE_LINE + "\n0g\n" + ONE_LINE + "\n", CLEAN_ONE + NO_HEX + CLEAN_ONE, 1),
+    ("witness --lines", ONE_LINE + ";\n", BAD_COUNT, 1),
+    ("witness --lines", ONE, '{"refused":"BadCount","notes":["%s"]}\n' % OUTPUTS[6:-1], 1),
+    ("witness --text --lines", ONE_LINE + "\n", "input 0 runs clean on path 0: 0 opcodes counted, 1 entry at most\n", 0),
+    ("witness --lines --text", "", WITNESS, 2),
+    ("witness --lines", NOT_TEXT, '{"refused":"Truncated"}\n{"refused":"BadHex"}\n', 1),
+    ("witness --lines", ENDLESS, '{"refused":"TooLong"}\n', 1),
+    ("witness --lines", UNREADABLE, '{"refused":"ReadFailed"}\n', 1),
+    ("witness --lines", "z" * (LIMIT + 1), '{"refused":"TooLong"}\n', 1),
+    ("witness --lines", ONE_LINE + "\n" + "z" * LIMIT, CLEAN_ONE + '{"refused":"TooLong"}\n', 1),
     # first lines that are no transaction
     ("witness --text", "0g\n", "refused BadHex\nnote: the first line has the transaction in hexadecimal (BIP 144)\n", 1),
     ("witness --text", "0x02\n", "refused BadHex\nnote: the transaction begins with 0x: leave that out\n", 1),

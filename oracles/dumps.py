@@ -208,7 +208,20 @@ def objects_of(dump):
         elif call[0] == "close":
             channels[call[1]].close()
     found = [channel.summary(index) for index, channel in enumerate(channels)]
-    return [*found, {"entries": len(dump["history"]), "channels": len(channels)}]
+    notes = list(lacking(channels))
+    return [*found, {"entries": len(dump["history"]), "channels": len(channels), **({"notes": notes} if notes else {})}]
+
+
+def lacking(channels):
+    """The received HTLCs of each channel, in its newest commitments, whose preimage another channel has alone."""
+    for index, channel in enumerate(channels):
+        own = [sha256(it).hex() for it in channel.preimages]
+        for other, one in enumerate(channels):
+            others = [sha256(it).hex() for it in one.preimages]
+            for htlc in channel.htlcs():
+                if htlc["direction"] == "received" and (htlc["ours"] or htlc["theirs"]) and htlc["hash"] in others and htlc["hash"] not in own:
+                    number = htlc["id"]
+                    yield f"channel {index} lacks the preimage of the received HTLC {number}, which channel {other} has: it can't be claimed before it is fulfilled in channel {index} too"
 
 
 def new_dumps():

@@ -7,6 +7,7 @@ Opcodes have the names of Bitcoin Core's script.h. Which branches end by a rule 
 worked out by dead_ends.py. Scripts are run by consensus too, on items that are unlike: no run may end well that goes the way of such a branch. That two facts of a path contradict
 each other is found by trying items that are unlike in their bytes, their length, what they hash to, and whether they are true, a key or a token. The parts of scenarios are those of docs/SCENARIOS.md.
 """
+import datetime
 import json
 import os
 import random
@@ -66,7 +67,14 @@ def push(item):
 
 def end(opcode, item, rule):
     count = len(item) // 2
-    return f"a branch ends at opcode {opcode}: {item} ({count} byte{'s' * (count > 1)}) is {rule}; consensus is laxer, and may let others spend"
+    tail = "; consensus is laxer, and may let others spend"
+    if rule == NO_KEY:
+        tail = "; in consensus no signature is valid for it either, and other keys may sign"
+        if count == 65 and item[:2] in ("04", "06", "07"):
+            tail = "; consensus takes this one, and nodes relay no spend with it"
+        if count == 32:
+            tail = ", as taproot alone has them; in consensus no signature is valid for it, and other keys may sign"
+    return f"a branch ends at opcode {opcode}: {item} ({count} byte{'s' * (count > 1)}) is {rule}{tail}"
 
 
 def strict_notes(*ends):
@@ -220,18 +228,41 @@ def with_dead_ends(code, notes):
 # ---- relative locks (BIP 68, BIP 112)
 
 
-def units_note(age):
-    return f"path 0 waits {age} unit{'s' * (age != 1)} of 512 seconds, which its age does not tell: that is in blocks (BIP 68)"
+def span(seconds):
+    """About how long seconds are."""
+    for unit, name in ((60, "minutes"), (3600, "hours"), (86_400, "days")):
+        if seconds < 2 * {"minutes": 3600, "hours": 86_400, "days": 2**64}[name]:
+            return f"{(seconds + unit // 2) // unit} {name}"
+    raise AssertionError
+
+
+def units_note(units):
+    return f"path 0 waits {units} unit{'s' * (units != 1)} of 512 seconds, about {span(512 * units)}, which its age does not tell: that is in blocks (BIP 68)"
+
+
+def age_note(blocks):
+    return f"path 0 waits {blocks} blocks, about {span(600 * blocks)} at ten minutes each"
+
+
+def day_of(seconds):
+    return datetime.datetime.fromtimestamp(seconds, datetime.timezone.utc)
 
 
 def time_note(lock):
-    return f"path 0 waits until the median time past is above {lock}: its lock is a time, in seconds since 1970 (BIP 113)"
+    return f"path 0 waits until the median time past is above {lock}, {day_of(lock):%Y-%m-%d} in UTC: its lock is a time, in seconds since 1970 (BIP 113)"
+
+
+def height_note(lock):
+    """By the times of blocks 481,824 and 840,000, and by ten minutes a block after them."""
+    first, halving = 1_503_539_857, 1_713_571_767
+    seconds = first + (lock - 481_824) * (halving - first) // (840_000 - 481_824) if lock < 840_000 else halving + 600 * (lock - 840_000)
+    return f"path 0 waits for a block above height {lock}, on Bitcoin's main chain about {day_of(seconds):%Y-%m}"
 
 
 def doubt_of(n):
     """What is said of a lock time that holds nobody up, or nearly for ever. Block 481,824 is the first to which BIP 141 applies; its time is 1,503,539,857. 2100 begins with 4,102,444,800."""
     if n < (481_824 if n < 500_000_000 else 1_503_539_857):
-        return "holds nobody up: Bitcoin had passed it before it had witness scripts (BIP 141); CHECKSEQUENCEVERIFY waits a number of blocks"
+        return "holds nobody up on Bitcoin's main chain, which had passed it before it had witness scripts (BIP 141); CHECKSEQUENCEVERIFY waits a number of blocks"
     if 5_000_000 < n < 500_000_000:
         return f"waits for a height that is some {(n - 900_000) // 52_560} years away: from 500000000 on a number is a time (BIP 65)"
     return "waits until after the year 2099" if 4_102_444_800 <= n < 2**32 - 1 else None
@@ -257,12 +288,60 @@ def key_rows():
     for x in [0, 1, 2, 3, FIELD - 1, FIELD, FIELD + 1, 2**256 - 1, *(drawn.getrandbits(256) for _ in range(60))]:
         key = f"{2 + x % 2:02x}{x:064x}"
         yield f"{push(key)}ac", [f"opcode 0: {key} is no point of the curve: nobody can sign for this key"] * (not is_point(x))
-    twice = "CHECKMULTISIG, has a key twice: one signature counts for both"
-    for keys in ([KEY, OTHER, KEY], [KEY, KEY], [KEY, OTHER, THIRD], [KEY, *(f"02{x:064x}" for x in list(filter(is_point, range(1, 99)))[:16])]):
-        at = len(keys) + 2
-        yield f"52{''.join(map(push, keys))}{number(len(keys))}ae", [f"opcode {at}, {twice}"] * (len(set(keys)) < len(keys))
+    for keys in ([KEY, OTHER, KEY], [KEY, KEY], [KEY, OTHER, THIRD], [KEY, "03" + KEY[2:], OTHER], [KEY, *(f"02{x:064x}" for x in list(filter(is_point, range(1, 99)))[:16])]):
+        yield f"52{''.join(map(push, keys))}{number(len(keys))}ae", list(twice_notes([("assigned", tuple(keys), True)], [0]))
     # what is no key of this CHECKMULTISIG is not compared
     yield f"{push(KEY)}7551{push(KEY)}{push(OTHER)}52ae", []
+
+
+def twice_notes(facts, slots):
+    """What is noted of the keys that a path has twice, in one fact or in two that differ, or with their negations."""
+    seen = []
+    for (kind, what, holds), slot in zip(facts, slots):
+        own = []
+        for key in ((what,) if kind == "token" else what) if kind in ("token", "assigned") and holds else ():
+            other = next((it for it in [*own, *(it for fact, keys in seen if fact != (kind, what, slot) for it in keys)] if it[2:] == key[2:]), None)
+            if other is not None:
+                yield f"path 0 has the key {key} twice: who has it signs for both" if other == key else f"path 0 has the key {key} and its negation {other}: who has one has both"
+            own.append(key)
+        seen.append(((kind, what, slot), own))
+
+
+def constant_rows():
+    """An IF and a NOTIF of each of some constants, with an ELSE and without: which branch no run takes. Pushes of each number of a byte."""
+    for constant in ("00", "51", "60", "0180", "020000", "02aabb"):
+        is_true = constant not in ("00", "0180", "020000")
+        for code, name in (("63", "IF"), ("64", "NOTIF")):
+            is_run = is_true == (name == "IF")
+            for other in ("67" + push(OTHER), ""):
+                unrun = ("ELSE", 3) if is_run else (name, 1)
+                note = f"the branch after the {unrun[0]} at opcode {unrun[1]} is never run, so nobody can spend by it: a constant decides the {name} at opcode 1"
+                if other or not is_run:
+                    yield f"{constant}{code}{push(KEY)}{other}68" + ("ac" if other else f"{push(THIRD)}ac" if not is_run else "ac"), [note] * (bool(other) or not is_run)
+    for value in range(256):
+        short = 0x50 + value if 1 <= value <= 16 else 0x4F if value == 0x81 else None
+        note = f"opcode 0, a push of {value:02x} (1 byte): nodes relay no spend that runs it, since the opcode {short or 0:02x} pushes the same (minimal pushes)"
+        yield f"01{value:02x}75{push(KEY)}ac", [note] * (short is not None)
+
+
+def relay_rows():
+    """Items and scripts on both sides of what nodes relay (Bitcoin Core's `MAX_STANDARD_P2WSH_STACK_ITEMS`, `.._STACK_ITEM_SIZE` and `.._SCRIPT_SIZE`)."""
+    anyone = "anyone can spend by path 0: no signature of a key that the script fixes is asked for"
+    for count in (99, 100):
+        yield "75" * count, [anyone] + ["nodes relay no spend by path 0: it asks for more than 100 items, or for one above 80 bytes"] * (count + 1 > 100)
+    for size in (80, 81):
+        yield f"82{number(size)}8875{push(KEY)}ac", ["nodes relay no spend by path 0: it asks for more than 100 items, or for one above 80 bytes"] * (size > 80)
+    code = (push("77" * 34) + "75") * 100
+    for more in ("", push("") + "75"):
+        length = len(code + more) // 2
+        yield code + more, [anyone] + [f"the script has {length} bytes, and nodes relay no spend of one above 3600"] * (length > 3600)
+
+
+def shared_rows():
+    """Two numbers before one lock: each is noted."""
+    for one, other in ((65_536, 144), (144, 65_536), (65_536, 65_537)):
+        asks = [f"opcode 5, CHECKSEQUENCEVERIFY of {n}, asks for an age of {n % 65_536} block{'s' * (n % 65_536 != 1)}: of a number only bits 0 to 15, 22 and 31 count (BIP 68)" for n in (one, other) if n >= 65_536]
+        yield f"63{number(one)}67{number(other)}68b275{push(KEY)}ac", asks
 
 
 def lock_rows():
@@ -273,17 +352,17 @@ def lock_rows():
         unit = ("block" if age == 1 else "blocks") if not n >> 22 & 1 else f"{'unit' if age == 1 else 'units'} of 512 seconds"
         asks = "nothing: bit 31 switches the lock off (BIP 68)" if n >> 31 & 1 else f"an age of {age} {unit}: of a number only bits 0 to 15, 22 and 31 count (BIP 68)"
         is_plain = age > 0 and n in (age, age + (1 << 22))
-        waits = [units_note(age)] * (n >> 22 & 1 and not n >> 31 & 1 and age > 0)
+        waits = [] if n >> 31 & 1 else [units_note(age)] * (age > 0) if n >> 22 & 1 else [age_note(age)] * (age > 2016)
         yield f"{number(n)}b275{push(KEY)}ac", [f"opcode 1, CHECKSEQUENCEVERIFY of {n}, asks for {asks}"] * (not is_plain) + waits
     # lock times: the greatest that a median time past is above, the greatest of 4 bytes, one more, the greatest of 5 bytes, and of two paths the second
     beyond = "a lock time has 4 bytes, so it is at most 4294967295"
     never = "nobody can ever spend by path 0: its lock time is 4294967295, and no median time past is above that (BIP 113)"
     # the bytes of 5,000,001 to 5,000,012 in the other order are a usual height
     bounds = (481_824, 500_000_000, 1_503_539_857, 4_102_444_800)
-    for n in (0, 500, 5_000_000, 5_000_013, *(it for bound in bounds for it in (bound - 1, bound)), 2**32 - 2, 2**32 - 1, 2**32, 2**39 - 1):
+    for n in (0, 500, 700_000, 839_999, 840_000, 900_000, 5_000_000, 5_000_013, *(it for bound in bounds for it in (bound - 1, bound)), 2**32 - 2, 2**32 - 1, 2**32, 2**39 - 1):
         beyond_or_never = [f"no transaction has the lock time of path 0: {beyond}"] * (n >= 2**32) + [never] * (n == 2**32 - 1)
         code = f"{number(n)}b175{push(KEY)}ac"
-        yield code, [*beyond_or_never, *doubt_notes(code), *[time_note(n)] * (500_000_000 <= n < 2**32 - 1)]
+        yield code, [*beyond_or_never, *doubt_notes(code), *wait_notes([("lock", n, True)] if n < 2**32 - 1 else [])]
     code = f"6351{number(499)}b17567{number(2**32)}b1755168"
     yield code, [f"no transaction has the lock time of path 1: {beyond}", "anyone can spend by path 0: no signature of a key that the script fixes is asked for", *doubt_notes(code)]
 
@@ -424,13 +503,16 @@ def spender_notes(facts, slots):
         yield "a signature with a given hash is asked for on path 0: what it signs has that hash in it, so nobody can ever make one"
     if any(kind in ("token", "assigned") and {("size", slot), ("is", slot)} & {*held} for kind, slot in held):
         yield "a signature of a given size, or with given bytes, is asked for on path 0: here it is a token of 66 bytes, and in Bitcoin it has 71 or 72 mostly, so the path may be met by nobody"
+    yield from twice_notes(facts, slots)
 
 
 def wait_notes(facts):
     """What is noted of the greatest locks by time."""
     times = [what for kind, what, _ in facts if kind == "lock" and what >= 500_000_000]
+    heights = [what for kind, what, _ in facts if kind == "lock" and 481_824 <= what <= 5_000_000]
+    ages = [what for kind, what, _ in facts if kind == "age" and 2_016 < what <= 65_535]
     units = [what & 0xFFFF for kind, what, _ in facts if kind == "age" and what >> 22 & 1]
-    return [note(max(found)) for note, found in ((time_note, times), (units_note, units)) if found]
+    return [note(max(found)) for note, found in ((time_note, times), (height_note, heights), (age_note, ages), (units_note, units)) if found]
 
 
 def note_of(one, other, texts):
@@ -625,7 +707,7 @@ def names_dead_ends(code, ran):
 def main():
     os.chdir(TOP)
     command = program("enforce")
-    scripts = [*opcode_rows(), *((code, with_dead_ends(code, notes)) for code, notes in [*ENDS, *lock_rows(), *key_rows()])]
+    scripts = [*opcode_rows(), *((code, with_dead_ends(code, notes)) for code, notes in [*ENDS, *lock_rows(), *key_rows(), *constant_rows(), *shared_rows(), *relay_rows()])]
     pairs = [(code, facts, with_dead_ends(code, notes)) for code, facts, notes in pair_rows()]
     texts = [(json.dumps(value), [note]) for value, note in scenario_rows()]
     # the place of what is no JSON, in a text of as many bytes as there may be; one more byte is not looked at

@@ -69,14 +69,16 @@ ANYONE = "anyone can spend by path 0: no signature of a key that the script fixe
 FINDER = "whoever sees such a witness can spend too by path {}: what has a given hash is asked for, and no signature of a key that the script fixes"
 NONE = "no witness satisfies the script by the rules of this profile: each branch ends as in consensus"
 ONLY = "nobody can spend by the only branch: "
-WAITS = "path 0 waits {} unit{} of 512 seconds, which its age does not tell: that is in blocks (BIP 68)"
+WAITS = "path 0 waits {} unit{} of 512 seconds, about {} minutes, which its age does not tell: that is in blocks (BIP 68)"
+LONG = "opcode 0, a push of 81 (1 byte): nodes relay no spend that runs it, since the opcode 4f pushes the same (minimal pushes)"
 # what enforce notes of the scripts above
 NOTES = {
     **{it: [ANYONE] for it in [*SIZES, NUMBERS, FEW_KEYS, LAST, *UNITS, BLOCK, "", "0181", "01ff75", "02ff0075", "4b" + "00" * 75 + "75"]},
     LAST: ["nobody can ever spend by path 0: its lock time is 4294967295, and no median time past is above that (BIP 113)"],
-    **{it: [ANYONE, WAITS.format(count, "s" * (count != 1))] for count, it in enumerate(UNITS)},
+    **{it: [ANYONE, WAITS.format(count, "s" * (count != 1), (0, 9, 17)[count])] for count, it in enumerate(UNITS)},
     NEVER: ["no transaction has the lock time of path 0: a lock time has 4 bytes, so it is at most 4294967295"],
     UNITS[0]: [ANYONE, "opcode 1, CHECKSEQUENCEVERIFY of 4194304, asks for an age of 0 units of 512 seconds: of a number only bits 0 to 15, 22 and 31 count (BIP 68)"],
+    "0181": [ANYONE, LONG],
     HASHED: [FINDER.format("0")],
     TRUE: [FINDER.format("0, 1")],
     BYTES: [ANYONE],
@@ -91,7 +93,7 @@ NOTES = {
     "68": ["the ENDIF at opcode 0 has no IF"],
     "5167": ["the ELSE at opcode 1 has no IF"],
     "63676768": ["the ELSE at opcode 2 is the second one of the IF or NOTIF at opcode 0: consensus takes it, and it can be written as a further IF"],
-    "51758282": ["opcode 3 is OP_SIZE: no rule decides it on what stands on the stack there, so the listing gives up: the script may be sound"],
+    "51758282": ["opcode 3 is OP_SIZE: no rule decides it on what stands on the stack there, so the listing gives up: whether anyone can spend, or nobody, is not said"],
     "7675" * 101: ["the script has 202 counted opcodes, and at most 201 are allowed"],
     "51" * 1001: ["a path needs more than 1000 elements on the stack: no run of it is clean"],
     "636768" * 7: ["a 65th path begins, and at most 64 are listed"],

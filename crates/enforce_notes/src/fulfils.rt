@@ -1,8 +1,9 @@
 // Notes on a preimage that a side has from one channel, and does not use in another one.
 
+use crate::deliveries::is_delivered;
 use digest::sha256;
 use scenario::Event;
-use std::alloc::AllocError;
+use std::alloc::{AllocError, Global};
 use std::fmt::Write;
 use terms::Side;
 use updates::OwnUpdate;
@@ -21,11 +22,12 @@ struct Known {
 /// there. There are this many channels.
 pub fn note_fulfil(
     notes: &mut String,
+    alloc: Global,
     channels: usize,
     events: &[Event],
 ) -> Result<(), AllocError> {
     note_own(notes, channels as u64, events)?;
-    note_learnt(notes, channels as u64, events)
+    note_learnt(notes, alloc, channels as u64, events)
 }
 
 // Notes the first fulfil of a side whose preimage it does not use in another channel.
@@ -45,14 +47,19 @@ fn note_own(notes: &mut String, channels: u64, events: &[Event]) -> Result<(), A
 }
 
 // Notes the first fulfil by which the peer learns a preimage that it does not use in another channel.
-fn note_learnt(notes: &mut String, channels: u64, events: &[Event]) -> Result<(), AllocError> {
+fn note_learnt(
+    notes: &mut String,
+    alloc: Global,
+    channels: u64,
+    events: &[Event],
+) -> Result<(), AllocError> {
     for (index, event) in events.iter().enumerate() {
         if let Some(fulfil) = fulfil_in(channels, events, event) {
             let learnt = Known {
                 side: fulfil.side.other(),
                 ..fulfil
             };
-            if is_delivered(events, index, &learnt) {
+            if is_delivered(alloc, events, index, learnt.channel)? {
                 if let Some(place) = left_in(channels, events, &learnt) {
                     let (side, channel) = (name_of(learnt.side), learnt.channel);
                     return writeln!(
@@ -66,7 +73,8 @@ fn note_learnt(notes: &mut String, channels: u64, events: &[Event]) -> Result<()
     Ok(())
 }
 
-fn name_of(side: Side) -> &'static str {
+/// The letter of a side.
+pub fn name_of(side: Side) -> &'static str {
     match side {
         Side::A => "A",
         Side::B => "B",
@@ -111,16 +119,6 @@ fn fulfil_of(event: &Event) -> Option<Known> {
     }
 }
 
-// Whether something is delivered to a side in a channel after an event.
-fn is_delivered(events: &[Event], index: usize, known: &Known) -> bool {
-    events.iter().enumerate().any(|(at, event)| match event {
-        Event::Deliver { side, channel } => {
-            at > index && *side == known.side && *channel == known.channel
-        }
-        _ => false,
-    })
-}
-
 // The first other channel that is closed, and in which the peer offers the hash, and the side leaves that HTLC there.
 fn left_in(channels: u64, events: &[Event], known: &Known) -> Option<u64> {
     for channel in 0..channels {
@@ -148,8 +146,8 @@ fn is_left(events: &[Event], channel: u64, known: &Known) -> bool {
     false
 }
 
-// The hash of an offer of a side in a channel.
-fn offer_in(event: &Event, channel: u64, by: Side) -> Option<[u8; 32]> {
+/// The hash of an offer of a side in a channel.
+pub fn offer_in(event: &Event, channel: u64, by: Side) -> Option<[u8; 32]> {
     match event {
         Event::Own {
             side,

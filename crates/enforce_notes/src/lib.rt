@@ -16,6 +16,8 @@
 //! The test `names_opcodes_outside_the_table` of `notes_tests` has these lines.
 #![tactic(auto)]
 
+mod deliveries;
+mod fails;
 mod forms;
 mod fulfils;
 mod names;

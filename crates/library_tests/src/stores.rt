@@ -1,11 +1,10 @@
 //! The file in which a book's history is kept.
 
 use anyhow::{Context, Result};
-use book::{Book, Entry};
+use book::{Book, Entry, message_of};
 use book_dump::dumping::dump;
 use book_dump::loading::entry_of;
 use json_value::Value;
-use side::message_of;
 use std::alloc::Global;
 use std::fs;
 use std::fs::{File, OpenOptions};

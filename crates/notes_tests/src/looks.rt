@@ -7,7 +7,7 @@ use std::alloc::Global;
 use std::process::Abort;
 use warnings::{Look, SequenceLock, look_of, sequence_lock};
 
-const KEY_HASH: &str = "751e76e8199196d454941c45d1b3a323f1433bd6";
+const KEY_HASH: &str = "761e76e8199196d454941c45d1b3a323f1433bd6";
 
 const SCRIPT_HASH: &str = "1863143c14c5166804bd19203356da136c985678cd4d27a1b8c6329604903262";
 
@@ -67,10 +67,19 @@ const ENVELOPES: [(&str, &str); 2] = [
 
 // The note on a private key.
 const PRIVATE_KEY: &str =
-    "note: this looks like a private key, which nothing here asks for: it stands in the history of the shell now, so delete it there, and move what it guards to another key\n";
+    "note: this looks like a private key, which nothing here asks for: move what it guards to another key, and delete this one wherever it stands (a word of a command stands in the history of the shell)\n";
 
 // Texts of scripts that are not hexadecimal, and the notes on them.
-const TEXTS: [(&str, &str); 18] = [
+const TEXTS: [(&str, &str); 20] = [
+    // the words of a seed in capitals with commas, and 32 bytes
+    (
+        "ABANDON,Abandon,abandon,abandon,abandon,abandon,abandon,abandon,abandon,abandon,abandon,about",
+        PRIVATE_KEY,
+    ),
+    (
+        "1111111111111111111111111111111111111111111111111111111111111111",
+        "note: these are 32 bytes, as a private key has: if they are one, move what it guards to another key, and delete this one wherever it stands\nnote: the push at byte 18 wants 17 bytes, and 13 follow\nnote: pushed before it: 1111111111111111111111111111111111 (17 bytes) at byte 0\n",
+    ),
     (
         "L1aW4aubDFB7yfras2S1mN3bqg9nwySY8nkoLmJebSLD5BWv3ENZ",
         PRIVATE_KEY,

@@ -106,7 +106,25 @@ const LEARNT: &str =
     "note: event 3: B learns by this fulfil in channel 1 the preimage of an HTLC in channel 0, and does not fulfil that one: a fulfil in one channel is not known in another\n";
 
 // Events, and the notes on them.
-const FULFILS: [(&[&str], &str); 26] = [
+const FULFILS: [(&[&str], &str); 28] = [
+    // what is delivered is an earlier message of A, or a signature, and the fulfil after it
+    (
+        &[
+            OFFER_IN_0, OFFER_OF_B, OTHER_HASH, BY_A_IN_1, TO_B_IN_1, CLOSE_0,
+        ],
+        "",
+    ),
+    (
+        &[
+            OFFER_IN_0,
+            OFFER_OF_B,
+            BY_A_IN_1,
+            ",[\"sign\",\"B\",1],[\"deliver\",\"A\",1]",
+            TO_B_IN_1,
+            CLOSE_0,
+        ],
+        LEARNT,
+    ),
     (&[OFFER_IN_0, OFFER_IN_1, FULFIL_IN_0, CLOSE_1], NOT_IN_1),
     (
         &[
@@ -248,6 +266,25 @@ const FULFILS: [(&[&str], &str); 26] = [
     ),
 ];
 
+// A forward by A: B offers it in channel 1, and A in channel 0.
+const FAIL_BY_A: &str = ",[\"fail\",\"A\",1,0]";
+
+const FAIL_BY_B: &str = ",[\"fail\",\"B\",0,0]";
+
+const FAILED: &str =
+    "note: event 3: A fails an HTLC in channel 1 while it offers the same hash in channel 0: whoever fulfils that one is paid by A alone\n";
+
+// Events, and the notes on a fail before its time.
+const FAILS: [(&[&str], &str); 6] = [
+    (&[OFFER_OF_B, OFFER_IN_0, FAIL_BY_A], FAILED),
+    (&[OFFER_OF_B, OFFER_IN_0, FAIL_BY_A, FAIL_BY_B], FAILED),
+    (&[OFFER_OF_B, OFFER_IN_0, FAIL_BY_B, FAIL_BY_A], ""),
+    // of another number, before the offer, and by who offers nothing
+    (&[OFFER_OF_B, OFFER_IN_0, ",[\"fail\",\"A\",1,1]"], ""),
+    (&[OFFER_OF_B, FAIL_BY_A, OFFER_IN_0], ""),
+    (&[OFFER_OF_B, OFFER_IN_0, FAIL_BY_B], ""),
+];
+
 // Events, and the notes on those that are not counted in threads. Channels are 0 and 1.
 const UNCOUNTED: [(&[&str], &str); 3] = [
     (
@@ -293,6 +330,13 @@ fn noted_after(rt: &impl Abort, alloc: Global, words: &[&str], events: &[&str], 
 #[test]
 fn names_a_fulfil_that_another_channel_lacks(rt: HostRuntime) {
     for (events, notes) in &FULFILS {
+        noted_after(&rt, rt.alloc(), &["run"], events, notes);
+    }
+}
+
+#[test]
+fn names_a_fail_before_its_time(rt: HostRuntime) {
+    for (events, notes) in &FAILS {
         noted_after(&rt, rt.alloc(), &["run"], events, notes);
     }
 }

@@ -6,14 +6,19 @@ use std::alloc::Global;
 use std::process::Abort;
 
 // Scripts that are not listed, and the notes on them.
-const REFUSED: [(&str, &str); 9] = [
+const REFUSED: [(&str, &str); 10] = [
+    // 2 of four keys, of which three stand there
+    (
+        "5221021212121212121212121212121212121212121212121212121212121212121212210222222222222222222222222222222222222222222222222222222222222222222102333333333333333333333333333333333333333333333333333333333333333354ae",
+        "note: opcode 5 is OP_CHECKMULTISIG: no rule decides it on what stands on the stack there, so the listing gives up: whether anyone can spend, or nobody, is not said\nnote: where the witness brings the number of signatures, it may be 0, and anyone can spend: compare the number of keys with the keys before it\n",
+    ),
     (
         "87",
-        "note: opcode 0 is OP_EQUAL: no rule decides it on what stands on the stack there, so the listing gives up: the script may be sound\n",
+        "note: opcode 0 is OP_EQUAL: no rule decides it on what stands on the stack there, so the listing gives up: whether anyone can spend, or nobody, is not said\n",
     ),
     (
         "a9",
-        "note: no rule decides whether the last entry is true, so the listing gives up: the script may be sound\n",
+        "note: no rule decides whether the last entry is true, so the listing gives up: whether anyone can spend, or nobody, is not said\n",
     ),
     ("6351", "note: the IF or NOTIF at opcode 0 has no ENDIF\n"),
     ("5167", "note: the ELSE at opcode 1 has no IF\n"),
@@ -39,7 +44,28 @@ const REFUSED: [(&str, &str); 9] = [
 ];
 
 // A piece of a script, how often it stands there, and the notes.
-const LONG: [(&str, usize, &str); 3] = [
+const LONG: [(&str, usize, &str); 7] = [
+    // 100 items, and 101; 3,600 bytes, and 36 more
+    (
+        "75",
+        99,
+        "note: anyone can spend by path 0: no signature of a key that the script fixes is asked for\n",
+    ),
+    (
+        "75",
+        100,
+        "note: anyone can spend by path 0: no signature of a key that the script fixes is asked for\nnote: nodes relay no spend by path 0: it asks for more than 100 items, or for one above 80 bytes\n",
+    ),
+    (
+        "223333333333333333333333333333333333333333333333333333333333333333333375",
+        100,
+        "note: anyone can spend by path 0: no signature of a key that the script fixes is asked for\n",
+    ),
+    (
+        "223333333333333333333333333333333333333333333333333333333333333333333375",
+        101,
+        "note: anyone can spend by path 0: no signature of a key that the script fixes is asked for\nnote: the script has 3636 bytes, and nodes relay no spend of one above 3600\n",
+    ),
     (
         "7675",
         101,
@@ -96,7 +122,23 @@ struct Call {
 
 const HELP: &str = "note: enforce --help says which words there are\n";
 
-const WORDS: [Call; 6] = [
+const WORDS: [Call; 8] = [
+    // a private key, in one word and in twelve
+    Call {
+        words: &[
+            "paths",
+            "--text",
+            "L1aW4aubDFB7yfras2S1mN3bqg9nwySY8nkoLmJebSLD5BWv3ENZ",
+        ],
+        note: "note: this looks like a private key, which nothing here asks for: move what it guards to another key, and delete this one wherever it stands (a word of a command stands in the history of the shell)\nnote: paths takes one word, bytes in hexadecimal, and reads no input: enforce paths HEX\n",
+    },
+    Call {
+        words: &[
+            "paths", "act", "act", "act", "act", "act", "act", "act", "act", "act", "act", "act",
+            "act",
+        ],
+        note: "note: this looks like a private key, which nothing here asks for: move what it guards to another key, and delete this one wherever it stands (a word of a command stands in the history of the shell)\nnote: paths takes one word, bytes in hexadecimal, and reads no input: enforce paths HEX\n",
+    },
     Call {
         words: &[],
         note: HELP,

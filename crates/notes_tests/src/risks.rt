@@ -21,12 +21,22 @@ const HASHED: &str =
     ": by consensus, though not by relay policy, an uncompressed key with that hash is taken too\n";
 
 const PASSED: &str =
-    "holds nobody up: Bitcoin had passed it before it had witness scripts (BIP 141); CHECKSEQUENCEVERIFY waits a number of blocks\n";
+    "holds nobody up on Bitcoin's main chain, which had passed it before it had witness scripts (BIP 141); CHECKSEQUENCEVERIFY waits a number of blocks\n";
 
 // No point of the curve has this x coordinate.
 const NO_POINT: &str = "021111111111111111111111111111111111111111111111111111111111111111";
 
 const OFF_CURVE: &str = " is no point of the curve: nobody can sign for this key\n";
+
+// The end of the note on a key that stands twice.
+const TWICE: &str = " twice: who has it signs for both\n";
+
+// The x coordinates of the first key above, of G (SEC 2, 2.4.1) and of H (BIP 341).
+const X: &str = "1212121212121212121212121212121212121212121212121212121212121212";
+
+const G: &str = "79be667ef9dcbbac55a06295ce870b07029bfcdb2dce28d959f2815b16f81798";
+
+const H: &str = "50929b74c1a04954b78b4b6035e97a5e078a5a0f28ec96d547bfee9ace803ac0";
 
 // A script in pieces, and the notes on it in pieces.
 struct Case {
@@ -34,7 +44,7 @@ struct Case {
     notes: &'static [&'static str],
 }
 
-const RISKS: [Case; 37] = [
+const RISKS: [Case; 33] = [
     // the number 1; the empty script; IF 1 ELSE 2 ENDIF
     Case {
         code: &["51"],
@@ -80,6 +90,160 @@ const RISKS: [Case; 37] = [
         code: &["a914", HASH, "8821", KEY, "ac"],
         notes: &[],
     },
+    // CHECKSIG of a key that is no point of the curve; the same key twice, and a hash of its form that is asked for
+    Case {
+        code: &["21", NO_POINT, "ac"],
+        notes: &["note: opcode 0: ", NO_POINT, OFF_CURVE],
+    },
+    Case {
+        code: &["6321", NO_POINT, "ac67029000b27521", NO_POINT, "ac68"],
+        notes: &["note: opcode 1: ", NO_POINT, OFF_CURVE],
+    },
+    // 1 of two keys, the second of which is none
+    Case {
+        code: &["5121", KEY, "21", NO_POINT, "52ae"],
+        notes: &["note: opcode 2: ", NO_POINT, OFF_CURVE],
+    },
+    // 2 of three keys, two of which are one, by a number and by a push of it; one after the other; and twice alone
+    Case {
+        code: &["5221", KEY, "21", OTHER_KEY, "21", KEY, "53ae"],
+        notes: &["note: path 0 has the key ", KEY, TWICE],
+    },
+    Case {
+        code: &["21", KEY, "755121", KEY, "21", OTHER_KEY, "52ae"],
+        notes: &[],
+    },
+    Case {
+        code: &["21", KEY, "ac6321", KEY, "ac670068"],
+        notes: &[
+            "note: nobody can spend by the branch after the ELSE at opcode 5: after the last opcode it leaves the empty item, which is false\n",
+            "note: path 0 has the key ",
+            KEY,
+            TWICE,
+        ],
+    },
+    // 2 of a key and its negation
+    Case {
+        code: &["5221", KEY, "2103", X, "52ae"],
+        notes: &[
+            "note: path 0 has the key 03",
+            X,
+            " and its negation ",
+            KEY,
+            ": who has one has both\n",
+        ],
+    },
+    // a forgotten DROP before an IF; NOTIF of a constant; and an IF of one with nothing to run otherwise
+    Case {
+        code: &["029000b26321", KEY, "6721", OTHER_KEY, "68ac"],
+        notes: &[
+            "note: the branch after the ELSE at opcode 4 is never run, so nobody can spend by it: a constant decides the IF at opcode 2, the number of the lock: is a DROP missing?\n",
+        ],
+    },
+    Case {
+        code: &["516421", KEY, "6721", OTHER_KEY, "68ac"],
+        notes: &[
+            "note: the branch after the NOTIF at opcode 1 is never run, so nobody can spend by it: a constant decides the NOTIF at opcode 1\n",
+        ],
+    },
+    Case {
+        code: &["516321", KEY, "68ac"],
+        notes: &[],
+    },
+    // IF decides by which of two constants another IF goes: both ways are run
+    Case {
+        code: &["635167006863516751687521", KEY, "ac"],
+        notes: &[],
+    },
+    // 5 by two bytes, and 17, which has no opcode
+    Case {
+        code: &["0105b27521", KEY, "ac"],
+        notes: &[
+            "note: opcode 0, a push of 05 (1 byte): nodes relay no spend that runs it, since the opcode 55 pushes the same (minimal pushes)\n",
+        ],
+    },
+    Case {
+        code: &["0111b27521", KEY, "ac"],
+        notes: &[],
+    },
+    // 65536 or 144 before the same CHECKSEQUENCEVERIFY
+    Case {
+        code: &["630300000167029000", "68b27521", KEY, "ac"],
+        notes: &[
+            "note: opcode 5, CHECKSEQUENCEVERIFY of 65536, asks for an age of 0 blocks: of a number only bits 0 to 15, 22 and 31 count (BIP 68)\n",
+        ],
+    },
+    // the last age without a note, and the first with one
+    Case {
+        code: &["02e007b27521", KEY, "ac"],
+        notes: &[],
+    },
+    Case {
+        code: &["02e107b27521", KEY, "ac"],
+        notes: &["note: path 0 waits 2017 blocks, about 14 days at ten minutes each\n"],
+    },
+    // the first height with witness scripts, and the greatest that is not far
+    Case {
+        code: &["03205a07b17521", KEY, "ac"],
+        notes: &[
+            "note: path 0 waits for a block above height 481824, on Bitcoin's main chain about 2017-08\n",
+        ],
+    },
+    Case {
+        code: &["03404b4cb17521", KEY, "ac"],
+        notes: &[
+            "note: path 0 waits for a block above height 5000000, on Bitcoin's main chain about 2103-05\n",
+        ],
+    },
+    // the point G, the negation of the point H of BIP 341, and HASH160 of nothing
+    Case {
+        code: &["2102", G, "ac"],
+        notes: &[
+            "note: opcode 0: 02",
+            G,
+            " is the point G, whose private key is 1: anyone can sign for it\n",
+        ],
+    },
+    Case {
+        code: &["2103", H, "ac"],
+        notes: &[
+            "note: opcode 0: 03",
+            H,
+            " is the point H of BIP 341, whose private key nobody knows: nobody can sign for it\n",
+        ],
+    },
+    Case {
+        code: &[
+            "a914b472a266d0bd89c13706a4132ccfb16f7c3b9fcb8821",
+            KEY,
+            "ac",
+        ],
+        notes: &[
+            "note: opcode 1: b472a266d0bd89c13706a4132ccfb16f7c3b9fcb is the hash of nothing: as a hash it keeps nobody out, or everybody\n",
+        ],
+    },
+    // items of 80 bytes, and of 81
+    Case {
+        code: &["8201508875", "21", KEY, "ac"],
+        notes: &[],
+    },
+    Case {
+        code: &["8201518875", "21", KEY, "ac"],
+        notes: &[
+            "note: nodes relay no spend by path 0: it asks for more than 100 items, or for one above 80 bytes\n",
+        ],
+    },
+    // a signature of 66 bytes
+    Case {
+        code: &["8201428821", KEY, "ac"],
+        notes: &[
+            "note: a signature of a given size, or with given bytes, is asked for on path 0: here it is a token of 66 bytes, and in Bitcoin it has 71 or 72 mostly, so the path may be met by nobody\n",
+        ],
+    },
+];
+
+// Scripts with locks, and the notes on them.
+const LOCKS: [Case; 22] = [
     // 65536 CHECKSEQUENCEVERIFY DROP and a signature: an age of 0
     Case {
         code: &["03000001b27521", KEY, "ac"],
@@ -99,7 +263,7 @@ const RISKS: [Case; 37] = [
         code: &["03010041b27521", KEY, "ac"],
         notes: &[
             "note: opcode 1, CHECKSEQUENCEVERIFY of 4259841, asks for an age of 1 unit of 512 seconds: of a number only bits 0 to 15, 22 and 31 count (BIP 68)\n",
-            "note: path 0 waits 1 unit of 512 seconds, which its age does not tell: that is in blocks (BIP 68)\n",
+            "note: path 0 waits 1 unit of 512 seconds, about 9 minutes, which its age does not tell: that is in blocks (BIP 68)\n",
         ],
     },
     // 65537 CHECKSEQUENCEVERIFY: bit 16, and an age of 1
@@ -114,7 +278,7 @@ const RISKS: [Case; 37] = [
         code: &["05feffffff00b17521", KEY, "ac"],
         notes: &[
             "note: opcode 1, CHECKLOCKTIMEVERIFY of 4294967294, waits until after the year 2099\n",
-            "note: path 0 waits until the median time past is above 4294967294: its lock is a time, in seconds since 1970 (BIP 113)\n",
+            "note: path 0 waits until the median time past is above 4294967294, 2106-02-07 in UTC: its lock is a time, in seconds since 1970 (BIP 113)\n",
         ],
     },
     Case {
@@ -142,11 +306,14 @@ const RISKS: [Case; 37] = [
         code: &["020120b27521", KEY, "ac"],
         notes: &[
             "note: opcode 1, CHECKSEQUENCEVERIFY of 8193: the same bytes in the other order are 288, and a number is little-endian\n",
+            "note: path 0 waits 8193 blocks, about 57 days at ten minutes each\n",
         ],
     },
     Case {
         code: &["0350f80cb17521", KEY, "ac"],
-        notes: &[],
+        notes: &[
+            "note: path 0 waits for a block above height 850000, on Bitcoin's main chain about 2024-06\n",
+        ],
     },
     Case {
         code: &["022001b27521", KEY, "ac"],
@@ -172,19 +339,19 @@ const RISKS: [Case; 37] = [
     },
     Case {
         code: &["03ffff00b27521", KEY, "ac"],
-        notes: &[],
+        notes: &["note: path 0 waits 65535 blocks, about 455 days at ten minutes each\n"],
     },
     // a key, or another one after 5063 units of 512 seconds; the same from a time on; and after 499999999 blocks, which is none
     Case {
         code: &["6321", KEY, "ac6703c71340b27521", OTHER_KEY, "ac68"],
         notes: &[
-            "note: path 1 waits 5063 units of 512 seconds, which its age does not tell: that is in blocks (BIP 68)\n",
+            "note: path 1 waits 5063 units of 512 seconds, about 30 days, which its age does not tell: that is in blocks (BIP 68)\n",
         ],
     },
     Case {
         code: &["6321", KEY, "ac6704803bb16ab17521", OTHER_KEY, "ac68"],
         notes: &[
-            "note: path 1 waits until the median time past is above 1790000000: its lock is a time, in seconds since 1970 (BIP 113)\n",
+            "note: path 1 waits until the median time past is above 1790000000, 2026-09-21 in UTC: its lock is a time, in seconds since 1970 (BIP 113)\n",
         ],
     },
     Case {
@@ -203,13 +370,13 @@ const RISKS: [Case; 37] = [
         notes: &[
             "note: opcode 1, CHECKLOCKTIMEVERIFY of 1503539856, ",
             PASSED,
-            "note: path 0 waits until the median time past is above 1503539856: its lock is a time, in seconds since 1970 (BIP 113)\n",
+            "note: path 0 waits until the median time past is above 1503539856, 2017-08-24 in UTC: its lock is a time, in seconds since 1970 (BIP 113)\n",
         ],
     },
     Case {
         code: &["0491329e59b17521", KEY, "ac"],
         notes: &[
-            "note: path 0 waits until the median time past is above 1503539857: its lock is a time, in seconds since 1970 (BIP 113)\n",
+            "note: path 0 waits until the median time past is above 1503539857, 2017-08-24 in UTC: its lock is a time, in seconds since 1970 (BIP 113)\n",
         ],
     },
     // the first second of 2100
@@ -217,37 +384,7 @@ const RISKS: [Case; 37] = [
         code: &["05005786f400b17521", KEY, "ac"],
         notes: &[
             "note: opcode 1, CHECKLOCKTIMEVERIFY of 4102444800, waits until after the year 2099\n",
-            "note: path 0 waits until the median time past is above 4102444800: its lock is a time, in seconds since 1970 (BIP 113)\n",
-        ],
-    },
-    // CHECKSIG of a key that is no point of the curve; the same key twice, and a hash of its form that is asked for
-    Case {
-        code: &["21", NO_POINT, "ac"],
-        notes: &["note: opcode 0: ", NO_POINT, OFF_CURVE],
-    },
-    Case {
-        code: &["6321", NO_POINT, "ac67029000b27521", NO_POINT, "ac68"],
-        notes: &["note: opcode 1: ", NO_POINT, OFF_CURVE],
-    },
-    // 1 of two keys, the second of which is none
-    Case {
-        code: &["5121", KEY, "21", NO_POINT, "52ae"],
-        notes: &["note: opcode 2: ", NO_POINT, OFF_CURVE],
-    },
-    // 2 of three keys, two of which are one, by a number and by a push of it; and one after the other
-    Case {
-        code: &["5221", KEY, "21", OTHER_KEY, "21", KEY, "53ae"],
-        notes: &["note: opcode 5, CHECKMULTISIG, has a key twice: one signature counts for both\n"],
-    },
-    Case {
-        code: &["21", KEY, "755121", KEY, "21", OTHER_KEY, "52ae"],
-        notes: &[],
-    },
-    // a signature of 66 bytes
-    Case {
-        code: &["8201428821", KEY, "ac"],
-        notes: &[
-            "note: a signature of a given size, or with given bytes, is asked for on path 0: here it is a token of 66 bytes, and in Bitcoin it has 71 or 72 mostly, so the path may be met by nobody\n",
+            "note: path 0 waits until the median time past is above 4102444800, 2100-01-01 in UTC: its lock is a time, in seconds since 1970 (BIP 113)\n",
         ],
     },
 ];
@@ -269,6 +406,19 @@ const TIMEOUT: &str =
     "note: path 1 is the timeout of an offered HTLC (BOLT 3): nobody can take it at once, since the other side signs only a transaction whose lock time is the HTLC's cltv_expiry\n";
 
 const NO_KEY: &str = "042222222222222222222222222222222222222222222222222222222222222222";
+
+// The same with one key for both.
+const OF_ONE: [&str; 9] = [
+    "76a914",
+    HASH,
+    "8763ac6721",
+    KEY,
+    "7c820120876475527c21",
+    KEY,
+    "52ae67a914",
+    PAYMENT_HASH,
+    "88ac6868",
+];
 
 // The same with a key of another form in the timeout, which then ends and is not listed.
 const WITHOUT_TIMEOUT: [&str; 9] = [
@@ -298,6 +448,13 @@ fn tells_who_else_can_spend(rt: HostRuntime) {
 }
 
 #[test]
+fn tells_what_a_lock_asks(rt: HostRuntime) {
+    for case in &LOCKS {
+        has_risks(&rt, rt.alloc(), case.code, case.notes);
+    }
+}
+
+#[test]
 fn tells_of_an_offered_htlc(rt: HostRuntime) {
     let notes = [
         "note: a key is taken by its hash on path 0",
@@ -305,10 +462,19 @@ fn tells_of_an_offered_htlc(rt: HostRuntime) {
         TIMEOUT,
     ];
     has_risks(&rt, rt.alloc(), &OFFERED, &notes);
+    let of_one = [
+        "note: a key is taken by its hash on path 0",
+        HASHED,
+        "note: path 1 has the key ",
+        KEY,
+        TWICE,
+        TIMEOUT,
+    ];
+    has_risks(&rt, rt.alloc(), &OF_ONE, &of_one);
     let without = [
         "note: a branch ends at opcode 18: ",
         NO_KEY,
-        " (33 bytes) is no key here (a key has 33 bytes, and begins with 02 or 03); consensus is laxer, and may let others spend\n",
+        " (33 bytes) is no key here (a key has 33 bytes, and begins with 02 or 03); in consensus no signature is valid for it either, and other keys may sign\n",
         "note: a key is taken by its hash on path 0",
         HASHED,
     ];

@@ -202,11 +202,23 @@ const NONE_OF_KEY: &str =
     "note: these bytes have the form of an output's program, P2PK: such an output has no witness script; this key spends it\nnote: no witness satisfies the script by the rules of this profile, which are stricter than consensus\n";
 
 // What bytes of a script are not that a rule asks for.
-const NO_KEY: &str = "no key here (a key has 33 bytes, and begins with 02 or 03)";
+const NO_KEY: &str =
+    "no key here (a key has 33 bytes, and begins with 02 or 03); in consensus no signature is valid for it either, and other keys may sign\n";
 
-const NO_NUMBER: &str = "no number here (numbers are minimally encoded)";
+const UNCOMPRESSED: &str =
+    "no key here (a key has 33 bytes, and begins with 02 or 03); consensus takes this one, and nodes relay no spend with it\n";
 
-const NO_SIGNATURE: &str = "no signature here (signatures are tokens)";
+const OF_TAPROOT: &str =
+    "no key here (a key has 33 bytes, and begins with 02 or 03), as taproot alone has them; in consensus no signature is valid for it, and other keys may sign\n";
+
+const NO_NUMBER: &str =
+    "no number here (numbers are minimally encoded); consensus is laxer, and may let others spend\n";
+
+const NO_SIGNATURE: &str =
+    "no signature here (signatures are tokens); consensus is laxer, and may let others spend\n";
+
+// A key of taproot (BIP 340).
+const X_ONLY: &str = "1212121212121212121212121212121212121212121212121212121212121212";
 
 // A script one of whose branches ends at an opcode: the pieces of its code, what is noted before, the
 // opcode with its bytes as they are named, and the rule.
@@ -218,24 +230,30 @@ struct End {
 }
 
 // Keys in the script that do not have 33 bytes, numbers that are not minimally encoded, and signatures in the script.
-const ENDS: [End; 8] = [
+const ENDS: [End; 9] = [
+    End {
+        code: &["20", X_ONLY, "ac"],
+        before: NONE,
+        at: &["1: ", X_ONLY, " (32 bytes)"],
+        rule: OF_TAPROOT,
+    },
     End {
         code: &["41", LONG_KEY, "ac"],
         before: NONE_OF_KEY,
         at: &["1: ", LONG_KEY, " (65 bytes)"],
-        rule: NO_KEY,
+        rule: UNCOMPRESSED,
     },
     End {
         code: &["6341", LONG_KEY, "ac6721", KEY, "ac68"],
         before: "",
         at: &["2: ", LONG_KEY, " (65 bytes)"],
-        rule: NO_KEY,
+        rule: UNCOMPRESSED,
     },
     End {
         code: &["5121", KEY, "41", LONG_KEY, "52ae"],
         before: NONE,
         at: &["4: ", LONG_KEY, " (65 bytes)"],
-        rule: NO_KEY,
+        rule: UNCOMPRESSED,
     },
     End {
         code: &["820114ac"],
@@ -273,11 +291,10 @@ const ENDS: [End; 8] = [
 fn notes_on(rt: &impl Abort, alloc: Global, end: &End) -> String {
     let at = joined(rt, alloc, end.at);
     let note = "note: a branch ends at opcode ";
-    let laxer = "; consensus is laxer, and may let others spend\n";
     joined(
         rt,
         alloc,
-        &[end.before, note, at.as_str(), " is ", end.rule, laxer],
+        &[end.before, note, at.as_str(), " is ", end.rule],
     )
 }
 
@@ -308,7 +325,12 @@ fn tells_exact_ends(rt: HostRuntime) {
         rt.alloc(),
         &["006341", LONG_KEY, "ac6721", KEY, "ac68"],
     );
-    noted_of(&rt, rt.alloc(), dead.as_str(), "");
+    noted_of(
+        &rt,
+        rt.alloc(),
+        dead.as_str(),
+        "note: the branch after the IF at opcode 1 is never run, so nobody can spend by it: a constant decides the IF at opcode 1\n",
+    );
 }
 
 // Asserts the notes on a script of which nobody can spend by one branch.

@@ -1,5 +1,6 @@
 // Notes on calls that read no scenario.
 
+use crate::looks::note_private_key;
 use crate::scripts::{message_notes, notes};
 use std::alloc::{AllocError, Global};
 
@@ -14,13 +15,25 @@ pub fn call_notes(alloc: Global, words: &[String], status: u8) -> Result<String,
     }
 }
 
-// Notes on wrong words: what the first of them wants.
+/// The note on a private key among the words of a call, also one of several words; empty if there is none. The only error is that memory ran out.
+pub fn secret_note(alloc: Global, words: &[String]) -> Result<String, AllocError> {
+    let mut text = String::new(alloc);
+    for word in words {
+        text.push_str(word.as_str())?;
+        text.push_str(" ")?;
+    }
+    let mut notes = String::new(alloc);
+    note_private_key(&mut notes, text.as_str())?;
+    Ok(notes)
+}
+
+// Notes on wrong words: a private key among them, and what the first of them wants.
 fn help(alloc: Global, words: &[String]) -> Result<String, AllocError> {
     let text = match words.split_first() {
         Some((name, _)) => wanted_by(name.as_str()),
         None => HELP,
     };
-    let mut notes = String::new(alloc);
+    let mut notes = secret_note(alloc, words)?;
     notes.push_str(text)?;
     Ok(notes)
 }

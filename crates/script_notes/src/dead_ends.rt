@@ -12,8 +12,8 @@ use std::alloc::{AllocError, Global};
 use std::fmt::Write;
 use strictness::{Choice, DeadEnd, Fate, Fault, fate_along};
 
-// A listed script begins at most 64 branches, which split in 63 places.
-const MAX_FATES: usize = 127;
+/// A listed script begins at most 64 branches, which split in 63 places.
+pub const MAX_FATES: usize = 127;
 
 /// Notes the branches of a listed script by which nobody can spend in consensus either.
 pub fn note_dead_ends(notes: &mut String, alloc: Global, ops: &[Op]) -> Result<(), AllocError>
@@ -41,8 +41,8 @@ pub fn note_dead_ends(notes: &mut String, alloc: Global, ops: &[Op]) -> Result<(
     Ok(())
 }
 
-// Goes the other way at the last choice that leaves one, and returns whether there is such a choice.
-fn turn_back(choices: &mut Vec<Choice>) -> Result<bool, AllocError> {
+/// Goes the other way at the last choice that leaves one, and returns whether there is such a choice.
+pub fn turn_back(choices: &mut Vec<Choice>) -> Result<bool, AllocError> {
     for _step in 0..choices.len() {
         match choices.pop() {
             Some(last) if last.runs => {
@@ -79,8 +79,8 @@ fn note_dead_end(
     write_end(notes, end)
 }
 
-// The opcode after which a branch goes on, and its name.
-fn place(ops: &[Op], choice: Choice) -> (&'static str, usize) {
+/// The opcode after which a branch goes on, and its name.
+pub fn place(ops: &[Op], choice: Choice) -> (&'static str, usize) {
     if choice.runs {
         return match ops.get(choice.op) {
             Some(Op::NotIf) => ("NOTIF", choice.op),

@@ -18,10 +18,13 @@
 mod calls;
 mod conflicts;
 mod curve;
+mod dates;
 mod dead_ends;
+mod decided;
 mod keys;
 mod looks;
 mod names;
+mod origins;
 mod pushes;
 mod refusals;
 mod risks;
@@ -29,7 +32,10 @@ mod scripts;
 mod sizes;
 mod unknowns;
 
-pub use calls::call_notes;
+pub use calls::{call_notes, secret_note};
 pub use curve::is_curve_x;
+pub use decided::short_of;
+pub use origins::{origin_of_hash, origin_of_point};
+pub use risks::{MAX_RELAYED_ITEM, MAX_RELAYED_ITEMS, MAX_RELAYED_SCRIPT};
 pub use scripts::notes;
 pub use strictness::is_der;

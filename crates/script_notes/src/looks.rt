@@ -61,7 +61,26 @@ fn text_of_look(look: Look) -> &'static str {
 
 // The note on a private key.
 const PRIVATE_KEY: &str =
-    "note: this looks like a private key, which nothing here asks for: it stands in the history of the shell now, so delete it there, and move what it guards to another key\n";
+    "note: this looks like a private key, which nothing here asks for: move what it guards to another key, and delete this one wherever it stands (a word of a command stands in the history of the shell)\n";
+
+/// Notes a private key in a text, if there is one.
+pub fn note_private_key(notes: &mut String, text: &str) -> Result<(), AllocError> {
+    match text_fault(text) {
+        Some(TextFault::PrivateKey) => notes.push_str(PRIVATE_KEY),
+        _ => Ok(()),
+    }
+}
+
+/// Notes bytes that are no script, and as many as a private key has.
+pub fn note_size_of_key(notes: &mut String, bytes: &[u8]) -> Result<(), AllocError> {
+    if bytes.len() == 32 {
+        notes.push_str(
+            "note: these are 32 bytes, as a private key has: if they are one, move what it guards to another key, and delete this one wherever it stands\n",
+        )
+    } else {
+        Ok(())
+    }
+}
 
 /// Notes a length before a script, as serialisations have it.
 pub fn note_length_before(

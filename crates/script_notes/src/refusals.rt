@@ -50,15 +50,21 @@ fn note_count(notes: &mut String, counted: usize) -> Result<(), AllocError> {
 fn note_undecided(notes: &mut String, ops: &[Op], at: usize) -> Result<(), AllocError> {
     let Some(op) = ops.get(at) else {
         return notes.push_str(
-            "note: no rule decides whether the last entry is true, so the listing gives up: the script may be sound\n",
+            "note: no rule decides whether the last entry is true, so the listing gives up: whether anyone can spend, or nobody, is not said\n",
         );
     };
     let byte = (op.code() % 256) as u8;
     let name = name_of(byte).unwrap_or("a push");
     writeln!(
         notes,
-        "note: opcode {at} is {name}: no rule decides it on what stands on the stack there, so the listing gives up: the script may be sound"
-    )
+        "note: opcode {at} is {name}: no rule decides it on what stands on the stack there, so the listing gives up: whether anyone can spend, or nobody, is not said"
+    )?;
+    match op {
+        Op::CheckMultiSig => notes.push_str(
+            "note: where the witness brings the number of signatures, it may be 0, and anyone can spend: compare the number of keys with the keys before it\n",
+        ),
+        _ => Ok(()),
+    }
 }
 
 // What is wrong with the branches of a script. Opcodes are counted from 0.

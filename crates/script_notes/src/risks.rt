@@ -1,7 +1,9 @@
-// Notes on what endangers money: paths that others can take too, keys that nobody can sign for, locks that ask for less than they say or hold nobody up, locks whose bytes seem to be turned round, and locks by time.
+// Notes on what endangers money: paths that others can take too, branches that no run takes, keys that nobody can sign for, locks that ask for less than they say or hold nobody up, locks whose bytes seem to be turned round, and until when paths wait.
 
 use crate::conflicts::conflict_in;
-use crate::keys::{note_points, note_repeated_keys};
+use crate::dates::{Date, Span, month_of_height};
+use crate::decided::{Decided, note_long_pushes, note_unrun};
+use crate::keys::{note_origins, note_points, note_repeated_keys};
 use facts::{Fact, Stated};
 use paths::{Checked, Path};
 use script::Op;
@@ -22,6 +24,23 @@ const HEIGHT: u64 = 900_000;
 
 const BLOCKS_PER_YEAR: u64 = 52_560;
 
+// The heights that are not doubtful.
+const FIRST_HEIGHT: u64 = 481_824;
+
+const LAST_HEIGHT: u64 = 5_000_000;
+
+/// The most bytes of a witness script whose spend nodes relay (Bitcoin Core, `MAX_STANDARD_P2WSH_SCRIPT_SIZE`).
+pub const MAX_RELAYED_SCRIPT: usize = 3_600;
+
+/// The most items beside it (`MAX_STANDARD_P2WSH_STACK_ITEMS`).
+pub const MAX_RELAYED_ITEMS: usize = 100;
+
+/// The most bytes of such an item (`MAX_STANDARD_P2WSH_STACK_ITEM_SIZE`).
+pub const MAX_RELAYED_ITEM: usize = 80;
+
+// Two weeks of blocks.
+const LONG_AGE: u16 = 2_016;
+
 /// Notes on the paths of a listed script.
 pub fn note_risks(notes: &mut String, alloc: Global, checked: &Checked) -> Result<(), AllocError> {
     let paths = checked.paths();
@@ -32,12 +51,20 @@ pub fn note_risks(notes: &mut String, alloc: Global, checked: &Checked) -> Resul
     note_paths(notes, paths, Risk::HashedKey)?;
     note_paths(notes, paths, Risk::HashedSignature)?;
     note_paths(notes, paths, Risk::SizedSignature)?;
+    note_paths(notes, paths, Risk::Unrelayed)?;
+    note_size(notes, checked.script().bytes().len())?;
     let ops = checked.script().ops();
+    let decided = Decided::of(alloc, ops)?;
     note_points(notes, paths, ops)?;
-    note_repeated_keys(notes, ops)?;
-    note_locks(notes, alloc, ops)?;
-    note_turned(notes, alloc, ops)?;
-    note_doubts(notes, alloc, ops)?;
+    note_repeated_keys(notes, paths)?;
+    if !paths.is_empty() {
+        note_unrun(notes, &decided, ops)?;
+        note_origins(notes, ops)?;
+        note_long_pushes(notes, ops)?;
+    }
+    note_locks(notes, alloc, &decided)?;
+    note_turned(notes, alloc, &decided)?;
+    note_doubts(notes, alloc, &decided)?;
     note_waits(notes, paths)?;
     // with keys that have another form than a key's, it has fewer paths
     if paths.len() == 3 && is_offered_htlc(checked.script().bytes()) {
@@ -63,6 +90,8 @@ enum Risk {
     HashedSignature,
     // A signature is asked for whose size or bytes are given.
     SizedSignature,
+    // Nodes do not relay its witness.
+    Unrelayed,
 }
 
 impl Risk {
@@ -78,6 +107,7 @@ impl Risk {
             Risk::SizedSignature => {
                 "note: a signature of a given size, or with given bytes, is asked for on path"
             }
+            Risk::Unrelayed => "note: nodes relay no spend by path",
         }
     }
 
@@ -101,6 +131,7 @@ impl Risk {
             Risk::SizedSignature => {
                 ": here it is a token of 66 bytes, and in Bitcoin it has 71 or 72 mostly, so the path may be met by nobody\n"
             }
+            Risk::Unrelayed => ": it asks for more than 100 items, or for one above 80 bytes\n",
         }
     }
 }
@@ -127,7 +158,29 @@ fn has_risk(path: &Path, risk: Risk) -> bool {
         Risk::HashedSignature | Risk::SizedSignature => facts
             .iter()
             .any(|stated| is_said_of_signature(facts, stated, risk)),
+        Risk::Unrelayed => {
+            path.arity > MAX_RELAYED_ITEMS || facts.iter().any(|stated| is_long(stated))
+        }
     }
+}
+
+// Whether a fact asks for an item that is too long for nodes to relay.
+fn is_long(stated: &Stated) -> bool {
+    match &stated.fact {
+        Fact::Size(_, size) => stated.holds && *size as usize > MAX_RELAYED_ITEM,
+        _ => false,
+    }
+}
+
+// Notes a script that is too long for nodes to relay a spend of it.
+fn note_size(notes: &mut String, len: usize) -> Result<(), AllocError> {
+    if len > MAX_RELAYED_SCRIPT {
+        writeln!(
+            notes,
+            "note: the script has {len} bytes, and nodes relay no spend of one above {MAX_RELAYED_SCRIPT}"
+        )?;
+    }
+    Ok(())
 }
 
 // Whether a fact asks for a signature of which another one of its path gives the hash, or the size or the bytes.
@@ -172,17 +225,17 @@ fn note_paths(notes: &mut String, paths: &[Path], risk: Risk) -> Result<(), Allo
 }
 
 // Notes the relative locks that ask for less than their number says.
-fn note_locks(notes: &mut String, alloc: Global, ops: &[Op]) -> Result<(), AllocError> {
-    let warnings = lock_warnings(alloc, ops)?;
+fn note_locks(notes: &mut String, alloc: Global, decided: &Decided) -> Result<(), AllocError> {
+    let warnings = lock_warnings(alloc, decided.locks.as_slice())?;
     for warning in &warnings {
-        note_lock(notes, warning)?;
+        note_lock(notes, decided.place_of(warning.op), warning)?;
     }
     Ok(())
 }
 
-// Notes one relative lock.
-fn note_lock(notes: &mut String, warning: &LockWarning) -> Result<(), AllocError> {
-    let (op, number) = (warning.op, warning.number);
+// Notes one relative lock, which stands at an opcode.
+fn note_lock(notes: &mut String, op: usize, warning: &LockWarning) -> Result<(), AllocError> {
+    let number = warning.number;
     write!(
         notes,
         "note: opcode {op}, CHECKSEQUENCEVERIFY of {number}, asks for "
@@ -207,18 +260,22 @@ fn note_lock(notes: &mut String, warning: &LockWarning) -> Result<(), AllocError
 }
 
 // Notes the locks whose number seems to have its bytes turned round.
-fn note_turned(notes: &mut String, alloc: Global, ops: &[Op]) -> Result<(), AllocError> {
-    let locks = turned_locks(alloc, ops)?;
+fn note_turned(notes: &mut String, alloc: Global, decided: &Decided) -> Result<(), AllocError> {
+    let locks = turned_locks(alloc, decided.locks.as_slice())?;
     for lock in &locks {
-        note_turned_lock(notes, ops, lock)?;
+        note_turned_lock(notes, decided, lock)?;
     }
     Ok(())
 }
 
 // Notes one such lock.
-fn note_turned_lock(notes: &mut String, ops: &[Op], lock: &TurnedLock) -> Result<(), AllocError> {
-    let (op, number, turned) = (lock.op, lock.number, lock.turned);
-    let name = match ops.get(op) {
+fn note_turned_lock(
+    notes: &mut String,
+    decided: &Decided,
+    lock: &TurnedLock,
+) -> Result<(), AllocError> {
+    let (op, number, turned) = (decided.place_of(lock.op), lock.number, lock.turned);
+    let name = match decided.locks.get(lock.op) {
         Some(Op::CheckLockTimeVerify) => "CHECKLOCKTIMEVERIFY",
         _ => "CHECKSEQUENCEVERIFY",
     };
@@ -229,24 +286,24 @@ fn note_turned_lock(notes: &mut String, ops: &[Op], lock: &TurnedLock) -> Result
 }
 
 // Notes the absolute locks that hold nobody up, or nearly for ever.
-fn note_doubts(notes: &mut String, alloc: Global, ops: &[Op]) -> Result<(), AllocError> {
-    let locks = doubtful_locks(alloc, ops)?;
+fn note_doubts(notes: &mut String, alloc: Global, decided: &Decided) -> Result<(), AllocError> {
+    let locks = doubtful_locks(alloc, decided.locks.as_slice())?;
     for lock in &locks {
-        note_doubt(notes, lock)?;
+        note_doubt(notes, decided.place_of(lock.op), lock)?;
     }
     Ok(())
 }
 
-// Notes one such lock.
-fn note_doubt(notes: &mut String, lock: &DoubtfulLock) -> Result<(), AllocError> {
-    let (op, number) = (lock.op, lock.number);
+// Notes one such lock, which stands at an opcode.
+fn note_doubt(notes: &mut String, op: usize, lock: &DoubtfulLock) -> Result<(), AllocError> {
+    let number = lock.number;
     write!(
         notes,
         "note: opcode {op}, CHECKLOCKTIMEVERIFY of {number}, "
     )?;
     match lock.doubt {
         LockDoubt::Passed => notes.push_str(
-            "holds nobody up: Bitcoin had passed it before it had witness scripts (BIP 141); CHECKSEQUENCEVERIFY waits a number of blocks\n",
+            "holds nobody up on Bitcoin's main chain, which had passed it before it had witness scripts (BIP 141); CHECKSEQUENCEVERIFY waits a number of blocks\n",
         ),
         LockDoubt::FarHeight => {
             let years = number.saturating_sub(HEIGHT) / BLOCKS_PER_YEAR;
@@ -264,25 +321,50 @@ fn plural(count: u16) -> &'static str {
     if count == 1 { "" } else { "s" }
 }
 
-// Notes the paths that somebody may meet and whose lock is a time, which their line does not tell.
+// Notes until when the paths wait that somebody may meet, where their line does not tell.
 fn note_waits(notes: &mut String, paths: &[Path]) -> Result<(), AllocError> {
     for (index, path) in paths.iter().enumerate() {
         let facts = path.facts.values();
         if !has_unreachable_lock(facts) && conflict_in(facts).is_none() {
-            note_time(notes, index, path.lock)?;
+            note_lock_time(notes, index, path.lock)?;
+            note_age(notes, index, path.age)?;
             note_units(notes, index, greatest_units(facts))?;
         }
     }
     Ok(())
 }
 
-// Notes a path whose absolute lock is a time.
-fn note_time(notes: &mut String, index: usize, lock: Option<u64>) -> Result<(), AllocError> {
+// Notes the day until which a path waits whose absolute lock is a time, and the month of one that is a height, where it is not doubtful.
+fn note_lock_time(notes: &mut String, index: usize, lock: Option<u64>) -> Result<(), AllocError> {
     match lock {
-        Some(lock) if lock >= LOCKTIME_THRESHOLD => writeln!(
-            notes,
-            "note: path {index} waits until the median time past is above {lock}: its lock is a time, in seconds since 1970 (BIP 113)"
-        ),
+        Some(lock) if lock >= LOCKTIME_THRESHOLD => {
+            let date = Date::of(lock);
+            writeln!(
+                notes,
+                "note: path {index} waits until the median time past is above {lock}, {date} in UTC: its lock is a time, in seconds since 1970 (BIP 113)"
+            )
+        }
+        Some(lock) if FIRST_HEIGHT <= lock && lock <= LAST_HEIGHT => {
+            let (year, month) = month_of_height(lock);
+            writeln!(
+                notes,
+                "note: path {index} waits for a block above height {lock}, on Bitcoin's main chain about {year}-{month:02}"
+            )
+        }
+        _ => Ok(()),
+    }
+}
+
+// Notes how long a path waits that waits for more than two weeks of blocks.
+fn note_age(notes: &mut String, index: usize, age: Option<u16>) -> Result<(), AllocError> {
+    match age {
+        Some(age) if age > LONG_AGE => {
+            let span = Span::of_blocks(u64::from(age));
+            writeln!(
+                notes,
+                "note: path {index} waits {age} blocks, about {span} at ten minutes each"
+            )
+        }
         _ => Ok(()),
     }
 }
@@ -291,10 +373,10 @@ fn note_time(notes: &mut String, index: usize, lock: Option<u64>) -> Result<(), 
 fn note_units(notes: &mut String, index: usize, units: Option<u16>) -> Result<(), AllocError> {
     match units {
         Some(units) if units > 0 => {
-            let end = plural(units);
+            let (end, span) = (plural(units), Span(u64::from(units).saturating_mul(512)));
             writeln!(
                 notes,
-                "note: path {index} waits {units} unit{end} of 512 seconds, which its age does not tell: that is in blocks (BIP 68)"
+                "note: path {index} waits {units} unit{end} of 512 seconds, about {span}, which its age does not tell: that is in blocks (BIP 68)"
             )
         }
         _ => Ok(()),

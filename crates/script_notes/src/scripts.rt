@@ -4,7 +4,7 @@ ghost use Rattle.strictness.specs.Machine.{NobodySpends};
 
 use crate::conflicts::{conflict_in, is_of_token_size};
 use crate::dead_ends::note_dead_ends;
-use crate::looks::{note_length_before, note_look, note_message, note_text};
+use crate::looks::{note_length_before, note_look, note_message, note_size_of_key, note_text};
 use crate::pushes::note_pushes;
 use crate::refusals::note_refusal;
 use crate::risks::note_risks;
@@ -42,7 +42,10 @@ fn note_bytes(notes: &mut String, alloc: Global, bytes: &[u8]) -> Result<(), All
     match Script::parse(alloc, bytes) {
         Ok(script) => note_script(notes, alloc, bytes, script),
         Err(_) if is_other => Ok(()),
-        Err(error) => note_fault(notes, alloc, bytes, error),
+        Err(error) => {
+            note_size_of_key(notes, bytes)?;
+            note_fault(notes, alloc, bytes, error)
+        }
     }
 }
 
@@ -149,22 +152,23 @@ fn note_stricter(notes: &mut String) -> Result<(), AllocError> {
 fn note_end(notes: &mut String, end: &StrictEnd) -> Result<(), AllocError> {
     let (op, bytes) = (end.op, Counted(end.bytes.as_slice()));
     write!(notes, "note: a branch ends at opcode {op}: {bytes}")?;
-    notes.push_str(text_of_rule(end.rule))
-}
-
-// What bytes are by the rule that they break.
-fn text_of_rule(rule: Rule) -> &'static str {
-    match rule {
-        Rule::Key => {
-            " is no key here (a key has 33 bytes, and begins with 02 or 03); consensus is laxer, and may let others spend\n"
+    notes.push_str(match end.rule {
+        Rule::Key => " is no key here (a key has 33 bytes, and begins with 02 or 03)",
+        Rule::Signature => " is no signature here (signatures are tokens)",
+        Rule::Number => " is no number here (numbers are minimally encoded)",
+    })?;
+    notes.push_str(match (end.rule, end.bytes.as_slice()) {
+        (Rule::Key, [4 | 6 | 7, point @ ..]) if point.len() == 64 => {
+            "; consensus takes this one, and nodes relay no spend with it\n"
         }
-        Rule::Signature => {
-            " is no signature here (signatures are tokens); consensus is laxer, and may let others spend\n"
+        (Rule::Key, x) if x.len() == 32 => {
+            ", as taproot alone has them; in consensus no signature is valid for it, and other keys may sign\n"
         }
-        Rule::Number => {
-            " is no number here (numbers are minimally encoded); consensus is laxer, and may let others spend\n"
+        (Rule::Key, _) => {
+            "; in consensus no signature is valid for it either, and other keys may sign\n"
         }
-    }
+        _ => "; consensus is laxer, and may let others spend\n",
+    })
 }
 
 // Notes that no witness meets a path.

@@ -14,8 +14,8 @@ mod numbers;
 mod signatures;
 mod ways;
 
-pub use branches::{Ends, Rule, StrictEnd, strict_ends};
-pub use entries::Bytes;
+pub use branches::{Ends, Rule, StrictEnd, Turn, make_turn, strict_ends};
+pub use entries::{Bytes, Entry};
 pub use faults::Fault;
 pub use signatures::is_der;
 pub use ways::{Choice, DeadEnd, Fate, fate_along};

@@ -17,18 +17,21 @@ ghost use Rattle.std.specs.Prelude.{◌≤◌};
 
 mod claims;
 mod loading;
+mod preimages;
 mod standing;
 mod telling;
 
+use crate::dumps::preimages::note_preimages;
 use crate::dumps::telling::tell_book;
 use crate::replies::WRONG_WORDS;
+use book::Book;
 use book_dump::Dump as _;
 use book_dump::errors::LoadError;
 use enforce_notes::repeat_notes;
 use loading::load_dump;
 use page::Page;
 use page::Piece::Count;
-use std::alloc::Global;
+use std::alloc::{AllocError, Global};
 use std::io::{Read, Write};
 use streams::{InputError, read_all, refuse_memory, write_refusal, write_told};
 
@@ -59,13 +62,20 @@ pub fn run_words(alloc: Global, words: &[String], input: &mut dyn Read, out: &mu
     }
 }
 
+// The notes on a book, and on the text of its dump.
+fn notes_of(alloc: Global, book: &Book, bytes: &[u8]) -> Result<String, AllocError> {
+    let mut notes = repeat_notes(alloc, bytes)?;
+    note_preimages(&mut notes, alloc, book)?;
+    Ok(notes)
+}
+
 // Writes the lines of the dump in the bytes, or why it is refused, and returns the status.
 fn tell_dump(alloc: Global, line: &mut Page, bytes: &[u8]) -> u8
     ensures { result ≤ 1 }
 {
     match load_dump(alloc, bytes) {
         Ok(book) => {
-            match repeat_notes(alloc, bytes) {
+            match notes_of(alloc, &book, bytes) {
                 Ok(notes) => tell_book(alloc, line, &book, notes.as_str()),
                 Err(_) => line.fail(),
             }

@@ -15,11 +15,12 @@ mod scripts;
 mod witnesses;
 
 use crate::replies::{WRONG_WORDS, refuse_words};
+use script_notes::secret_note;
 use std::alloc::Global;
 use std::env;
 use std::io::{self, Read, Write};
 use std::process::ExitCode;
-use streams::refuse_memory;
+use streams::{refuse_memory, written};
 
 // The note after words of which the first is none.
 const HELP: &str = "note: trace --help says which words there are\n";
@@ -42,6 +43,7 @@ fn run(
             [_, word, rest @ ..] => {
                 let (status, help) = run_word(alloc, word.as_str(), rest, input, out, err);
                 if status == WRONG_WORDS {
+                    say_secret(alloc, words, err);
                     refuse_words(err, help)
                 } else {
                     status
@@ -53,6 +55,13 @@ fn run(
             io::ErrorKind::OutOfMemory => refuse_memory(out),
             _ => refuse_words(err, HELP),
         },
+    }
+}
+
+/// Says that a private key is among wrong words, if one is.
+fn say_secret(alloc: Global, words: &[String], err: &mut dyn Write) {
+    if let Ok(note) = secret_note(alloc, words) {
+        let _ = written(err, note.as_str(), WRONG_WORDS);
     }
 }
 

@@ -3,8 +3,9 @@
 //!
 //! The input has a transaction in hexadecimal on its first line, and on each line after it the output that an input
 //! spends: its value in satoshis and its program in hexadecimal. [`run_words`] prints of each input which listed path its
-//! witness takes, or at which opcode its script stops, why, and the stack there. It returns a status of at most 2. The
-//! verdicts are those of `judge`, whose contract is exact. Their layout is tested, not proved.
+//! witness takes, or at which opcode its script stops, why, and the stack there. It returns a status of at most 2. After
+//! `--lines` each line of the input is such a text, and is answered before the next one is read. The verdicts are those of
+//! `judge`, whose contract is exact. Their layout is tested, not proved.
 //!
 //! The crate `judge` judges the inputs. The program `trace` passes it the words.
 //!
@@ -17,6 +18,7 @@
 mod causes;
 mod errors;
 mod hints;
+mod lines;
 mod reading;
 mod telling;
 mod words;

@@ -61,10 +61,12 @@ encrypted_keys : map text_fault (
 unfolding is_base58_address is_segwit_address is_wif is_encrypted_key begins_with_key is_seed has_private_key form_of fault_at
 encrypted_keys = refl
 
--- the first seed of BIP 39's vectors, 12 words of three letters, one letter less, one that is large, and no blank
+-- the first seed of BIP 39's vectors, in capitals with commas and in lines with numbers; 12 words of three letters and of eight, 11, one of two letters and one of nine, and no word's end
 seeds : map text_fault (
-    codes "abandon abandon abandon abandon abandon abandon abandon abandon abandon abandon abandon about" ∷ codes "act act act act act act act act act act act act" ∷ codes "act act act act act act act act act act act ac"
-    ∷ codes "act act act act act act act act act act act acT" ∷ codes "actactactactactactactactactactactactactactactact" ∷ []) ≡
-    Some PrivateKey ∷ Some PrivateKey ∷ Some (NoDigit 2) ∷ Some (NoDigit 2) ∷ Some (NoDigit 2) ∷ []
+    codes "abandon abandon abandon abandon abandon abandon abandon abandon abandon abandon abandon about" ∷ codes "Abandon,ABANDON, abandon,abandon,abandon,abandon,abandon,abandon,abandon,abandon,abandon,about."
+    ∷ (codes "1. act act act act act act" ++ 10 ∷ codes "7. act act act act act act" ++ 10 ∷ []) ∷ codes "act act act act act act act act act act act act" ∷ codes "absolute act act act act act act act act act act absolute"
+    ∷ codes "act act act act act act act act act act act" ∷ codes "act act act act act act act act act act act act ac" ∷ codes "act act act act act act act act act act act act absolutes"
+    ∷ codes "actactactactactactactactactactactactactactactact" ∷ []) ≡
+    Some PrivateKey ∷ Some PrivateKey ∷ Some PrivateKey ∷ Some PrivateKey ∷ Some PrivateKey ∷ Some (NoDigit 2) ∷ Some (NoDigit 2) ∷ Some (NoDigit 2) ∷ Some (NoDigit 2) ∷ []
 unfolding is_base58_address is_segwit_address is_wif is_encrypted_key begins_with_key is_seed has_private_key form_of fault_at
 seeds = refl

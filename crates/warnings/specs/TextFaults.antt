@@ -1,5 +1,5 @@
 -- Texts that are not hexadecimal, as ASCII codes.
-use Rattle.std.specs.Prelude.{ℕ, ◌%◌, Bool, false, ◌&&◌, ◌||◌, not, ◌==◌, nat_le, nat_lt, if◌then◌else◌, List, [], ◌∷◌, length, take, slice_index, Option, Some, None, codes}
+use Rattle.std.specs.Prelude.{ℕ, ◌+◌, ◌%◌, Bool, false, ◌&&◌, ◌||◌, not, ◌==◌, nat_le, nat_lt, if◌then◌else◌, List, [], ◌∷◌, length, take, slice_index, Option, Some, None, codes}
 use Rattle.std.specs.Option.{option_map_or}
 use Rattle.std.specs.List.{list_all, position_from}
 use Rattle.warnings.specs.Parts.{has_at, has_part}
@@ -46,13 +46,25 @@ is_encrypted_key text = length text == 58 && has_at 0 (codes "6P") text && list_
 abbrev pub is_key_text : List ℕ → Bool
 is_key_text text = is_wif text || is_encrypted_key text
 
--- a small letter or a blank
-abbrev pub is_seed_letter : ℕ → Bool
-is_seed_letter b = b == 32 || (nat_le 97 b && nat_le b 122)
+-- a letter
+abbrev pub is_letter : ℕ → Bool
+is_letter b = (nat_le 65 b && nat_le b 90) || (nat_le 97 b && nat_le b 122)
 
--- 47 of them, as 12 words of three letters have: the words of a seed (BIP 39)
+-- the letters of a word of a seed (BIP 39)
+abbrev pub is_word_size : ℕ → Bool
+is_word_size n = nat_le 3 n && nat_le n 8
+
+-- the rest of a text ends 12 words or more, before which `size` letters of a word stand, and `count` words ended; no other words stand there
+abbrev pub has_words : ℕ → ℕ → List ℕ → Bool
+has_words size count [] = if is_word_size size then nat_le 11 count else size == 0 && nat_le 12 count
+has_words size count (b ∷ text) =
+    if is_letter b then has_words (size + 1) count text
+    else if is_word_size size then has_words 0 (count + 1) text
+    else size == 0 && has_words 0 count text
+
+-- the words of a seed, with whatever stands between them that is no letter
 unfoldable pub is_seed : List ℕ → Bool
-is_seed text = nat_le 47 (length text) && list_all is_seed_letter text && has_part (codes " ") text
+is_seed text = has_words 0 0 text
 
 -- a digit or a letter
 abbrev pub is_alphanumeric : ℕ → Bool

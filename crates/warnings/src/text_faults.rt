@@ -2,7 +2,7 @@
 
 ghost use Rattle.std.specs.Prelude.{◌≡◌, not, false};
 ghost use Rattle.std.specs.List.{list_all, position_from};
-ghost use Rattle.warnings.specs.TextFaults.{is_digit, is_blank, is_base58, is_base58_address, is_segwit_address, is_wif, is_encrypted_key, is_key_text, is_alphanumeric, begins_with_key, has_key_after, is_seed_letter, is_seed, has_private_key, form_of, odd_of, fault_at, text_fault};
+ghost use Rattle.warnings.specs.TextFaults.{is_digit, is_blank, is_base58, is_base58_address, is_segwit_address, is_wif, is_encrypted_key, is_key_text, is_alphanumeric, begins_with_key, has_key_after, is_letter, is_word_size, has_words, is_seed, has_private_key, form_of, odd_of, fault_at, text_fault};
 
 use crate::parts::{has_at, has_part};
 
@@ -117,26 +117,41 @@ fn is_key_text(text: &[u8]) -> bool
     is_wif(text) || is_encrypted_key(text)
 }
 
-// Whether a byte is a small letter or a blank (ASCII).
-fn is_seed_letter(byte: u8) -> bool
-    ensures { result ≡ is_seed_letter byte }
+// Whether a byte is a letter (ASCII).
+fn is_letter(byte: u8) -> bool
+    ensures { result ≡ is_letter byte }
 {
-    byte == 32 || (97 <= byte && byte <= 122)
+    (65 <= byte && byte <= 90) || (97 <= byte && byte <= 122)
 }
 
-// Whether all bytes are small letters and blanks.
-fn are_seed_letters(text: &[u8]) -> bool
-    ensures { result ≡ list_all is_seed_letter text.now }
+// Whether a word of a seed may have this number of letters.
+fn is_word_size(size: usize) -> bool
+    ensures { result ≡ is_word_size size }
 {
-    text.iter().all(|byte| is_seed_letter(*byte))
+    3 <= size && size <= 8
 }
 
-// Whether bytes are small letters and blanks, as many as 12 words of a seed have.
+// Whether bytes are 12 words of a seed or more, whatever stands between them that is no letter.
 #[tactic(auto, unfolding(crate::specs::TextFaults::is_seed))]
 fn is_seed(text: &[u8]) -> bool
     ensures { result ≡ is_seed text.now }
 {
-    47 <= text.len() && are_seed_letters(text) && has_part(text, b" ")
+    let (mut size, mut count) = (0usize, 0usize);
+    for byte in text {
+        if is_letter(*byte) {
+            size += 1;
+        } else if is_word_size(size) {
+            count += 1;
+            size = 0;
+        } else if size > 0 {
+            return false;
+        }
+    }
+    if is_word_size(size) {
+        11 <= count
+    } else {
+        size == 0 && 12 <= count
+    }
 }
 
 // Whether a byte is a digit or a letter (ASCII).

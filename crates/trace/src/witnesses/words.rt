@@ -7,6 +7,7 @@ use crate::notes::tell_notes;
 use crate::replies::WRONG_WORDS;
 use crate::witnesses::errors::SpentError;
 use crate::witnesses::hints::refused_note;
+use crate::witnesses::lines::tell_lines;
 use crate::witnesses::reading::{read_outputs, read_tx};
 use crate::witnesses::telling::tell_verdict;
 use judge::judge;
@@ -19,7 +20,7 @@ use tx::{Tx, TxIn, TxOut};
 
 /// The note after wrong words.
 pub const HELP: &str =
-    "note: witness reads a transaction and the outputs that it spends from standard input, and takes --text or no word: trace witness --text <FILE\n";
+    "note: witness reads a transaction and the outputs that it spends from standard input, and takes --text, --lines, both or no word: trace witness --text <FILE\n";
 
 /// Runs the word `witness` on the words after it and returns its status: 0 when each input runs clean, 1 for an input that does not, refused text or a failed
 /// write, 2 for wrong words, which are detected before any input is read. The verdict on an input is written before the next input is judged.
@@ -27,9 +28,17 @@ pub fn run_words(alloc: Global, words: &[String], input: &mut dyn Read, out: &mu
     ensures { result ≤ 2 }
 {
     let (form, rest) = Form::read(words);
-    if !rest.is_empty() {
-        return WRONG_WORDS;
+    match rest {
+        [] => tell_input_text(alloc, form, input, out),
+        [word] if word.as_str() == "--lines" => tell_lines(alloc, form, input, out),
+        _ => WRONG_WORDS,
     }
+}
+
+// Judges the inputs of the transaction on standard input, and returns the status.
+fn tell_input_text(alloc: Global, form: Form, input: &mut dyn Read, out: &mut dyn Write) -> u8
+    ensures { result ≤ 1 }
+{
     match read_all(alloc, input) {
         Ok(bytes) => tell_bytes(alloc, form, bytes.as_slice(), out),
         Err(error) => refuse(alloc, form, "", &SpentError::Input(error), out),
@@ -40,9 +49,16 @@ pub fn run_words(alloc: Global, words: &[String], input: &mut dyn Read, out: &mu
 fn tell_bytes(alloc: Global, form: Form, bytes: &[u8], out: &mut dyn Write) -> u8
     ensures { result ≤ 1 }
 {
-    let Ok(text) = str::from_utf8(bytes) else {
-        return refuse(alloc, form, "", &SpentError::Input(InputError::BadHex), out);
-    };
+    match str::from_utf8(bytes) {
+        Ok(text) => tell_text(alloc, form, text, out),
+        Err(_) => refuse(alloc, form, "", &SpentError::Input(InputError::BadHex), out),
+    }
+}
+
+/// Judges the inputs of the transaction in a text, writes each verdict at once, and returns the greatest status.
+pub fn tell_text(alloc: Global, form: Form, text: &str, out: &mut dyn Write) -> u8
+    ensures { result ≤ 1 }
+{
     match read_tx(alloc, text) {
         Ok(tx) => tell_tx(alloc, form, text, &tx, out),
         Err(error) => refuse(alloc, form, text, &error, out),
@@ -60,8 +76,8 @@ fn tell_tx(alloc: Global, form: Form, text: &str, tx: &Tx, out: &mut dyn Write) 
     }
 }
 
-// Reports that a text is refused, with the note on it.
-fn refuse(alloc: Global, form: Form, text: &str, error: &SpentError, out: &mut dyn Write) -> u8
+/// Reports that a text is refused, with the note on it, and returns the status.
+pub fn refuse(alloc: Global, form: Form, text: &str, error: &SpentError, out: &mut dyn Write) -> u8
     ensures { result ≤ 1 }
 {
     let (before, after, end) = match form {
