@@ -1,13 +1,17 @@
 """Makes a partially signed transaction of a plan, and puts its signatures into the places that the plan has for them.
 Tested, not proved.
 """
+import re
+
 from real.lib import psbt, scripts, signatures
 from real.lib.curve import AnyCurve
-from real.lib.errors import Refused
-from real.lib.plan import Plan, Spent, Wanted
+from real.lib.errors import Refused, bytes_of
+from real.lib.plan import Plan, Spent, Wanted, read_path
 from real.lib.psbt import Partial, key_of
 from real.lib.transaction import Transaction, hash160, read_transaction
 
+# [FINGERPRINT/PATH]KEY (BIP 380, "Key Expressions")
+ORIGIN = re.compile(r"\[([0-9a-fA-F]{8})((?:/[0-9]{1,10}['h]?)*)\]([0-9a-fA-F]{66})", re.ASCII)
 # signatures of final witnesses times those that are wanted of their input, in all
 MAX_CHECKS = 100_000
 
@@ -39,6 +43,21 @@ def input_fields(index: int, spent: Spent, outpoint: bytes) -> dict[bytes, bytes
         if hash160(it) in pushes:
             fields[key_of(psbt.HASH160, hash160(it))] = it
     return fields
+
+
+def add_origins(plan: Plan, origins: list[str]) -> None:
+    """Puts the origin of each key to all inputs whose script has the key or its hash."""
+    for number, told in enumerate(origins):
+        parts = ORIGIN.fullmatch(told)
+        path = read_path(f"m{parts[2]}") if parts else None
+        if parts is None or path is None:
+            raise Refused(f"BadOrigin {number}", "an origin is [FINGERPRINT/PATH]KEY, as [d34db33f/48h/0h/7]02ab..")
+        key = bytes_of(parts[3])
+        using = [it for it in plan.inputs if {key, hash160(key)} & (scripts.pushes(it.script) or set())]
+        if not using:
+            raise Refused(f"UnusedOrigin {number}")
+        for it in using:
+            it.derivations[key] = bytes_of(parts[1]) + path
 
 
 def make(plan: Plan) -> Partial:

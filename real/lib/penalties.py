@@ -5,7 +5,7 @@ from collections.abc import Iterable, Iterator
 from dataclasses import asdict, dataclass
 from typing import Any
 
-from real.lib import commitment, commitment_number, hints, judgement, scripts, signatures, summary
+from real.lib import addresses, commitment, commitment_number, hints, judgement, scripts, signatures, summary
 from real.lib.commitment import Keys
 from real.lib.curve import AnyCurve
 from real.lib.errors import Refused
@@ -25,8 +25,13 @@ MAX_WEIGHT, COUNT_WEIGHT = 400_000, 8
 # (GetDustThreshold)
 DUST_FEERATE_PER_KVB, PLAIN_INPUT_SIZE, WITNESS_INPUT_SIZE = 3_000, 148, 67
 MAX_FEERATE, MAX_HEIGHT, MAX_DELAY = 10_000_000, commitment.LOCKTIME_THRESHOLD - 1, 65_535
-# the greatest feerate that is taken where a state has no other limit: 1,000 satoshis for a virtual byte
-MOST_FEERATE = 250_000
+# the limits of the feerate where a state has no others: 1,000 satoshis for a virtual byte, and one
+MOST_FEERATE, LEAST_FEERATE = 250_000, 253
+# the most virtual bytes that a mempool takes of a transaction that no block has with all that spend it (Bitcoin Core,
+# DEFAULT_DESCENDANT_SIZE_LIMIT_KVB)
+FAMILY_SIZE = 101_000
+# what both signatures of a commitment weigh with their script
+FUNDING_WITNESS_WEIGHT = 2 + 1 + 1 + 2 * 73 + 72
 MEMBERS = (
     *(
         "channel_type",
@@ -39,15 +44,14 @@ MEMBERS = (
         "spent",
         "destination",
     ),
-    *("feerate_per_kw", "most_feerate_per_kw", "height", "confirmed_height"),
+    *("network", "feerate_per_kw", "most_feerate_per_kw", "least_feerate_per_kw", "height", "confirmed_height"),
 )
 BASES = ("revocation", "payment", "htlc", "owner_delayed", "owner_htlc")
 # more HTLCs than two sides of a channel may have (BOLT 2)
 MAX_HTLCS = 966
-# the shortest program by which a transaction of one input has the 65 bytes, without witnesses, that nodes pass on
-SHORTEST_PROGRAM = 5
 # what is answered of outputs
 TAKEN, TOO_LITTLE, NO_KEY, NOT_CLEAN = "taken", "too little to be passed on", "no key", "not clean"
+NOT_HERE, NOT_HERE_REASON = "not claimed here", "BOLT 3's script needs CHECKSIGVERIFY, which the judge does not know"
 
 
 @dataclass
@@ -113,36 +117,48 @@ def read_spent(shape: Shape, transaction: Transaction) -> list[int]:
     found = shape.member("spent", list, optional=True) or []
     for at, it in enumerate(found):
         if type(it) is not int or not 0 <= it < len(transaction.outputs) or it in found[:at]:
-            raise shape.refusal(f"spent[{at}]")
+            why = f"outputs are counted from 0, and the transaction has {len(transaction.outputs)}; each stands once"
+            raise Refused(str(shape.refusal(f"spent[{at}]")), why)
     return sorted(found)
 
 
+def read_program(shape: Shape) -> bytes:
+    """The program that is paid: in hexadecimal, or where a network is named by its address there."""
+    network = shape.member("network", str, optional=True)
+    if network is None:
+        try:
+            return shape.bytes("destination")
+        except Refused as why:
+            raise Refused(str(why), hints.hex_hint(shape.member("destination", str))) from None
+    if network not in addresses.NETWORKS:
+        raise shape.refusal("network")
+    return addresses.program_of(shape.member("destination", str), network)
+
+
 def read_destination(shape: Shape) -> bytes:
-    """A program that wallets have an address for. One of four bytes is none: a transaction of one input that pays to
-    it is shorter than nodes pass on.
-    """
-    try:
-        found = shape.bytes("destination")
-    except Refused as why:
-        raise Refused(str(why), hints.hex_hint(shape.member("destination", str))) from None
-    if not scripts.is_address(found) or len(found) < SHORTEST_PROGRAM:
+    """A program that wallets have an address for, and that not anyone can spend."""
+    found = read_program(shape)
+    if not scripts.is_address(found):
         raise shape.refusal("destination")
+    if scripts.is_anyones(found):
+        raise Refused(str(shape.refusal("destination")), "anyone can spend from it: it has no rule yet (BIP 141)")
     return found
 
 
 def read_feerate(shape: Shape) -> int:
-    """The feerate, within the limit that the state has for it."""
-    found, most = shape.number("feerate_per_kw", MAX_FEERATE), shape.number(
-        "most_feerate_per_kw", MAX_FEERATE, optional=True
+    """The feerate, within the limits that the state has for it."""
+    found, most, least = (
+        shape.number(name, MAX_FEERATE, optional=is_limit)
+        for name, is_limit in (("feerate_per_kw", False), ("most_feerate_per_kw", True), ("least_feerate_per_kw", True))
     )
-    most = MOST_FEERATE if most is None else most
+    most, least = MOST_FEERATE if most is None else most, LEAST_FEERATE if least is None else least
+    told = f"{found} satoshis for 1,000 units of weight are {found / 250:g} for a virtual byte;"
     if found > most:
+        raise Refused(f"TooHighFeerate {most}", f"{told} most_feerate_per_kw raises the limit")
+    if found < least:
         raise Refused(
-            f"TooHighFeerate {most}",
-            (
-                f"{found} satoshis for 1,000 units of weight are {found // 250} for a virtual byte;"
-                " most_feerate_per_kw raises the limit"
-            ),
+            f"TooLowFeerate {least}",
+            f"{told} by default nodes pass on none below 1; least_feerate_per_kw lowers the limit",
         )
     return found
 
@@ -300,15 +316,35 @@ def is_joined(it: Take, state: State, signing: dict[bytes, bytes]) -> bool:
     return is_safe and input_weight(it.known) * state.feerate_per_kw <= 1000 * it.output.value
 
 
-def packs(takes: list[Take], destination: bytes) -> list[list[Take]]:
-    """As few transactions as take outputs in their order, none of them heavier than nodes pass on."""
-    room = MAX_WEIGHT - weight_of([], destination) - COUNT_WEIGHT
+def virtual_size(transaction: Transaction) -> int:
+    """The virtual size (BIP 141)."""
+    return -(-(3 * len(transaction.stripped_bytes()) + len(transaction.bytes())) // 4)
+
+
+def seen_size(state: State) -> int:
+    """The virtual size of the transaction that was seen, with both signatures."""
+    missing = 0 if any(it.witness for it in state.transaction.inputs) else -(-FUNDING_WITNESS_WEIGHT // 4)
+    return virtual_size(state.transaction) + missing
+
+
+def first_weight(state: State) -> int:
+    """The greatest weight of the first transaction of several outputs: what mempools take together with what it spends,
+    as long as no block has that.
+    """
+    return MAX_WEIGHT if state.confirmed_height is not None else min(MAX_WEIGHT, 4 * (FAMILY_SIZE - seen_size(state)))
+
+
+def packs(takes: list[Take], destination: bytes, first: int = MAX_WEIGHT) -> list[list[Take]]:
+    """As few transactions as take outputs in their order, none of them heavier than nodes pass on, and the first one
+    not above a weight of its own.
+    """
+    rest = weight_of([], destination) + COUNT_WEIGHT
     found: list[list[Take]] = []
     left = 0
     for it in takes:
         weight = input_weight(it.known)
         if not found or weight > left:
-            found, left = [*found, []], room
+            found, left = [*found, []], (MAX_WEIGHT if found else first) - rest
         found[-1].append(it)
         left -= weight
     return found
@@ -324,7 +360,9 @@ def batches(takes: list[Take], state: State, signing: dict[bytes, bytes], is_one
     """One transaction for each output. Or one for all that can be joined, more where one is too heavy, unless they have
     too little together, and one for each other output. The most urgent stands first.
     """
-    joined = packs([it for it in takes if is_one and is_joined(it, state, signing)], state.destination)
+    together = [it for it in takes if is_one and is_joined(it, state, signing)]
+    packed = packs(sorted(together, key=lambda it: urgency([it], state)), state.destination, first_weight(state))
+    joined = [sorted(it, key=lambda each: each.index) for it in packed]
     joined = [it for it in joined if unsigned_transaction(state, it)[0] is not None]
     places = {each.index for it in joined for each in it}
     found = joined + [[it] for it in takes if it.index not in places]
@@ -380,7 +418,10 @@ def answer_of(
         return {**answer, "answer": NO_KEY, "deadline_blocks": deadline, "key": missing[0]}
     if transaction is None:
         return {**answer, "answer": TOO_LITTLE}
-    fault = fault_of(signed_transaction(transaction, takes, signing, curve), takes, curve, trace)
+    try:
+        fault = fault_of(signed_transaction(transaction, takes, signing, curve), takes, curve, trace)
+    except Refused as why:  # what is wrong with one transaction keeps back no other
+        fault = str(why)
     if fault is not None:
         return {**answer, "answer": NOT_CLEAN, "deadline_blocks": deadline, "reason": fault}
     return {
@@ -390,6 +431,19 @@ def answer_of(
         "txid": transaction.txid(),
         "transaction": transaction.bytes().hex(),
     }
+
+
+def not_here(state: State, keys: Keys, named: dict[str, Any]) -> Iterator[dict[str, Any]]:
+    """To_remote of a channel with anchors, which nobody else can take: what a wallet takes it by."""
+    for index in named.get("named", {}).get("to_remote", []):
+        yield {
+            "outputs": [index],
+            "kinds": ["to_remote"],
+            "value": state.transaction.outputs[index].value,
+            "answer": NOT_HERE,
+            "reason": NOT_HERE_REASON,
+            "descriptor": f"wsh(and_v(v:pk({keys.remote.hex()}),older(1)))",
+        }
 
 
 def penalties(
@@ -402,6 +456,27 @@ def penalties(
     spend: Spend | None = None,
 ) -> Iterator[dict[str, Any]]:
     """All that is said: of each transaction of penalties, and of each output that none takes; and last of all outputs."""
+    check_keys(state, curve, is_legacy)
+    point = curve.public_key(state.secret)
+    keys = commitment.keys_of(curve, state.bases, point, is_legacy)
+    signing, unused = commitment.private_keys_of(curve, state.bases, privates, state.secret, point, is_legacy)
+    table = known_outputs(state, keys, spend or Spend())
+    takes, others = split_outputs(state, table)
+    named = names_of(state, keys, table, others)
+    yield from not_here(state, keys, named)
+    ordered = batches(takes, state, signing, is_one)
+    # the judge lists all scripts by one call, the most urgent first
+    trace.ask_paths([it.known.script for batch in ordered for it in batch if it.known.key in signing])
+    found: dict[str, list[int]] = {TAKEN: [], TOO_LITTLE: [], NO_KEY: [], NOT_CLEAN: []}
+    for batch in ordered:
+        answer = answer_of(batch, state, signing, curve, trace)
+        found[answer["answer"]] += answer["outputs"]
+        yield answer
+    yield last_line(state, found, others, named, unused)
+
+
+def check_keys(state: State, curve: AnyCurve, is_legacy: bool) -> None:
+    """Whether the secret is a private key, and each base point and funding key a point."""
     if not curve.is_private(state.secret):
         raise Refused("BadSecret")
     for name, base in state.bases.items():
@@ -412,18 +487,12 @@ def penalties(
             raise Refused(f"BadShape state.funding_keys[{at}]")
     if is_legacy and state.channel_type == commitment.ANCHORS:
         raise Refused("BadShape state.channel_type")
-    point = curve.public_key(state.secret)
-    keys = commitment.keys_of(curve, state.bases, point, is_legacy)
-    signing, unused = commitment.private_keys_of(curve, state.bases, privates, state.secret, point, is_legacy)
-    table = known_outputs(state, keys, spend or Spend())
-    takes, others = split_outputs(state, table)
-    # the judge lists all scripts by one call
-    trace.paths([it.known.script for it in takes])
-    found: dict[str, list[int]] = {TAKEN: [], TOO_LITTLE: [], NO_KEY: [], NOT_CLEAN: []}
-    for batch in batches(takes, state, signing, is_one):
-        answer = answer_of(batch, state, signing, curve, trace)
-        found[answer["answer"]] += answer["outputs"]
-        yield answer
+
+
+def last_line(
+    state: State, found: dict[str, list[int]], others: list[int], named: dict[str, Any], unused: list[int]
+) -> dict[str, Any]:
+    """What is said of all outputs together."""
     taken, too_little, no_key, not_clean = (sorted(it) for it in found.values())
     last = {
         "transaction": state.transaction.txid(),
@@ -431,10 +500,10 @@ def penalties(
         "too_little": too_little,
         "no_key": no_key,
         "others": others,
-        **names_of(state, keys, table, others),
+        **named,
     }
     optional = {"not_clean": not_clean, "spent": state.spent, "unused_keys": unused}
-    yield {**last, **{name: it for name, it in optional.items() if it}}
+    return {**last, **{name: it for name, it in optional.items() if it}}
 
 
 def is_left(last: dict[str, Any]) -> bool:

@@ -4,14 +4,24 @@ from typing import Any
 
 from real.lib import commitment, commitment_number, penalties
 from real.lib.penalties import State
+from real.lib.ripemd160 import ripemd160
+from real.lib.transaction import read_transaction, sha256
 
-# the least feerate that nodes pass on by default, one satoshi for a virtual byte; and how many transactions nodes are
-# sure to take that spend one which no block has
-RELAYED_FEERATE, CHILDREN = 253, 24
+# the least feerate that nodes before Bitcoin Core 29.1 pass on by default, one satoshi for a virtual byte, and that of
+# later ones; and how many transactions nodes are sure to take that spend one which no block has
+RELAYED_FEERATE, LATER_FEERATE, CHILDREN = 253, 25, 24
 # a fee that is above this part of what it is paid from, and the most blocks that an HTLC or a delay mostly has
 DEAR, FAR = 10, 2_016
 # the field of the curve (SEC 2, 2.4.1)
 FIELD = 2**256 - 2**32 - 977
+# the point G, whose private key is 1 (SEC 2, 2.4.1), and the x coordinate of the point H of BIP 341
+G = bytes.fromhex("0279be667ef9dcbbac55a06295ce870b07029bfcdb2dce28d959f2815b16f81798")
+H = bytes.fromhex("50929b74c1a04954b78b4b6035e97a5e078a5a0f28ec96d547bfee9ace803ac0")
+HASHED = (
+    (b"", "the hash of nothing"),
+    (b"\x51", "the hash of the script 51"),
+    (G, "the hash of the point G, whose private key is 1"),
+)
 
 
 def is_curve_x(bytes_of_x: bytes) -> bool:
@@ -20,9 +30,21 @@ def is_curve_x(bytes_of_x: bytes) -> bool:
     return x < FIELD and pow(x**3 + 7, (FIELD - 1) // 2, FIELD) == 1
 
 
+def origin_of(program: bytes) -> str | None:
+    """What the hash of a program is, if no secret's: P2PKH, P2SH, P2WPKH or P2WSH."""
+    paid = program[3:-2] if program[:1] == b"\x76" else program[2:-1] if program[:1] == b"\xa9" else program[2:]
+    if 0x51 <= program[0] <= 0x60:
+        return None
+    if not any(paid):
+        return "zeros"
+    return next((name for item, name in HASHED if paid in (ripemd160(sha256(item)), sha256(item))), None)
+
+
 def destination_notes(program: bytes) -> Iterator[str]:
     """Of a program that anybody can spend, or nobody (BIPs 141, 341)."""
-    version = program[0] - 0x50
+    origin, version = origin_of(program), program[0] - 0x50
+    if origin is not None:
+        yield f"destination: what it pays to is {origin}: anyone can spend from it, or nobody"
     if not 1 <= version <= 16:
         return
     if version > 1 or len(program) != 34:
@@ -30,6 +52,10 @@ def destination_notes(program: bytes) -> Iterator[str]:
             f"destination: anyone can spend from it today: no rule stands yet for witness version {version} with"
             f" {len(program) - 2} bytes"
         )
+    elif program[2:] == G[1:]:
+        yield "destination: it is the point G, whose private key is 1: anyone can sign for it"
+    elif program[2:] == H:
+        yield "destination: it is the point H of BIP 341, whose private key nobody knows: nobody can sign for it"
     elif not is_curve_x(program[2:]):
         yield "destination: its 32 bytes are no key of the curve: nobody can spend from it (BIP 341)"
 
@@ -44,6 +70,51 @@ def is_kept(state: State, found: list[dict[str, Any]]) -> bool:
         and not commitment_number.has_form(state.transaction)
         and any("to_local" in it["kinds"] for it in found[:-1])
     )
+
+
+def lock_notes(state: State, found: list[dict[str, Any]]) -> Iterator[str]:
+    """Of an HTLC-timeout transaction whose lock time the state contradicts: a block that has it is above its lock time,
+    and a node that has it is not below.
+    """
+    lock, transaction = state.transaction.lock_time, state.transaction
+    is_second = any("to_local" in it["kinds"] for it in found[:-1]) and not commitment_number.has_form(transaction)
+    if not is_second or not 0 < lock < commitment.LOCKTIME_THRESHOLD:
+        return
+    if state.confirmed_height is not None and state.confirmed_height <= lock:
+        yield f"the lock time is {lock}, so no block up to height {lock} has the transaction: compare confirmed_height"
+    elif state.height < lock:
+        yield f"the lock time is {lock}, so no node takes the transaction below height {lock}: compare height"
+    if lock not in [it.expiry_height for it in state.htlcs if it.is_offered]:
+        yield f"the lock time is {lock}, and no offered HTLC in htlcs has this expiry_height"
+
+
+def hash_notes(state: State, found: list[dict[str, Any]]) -> Iterator[str]:
+    """Of outputs of offered HTLCs that are more than the backup has of one hash: their scripts are equal, so they are
+    found by those that it has.
+    """
+    scripts = {}
+    for it in found[:-1]:
+        if it["answer"] == penalties.TAKEN:
+            inputs = read_transaction(bytes.fromhex(it["transaction"])).inputs
+            scripts.update({at: given.witness[-1] for at, given in zip(it["outputs"], inputs)})
+    kinds = {at: kind for it in found[:-1] for at, kind in zip(it["outputs"], it["kinds"])}
+    for given in sorted({it.payment_hash for it in state.htlcs if it.is_offered}):
+        count = sum(it.is_offered and it.payment_hash == given for it in state.htlcs)
+        places = sorted(at for at, it in scripts.items() if kinds[at] == "offered" and ripemd160(given) in it)
+        if len(places) > count:
+            yield (
+                f"outputs {', '.join(map(str, places))} are offered HTLCs of one hash, and htlcs has {count} of it: an"
+                " expiry that is left out may be before the deadline"
+            )
+
+
+def spent_notes(state: State) -> Iterator[str]:
+    """Of the outputs that are told to be gone, with their values, so that they can be compared."""
+    for at in state.spent:
+        yield (
+            f"output {at}, counted from 0, with {state.transaction.outputs[at].value} satoshis, is told to be spent and"
+            " left alone"
+        )
 
 
 def notes_of(state: State, found: list[dict[str, Any]]) -> Iterator[str]:
@@ -64,8 +135,14 @@ def notes_of(state: State, found: list[dict[str, Any]]) -> Iterator[str]:
             "with anchors the owner may add inputs to this HTLC transaction, which gives it another id and makes this"
             " penalty worthless: make it of the transaction that a block has"
         )
+    yield from lock_notes(state, found)
+    yield from hash_notes(state, found)
+    yield from spent_notes(state)
     if state.feerate_per_kw < RELAYED_FEERATE:
-        yield f"nodes pass on no transaction below a feerate_per_kw of {RELAYED_FEERATE} by default"
+        yield (
+            f"the feerate_per_kw is below {RELAYED_FEERATE}, the least that nodes before Bitcoin Core 29.1 pass on by"
+            f" default; later ones pass on nothing below {LATER_FEERATE}"
+        )
     dear = [it["outputs"] for it in sent if it["fee"] * DEAR > it["value"]]
     if dear:
         yield f"the fee is above a tenth of the value: of outputs {places_of(dear)}"
@@ -76,11 +153,24 @@ def notes_of(state: State, found: list[dict[str, Any]]) -> Iterator[str]:
     ]
     if little:
         yield f"at this feerate too little is left to be passed on: of outputs {places_of(little)}"
-    if state.confirmed_height is None and len(sent) > CHILDREN:
+    count = count_at_once(state, sent)
+    if count < len(sent):
         yield (
-            f"of {len(sent)} transactions nodes are sure to take {CHILDREN} before a block has what they spend: send"
-            " them again after each block"
+            f"of {len(sent)} transactions nodes are sure to take the first {count} before a block has what they spend:"
+            " send the others again after each block"
         )
+
+
+def count_at_once(state: State, sent: list[dict[str, Any]]) -> int:
+    """How many transactions, from the first, mempools take together with what they spend, while no block has that."""
+    if state.confirmed_height is not None:
+        return len(sent)
+    size = penalties.seen_size(state)
+    for count, it in enumerate(sent):
+        size += penalties.virtual_size(read_transaction(bytes.fromhex(it["transaction"])))
+        if count == CHILDREN or size > penalties.FAMILY_SIZE:
+            return count
+    return len(sent)
 
 
 def places_of(outputs: list[list[int]]) -> str:

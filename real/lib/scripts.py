@@ -126,3 +126,8 @@ def has_script(program: bytes, script: bytes) -> bool:
     if is_key_hash(program):
         return script == key_script(program)
     return is_script_hash(program) and program[2:] == sha256(script)
+
+
+def is_anyones(program: bytes) -> bool:
+    """Whether no rule stands yet for a witness program, so that anyone can spend from it (BIPs 141, 341)."""
+    return is_witness_program(program) and program[0] != 0 and not is_taproot(program)

@@ -9,7 +9,7 @@ from dataclasses import dataclass
 from typing import Any, TextIO
 
 from real.lib.errors import NotRun, Refused
-from real.lib.trace_program import SECONDS, TOP
+from real.lib.trace_program import NO_BUILD, SECONDS, TOP, not_run
 
 
 @dataclass
@@ -54,9 +54,11 @@ class Spend:
             )
         except (OSError, subprocess.TimeoutExpired):
             raise NotRun(f"{self.program} does not run here") from None
-        print(ran.stderr.decode(errors="replace"), end="", file=self.notes)
+        said = ran.stderr.decode(errors="replace")
+        if ran.returncode != NO_BUILD:
+            print(said, end="", file=self.notes)
         if ran.returncode not in (0, 1) or not ran.stdout:
-            raise NotRun(f"{self.program} answers with status {ran.returncode}")
+            raise not_run(self.program, ran.returncode, said)
         found = json.loads(ran.stdout)
         if "refused" in found:
             raise Refused(

@@ -25,7 +25,9 @@ RECORD = os.path.join(HERE, "record.json")
 BY_RECORD = f"--recorded {RECORD}"
 USAGES = {
     "judge": "usage: real/judge [--text] [--recorded FILE], with the transaction on standard input\n",
-    "psbt": "usage: real/psbt make | finish [--recorded FILE]\n",
+    "psbt": (
+        "usage: real/psbt make [--origin ORIGIN].. | combine | finalize [--recorded FILE] | finish [--recorded FILE]\n"
+    ),
     "sign": "usage: real/sign [--recorded FILE], with private keys on standard input alone\n",
     "revoked": (
         "usage: real/revoked [--one] [--legacy] [--recorded FILE] | --number, with private keys on standard input"
@@ -246,6 +248,14 @@ def other_input(**members: Any) -> str:
 
 
 PSBT = [
+    ("make --origin [0a0b0c0d/48h]02" + "11" * 32, json.dumps(PLAN), "refused UnusedOrigin 0\n", 1),
+    ("make --origin 0a0b0c0d", json.dumps(PLAN), "refused BadOrigin 0\n", 1),
+    ("make --origin", "", USAGES["psbt"], 2),
+    ("combine", f"{MADE}\n{MADE}\n", MADE + "\n", 0),
+    ("combine", "", "refused NoTransaction\n", 1),
+    ("combine now", "", USAGES["psbt"], 2),
+    (f"finalize {BY_RECORD}", "", "refused BadMagic\n", 1),
+    ("finalize --origin", "", USAGES["psbt"], 2),
     ("make", json.dumps(PLAN), MADE + "\n", 0),
     ("make", json.dumps(PLAN, indent=1), MADE + "\n", 0),
     ("make", "", "refused NotJson\n", 1),

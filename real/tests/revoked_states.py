@@ -35,7 +35,17 @@ ANYONE, NOBODY = "destination: anyone can spend from it today", "destination: it
 DESTINATION_NOTES = {
     "5220" + "11" * 32: ANYONE,
     "5103c7c7c7": ANYONE,
-    "512079be667ef9dcbbac55a06295ce870b07029bfcdb2dce28d959f2815b16f81798": "",
+    "512079be667ef9dcbbac55a06295ce870b07029bfcdb2dce28d959f2815b16f81798": "destination: it is the point G, whose",
+    "512050929b74c1a04954b78b4b6035e97a5e078a5a0f28ec96d547bfee9ace803ac0": "destination: it is the point H of BIP 341",
+    "5120" + "12" * 32: "",
+    "5115" + "00" * 21: ANYONE,
+    "76a914" + "00" * 20 + "88ac": "destination: what it pays to is zeros",
+    "0020" + "00" * 31 + "01": "",
+    "a914b472a266d0bd89c13706a4132ccfb16f7c3b9fcb87": "destination: what it pays to is the hash of nothing",
+    "0014751e76e8199196d454941c45d1b3a323f1433bd6": "destination: what it pays to is the hash of the point G",
+    "00204ae81572f06e1b88fd5ced7a1a000945432e83e1551e6f721ee9c00b8cc33260": (
+        "destination: what it pays to is the hash of the script 51"
+    ),
     "5120" + "00" * 31 + "05": NOBODY,
     "5120" + "ff" * 32: NOBODY,
     DESTINATION: "",

@@ -8,6 +8,7 @@ from collections.abc import Iterator
 from typing import Any
 
 from real.lib.errors import NotRun
+from real.lib.penalty_notes import is_curve_x
 from real.lib.ripemd160 import ripemd160
 from real.lib.transaction import Input, Output, Transaction, compact_size, sha256, shown_id
 from real.tests import bolt3
@@ -225,7 +226,12 @@ def givens(told: dict[str, Any]) -> Iterator[tuple[dict[str, Any], tuple[str, in
             f"the feerate is {limit // 250} satoshis for a virtual byte, and above the limit that holds without"
             " most_feerate_per_kw"
         )
-        yield {**paying, **most, "feerate_per_kw": limit}, None, [raised] * (limit > 250_000)
+        units = (
+            f"the feerate is {limit // 250} satoshis for a virtual byte, and {4 * limit} for 1,000 of them, for which"
+            " bitcoin-cli estimatesmartfee tells it"
+        )
+        notes = [raised] if limit > 250_000 else [units] * (limit >= 2_500)
+        yield {**paying, **most, "feerate_per_kw": limit}, None, notes
         over = (
             f"{limit + 1} satoshis for 1,000 units of weight are {(limit + 1) // 250} for a virtual byte;"
             f" most_feerate_per_kw raises the limit of {limit}"
@@ -233,7 +239,21 @@ def givens(told: dict[str, Any]) -> Iterator[tuple[dict[str, Any], tuple[str, in
         yield {**paying, **most, "feerate_per_kw": limit + 1}, ("TooHighFeerate", 14), [over]
     for feerate, notes in (
         (253, []),
-        (252, ["nodes pass on no transaction below a feerate_per_kw of 253 by default"]),
+        (
+            252,
+            [
+                "the feerate_per_kw is below 253, the least that nodes before Bitcoin Core 29.1 pass on by default;"
+                " later ones pass on nothing below 25"
+            ],
+        ),
+        (2_499, []),
+        (
+            2_500,
+            [
+                "the feerate is 10 satoshis for a virtual byte, and 10000 for 1,000 of them, for which bitcoin-cli"
+                " estimatesmartfee tells it"
+            ],
+        ),
     ):
         yield {**paying, "feerate_per_kw": feerate}, None, notes
     fee = wanted_plan(told, {**paying, "feerate_per_kw": 1000}, [0], 501)["fee"]
@@ -244,7 +264,8 @@ def givens(told: dict[str, Any]) -> Iterator[tuple[dict[str, Any], tuple[str, in
         yield {**paying, "outputs": [{**late, "value": value}], "feerate_per_kw": 1000}, None, notes
     key = told["terms"]["keys"]["remote_htlcpubkey"]
     curve = "5120" + "12" * 32
-    for destination in ("5103" + "11" * 3, "6003" + "11" * 3, "5220" + "11" * 32, curve, *(it for it, _ in DUST)):
+    known = [*ORIGINS, "0014" + "00" * 19 + "01", "5115" + "00" * 21, "5120" + POINT_H[:-2] + "c1"]
+    for destination in ("5103" + "11" * 3, "6003" + "11" * 3, "5220" + "11" * 32, curve, *known, *(it for it, _ in DUST)):
         yield {**paying, "destination": destination}, None, destination_notes(destination)
     cut = [it[:-2] for it, _ in DUST] + [
         "0014" + "11" * 19,
@@ -271,6 +292,26 @@ def givens(told: dict[str, Any]) -> Iterator[tuple[dict[str, Any], tuple[str, in
     yield poor, ("Dust", 10), [dust_note(wanted_plan(told, poor, [0], 501)["fee"], 400, 3 * (9 + 148))]
 
 
+# the x coordinates of the point G (SEC 2, 2.4.1) and of the point H (BIP 341)
+POINT_G = "79be667ef9dcbbac55a06295ce870b07029bfcdb2dce28d959f2815b16f81798"
+POINT_H = "50929b74c1a04954b78b4b6035e97a5e078a5a0f28ec96d547bfee9ace803ac0"
+# programs whose hash or key is nobody's secret: HASH160 of nothing, of 51 and of the key 1 (BIP 173), SHA-256 of nothing
+# and of 51
+ORIGINS = {
+    "76a914" + "00" * 20 + "88ac": "zeros",
+    "a914" + "00" * 20 + "87": "zeros",
+    "0020" + "00" * 32: "zeros",
+    "0014b472a266d0bd89c13706a4132ccfb16f7c3b9fcb": "the hash of nothing",
+    "0020e3b0c44298fc1c149afbf4c8996fb92427ae41e4649b934ca495991b7852b855": "the hash of nothing",
+    "a914da1745e9b549bd0bfa1a569971c77eba30cd5a4b87": "the hash of the script 51",
+    "00204ae81572f06e1b88fd5ced7a1a000945432e83e1551e6f721ee9c00b8cc33260": "the hash of the script 51",
+    "0014751e76e8199196d454941c45d1b3a323f1433bd6": "the hash of the point G, whose private key is 1",
+    "76a914751e76e8199196d454941c45d1b3a323f1433bd688ac": "the hash of the point G, whose private key is 1",
+    "5120" + POINT_G: "it is the point G, whose private key is 1: anyone can sign for it",
+    "5120" + POINT_H: "it is the point H of BIP 341, whose private key nobody knows: nobody can sign for it",
+}
+
+
 def dust_note(fee: int, total: int, least: int) -> str:
     return (
         f"the fee is {fee} of {total} satoshis, and nodes relay no less than {least} to this destination:"
@@ -283,11 +324,18 @@ def destination_notes(destination: str) -> list[str]:
     (BIP 341).
     """
     code, size = int(destination[:2], 16), int(destination[2:4], 16)
+    if destination in ORIGINS:
+        origin = ORIGINS[destination]
+        is_point = destination.startswith("5120")
+        return [
+            f"destination: {origin}"
+            if is_point
+            else f"destination: what it pays to is {origin}: anyone can spend from it, or nobody"
+        ]
     if not 0x51 <= code <= 0x60:
         return []
     if (code, size) == (0x51, 32):
-        # no point has the x coordinate of 11 in each byte; one has that of 12
-        off_curve = destination[4:] == "11" * 32
+        off_curve = not is_curve_x(bytes.fromhex(destination[4:]))
         return ["destination: its 32 bytes are no key of the curve: nobody can spend from it (BIP 341)"] * off_curve
     return [
         "destination: anyone can spend from it today: no rule stands yet for witness version"
@@ -374,6 +422,32 @@ def input_cost(told: dict[str, Any], it: dict[str, Any], feerate_per_kw: int) ->
     return -(-feerate_per_kw * weight // 1000)
 
 
+def may_be_spent_otherwise(script: str) -> bool:
+    """Whether a script has an IF or a NOTIF, or no check of a signature."""
+    rest, codes = bytes.fromhex(script), []
+    while rest:
+        codes.append(rest[0])
+        rest = rest[1 + (rest[0] if rest[0] <= 75 else 0) :]
+    return bool({0x63, 0x64} & {*codes}) or not {0xAC, 0xAE} & {*codes}
+
+
+def paid_again(asked: dict[str, Any]) -> list[str]:
+    """What is noted of outputs that have the program that is paid."""
+    places = (at for at, it in enumerate(asked["outputs"]) if it["program"] == asked["destination"])
+    return [f"destination: outputs[{at}] has this program" for at in places]
+
+
+def otherwise(outputs: list[dict[str, Any]]) -> list[str]:
+    """What is noted of the first of several outputs that may be spent otherwise."""
+    first = next((at for at, it in enumerate(outputs) if may_be_spent_otherwise(it["script"])), None)
+    if first is None or len(outputs) == 1:
+        return []
+    return [
+        f"outputs[{first}] may be spent otherwise: from then on this transaction of {len(outputs)} outputs is invalid as"
+        " a whole"
+    ]
+
+
 def waiting(told: dict[str, Any]) -> Iterator[tuple[dict[str, Any], list[int], int, list[str]]]:
     """Plans of several outputs with unlike locks, each with its sequences, its lock time and its notes; and of equal
     ones.
@@ -385,9 +459,13 @@ def waiting(told: dict[str, Any]) -> Iterator[tuple[dict[str, Any], list[int], i
         late = [f"outputs[{len(asked['outputs']) - 1}] waits for a block above height 501, {with_it}"]
         old = [f"outputs[0] waits for an age of 144 blocks, {with_it}"]
         if len(asked["outputs"]) > 1 and asked["feerate_per_kw"] == 253:
-            yield asked, sequences, lock_time, late
+            yield asked, sequences, lock_time, [*paid_again(asked), *late, *otherwise(asked["outputs"])]
         if asked["feerate_per_kw"] == 5000:
-            yield {**asked, "feerate_per_kw": 253}, sequences, lock_time, old
+            yield {**asked, "feerate_per_kw": 253}, sequences, lock_time, [
+                *paid_again(asked),
+                *old,
+                *otherwise(asked["outputs"]),
+            ]
     asked, _, _ = next(requests(told))
     paying = {**asked, "preimages": []}
     older = [f"outputs[1] waits for an age of 415 blocks, {with_it}"]
@@ -399,7 +477,7 @@ def waiting(told: dict[str, Any]) -> Iterator[tuple[dict[str, Any], list[int], i
         least = {**cheap, "value": cost - 1 + value}
         note = f"outputs[0] has {cost - 1} satoshis, and its input costs {cost}: more is left without it"
         both = [least, {**asked["outputs"][1], "value": 1_000_000}]
-        yield {**paying, "outputs": both, "feerate_per_kw": 1000}, [0, 0], 501, [note] * notes
+        yield {**paying, "outputs": both, "feerate_per_kw": 1000}, [0, 0], 501, [*[note] * notes, *otherwise(both)]
 
 
 def open_to_others(told: dict[str, Any]) -> Iterator[tuple[dict[str, Any], list[str]]]:
@@ -427,7 +505,28 @@ def open_to_others(told: dict[str, Any]) -> Iterator[tuple[dict[str, Any], list[
             [f"outputs[1]: {anyone}", f"outputs[0]: {finder}", f"outputs[2]: {nobody}"],
         ),
     ):
-        yield {**asked, **preimages, "outputs": outputs}, notes
+        yield {**asked, **preimages, "outputs": outputs}, [*notes, *otherwise(outputs)]
+    plain = keyed_claim(told, "", 1_000_000)
+    alone = {**asked, "preimages": [], "outputs": [plain]}
+    yield {**alone, "destination": plain["program"]}, ["destination: outputs[0] has this program"]
+    zeros = {**plain, "outpoint": "00" * 32 + ":0"}
+    yield {**alone, "outputs": [zeros]}, ["outputs[0]: no transaction has an id of zeros"]
+    unrelayed = "outputs[0]: nodes pass on no spend of it: "
+    pushes = "its script pushes a number by two bytes that an opcode of one byte pushes too (minimal pushes)"
+    for before, slots, why in (
+        ("011175", [], ""),
+        ("011075", [], pushes),
+        ("018175", [], pushes),
+        ("75", [["exact", "00" * 80]], ""),
+        ("75", [["exact", "00" * 81]], "it has a slot above 80 bytes"),
+        ("75" * 99, [["exact", ""]] * 99, ""),
+        ("75" * 100, [["exact", ""]] * 100, "it has more than 100 slots"),
+        (("22" + "77" * 34 + "75") * 99, [], ""),
+        (("22" + "77" * 34 + "75") * 100, [], "its script has more than 3600 bytes"),
+    ):
+        found = keyed_claim(told, before, 1_000_000)
+        notes = [unrelayed + why] * bool(why)
+        yield {**alone, "outputs": [{**found, "slots": [*slots, *found["slots"]]}]}, notes
 
 
 def no_json() -> Iterator[tuple[str, str]]:

@@ -5,7 +5,7 @@ import json
 from collections.abc import Callable
 from typing import Any
 
-from real.lib import assembly, judgement, psbt, scripts
+from real.lib import assembly, finalizer, judgement, psbt, scripts
 from real.lib.errors import Refused
 from real.lib.plan import read_plan
 from real.lib.psbt import Partial
@@ -73,9 +73,66 @@ class PsbtTest(CurveCase):
                     judgement.judge(finished, [spent], self.curve, self.trace)[0]["answer"] == "clean",
                     f"{case['name']}: HTLC {it['htlc']}, judged",
                 )
+                self.combine_and_finalize(made, privates, finished)
                 self.refuse_faults(plan, signed, privates)
                 self.finish_final_witness(plan, finished.inputs[0].witness)
                 self.tell_preimage(told, it, made)
+
+    def combine_and_finalize(self, made: str, privates: list[bytes], finished: Transaction) -> None:
+        """Two signers' transactions are combined in both orders, and the final witness is the one that was wanted. With
+        one signature no path is met.
+        """
+
+        def read() -> Partial:
+            return psbt.read(psbt.decoded_bytes(made.encode()))
+
+        signed = [sign(read(), [it], self.curve) for it in privates]
+        for order in (signed, signed[::-1], [*signed, signed[0], read()]):
+            combined = finalizer.combine(order)
+            self.check(combined.bytes() == sign(read(), privates, self.curve).bytes(), "two signers, combined")
+        final = finalizer.finalize(finalizer.combine(signed), self.curve, self.trace)
+        fields = final.inputs[0]
+        self.check(psbt.final_witness(fields) == finished.inputs[0].witness, "a final witness by a listed path")
+        self.check(
+            {psbt.kind_of(it)[0] for it in fields} == {psbt.WITNESS_UTXO, psbt.FINAL_SCRIPTWITNESS},
+            f"what stays of an input that is final: {sorted(fields)}",
+        )
+        again = finalizer.finalize(psbt.read(final.bytes()), self.curve, self.trace)
+        self.check(again.bytes() == final.bytes(), "what is final stays")
+        for it in (signed[0], read()):
+            self.check(
+                is_refused_as("NoPath 0", lambda it=it: finalizer.finalize(it, self.curve, self.trace)),
+                "a signature that is missing",
+            )
+        other = read()
+        other.transaction.lock_time += 1
+        self.check(is_refused_as("OtherSpend 1", lambda: finalizer.combine([read(), other])), "another transaction")
+        other = read()
+        other.inputs[0][psbt.key_of(psbt.SIGHASH_TYPE)] = bytes(4)
+        self.check(is_refused_as("OtherField input 0 3", lambda: finalizer.combine([read(), other])), "another field")
+        self.check(is_refused_as("NoTransaction", lambda: finalizer.combine([])), "nothing to combine")
+
+    def test_origins(self) -> None:
+        """The origin of a key stands in each input whose script has it, as BIP 174 writes it."""
+        told = bolt3.read()
+        case = told["cases"][1]
+        plan = json.dumps(bolt3.plan(told, case["name"], case["htlc_transactions"][0]["htlc"]))
+        key = json.loads(plan)["inputs"][0]["signatures"][0]["key"]
+
+        def made(*origins: str) -> Partial:
+            read = read_plan(plan)
+            assembly.add_origins(read, list(origins))
+            return assembly.make(read)
+
+        found = psbt.with_kind(made(f"[d34db33f/48h/1'/7]{key}").inputs[0], psbt.BIP32_DERIVATION)
+        path = b"".join(it.to_bytes(4, "little") for it in (0x80000030, 0x80000001, 7))
+        self.check(found == {bytes.fromhex(key): bytes.fromhex("d34db33f") + path}, f"an origin: {found}")
+        found = psbt.with_kind(made(f"[00000000]{key}").inputs[0], psbt.BIP32_DERIVATION)
+        self.check(found == {bytes.fromhex(key): bytes(4)}, f"a root: {found}")
+        bad = (f"d34db33f/48h{key}", f"[d34db33f/48x]{key}", f"[d34db33f/2147483648]{key}", f"[d34db33]{key}", key)
+        for origin in bad:
+            self.check(is_refused_as("BadOrigin 1", lambda it=origin: made(f"[00000000]{key}", it)), f"{origin}")
+        self.check(is_refused_as("UnusedOrigin 0", lambda: made("[00000000]02" + "11" * 32)), "a key of no input")
 
     def spend_key_hashes(self, privates: list[bytes]) -> None:
         """An output to the hash of a key and one to a script, whose keys are in the witness and in the script, in one
@@ -116,8 +173,14 @@ class PsbtTest(CurveCase):
             [len(psbt.with_kind(it, psbt.PARTIAL_SIG)) for it in signed.inputs] == [1, 1],
             "a signature for each input's own key",
         )
-        found = judgement.judge(assembly.finish(read_plan(plan), signed, self.curve), spent, self.curve, self.trace)
+        finished = assembly.finish(read_plan(plan), signed, self.curve)
+        found = judgement.judge(finished, spent, self.curve, self.trace)
         self.check([it["answer"] for it in found] == ["clean", "clean"], f"the hash of a key, and a script: {found}")
+        final = finalizer.finalize(signed, self.curve, self.trace)
+        self.check(
+            [psbt.final_witness(it) for it in final.inputs] == [it.witness for it in finished.inputs],
+            "final witnesses of the hash of a key, and of a script",
+        )
 
     def test_request(self) -> None:
         """What the program `spend` makes is signed by the peer's key, finished and judged: an HTLC by its preimage,

@@ -1,7 +1,7 @@
 """Tests of the program `spend`: its plans, refusals and notes are those that are worked out here."""
 import json
 
-from real.tests import bolt3, revoked_requests
+from real.tests import bolt3, close_requests, revoked_requests
 from real.tests.checks import CheckedCase
 from real.tests.spend_requests import (
     bounds,
@@ -124,5 +124,45 @@ class RevokedTest(CheckedCase):
     def test_faults(self) -> None:
         for text, name, number, note in revoked_requests.faults(self.told):
             found = spend_answers(text, "revoked")
+            wanted = refused_line(name, number), 1, [note]
+            self.check(found == wanted, f"a fault that is to be named by {note}: {found}")
+
+
+class CloseTest(CheckedCase):
+    """What an unrevoked commitment lets one claim: what the appendix has, from the blocks of BIPs 65 and 68 on."""
+
+    told = bolt3.read()
+
+    def test_answers(self) -> None:
+        for asked, answer in close_requests.answers(self.told):
+            found = spend_answers(line(asked), "close")
+            self.check(found == (line(answer), 0, []), f"the outputs of a commitment: {found}")
+
+    def test_bounds(self) -> None:
+        for asked, heights in close_requests.bounds(self.told):
+            claims = json.loads(spend_answer(line(asked), "close")[0])["claims"]
+            found = [(it["from_height"], it["deadline_height"]) for it in claims]
+            self.check(found == heights, f"the blocks of claims: {found}")
+
+    def test_shared_hashes(self) -> None:
+        for asked, lock_times in close_requests.shared(self.told):
+            claims = json.loads(spend_answer(line(asked), "close")[0])["claims"]
+            shells = [it["output"]["shell"] for it in claims if it["kind"] != "to_local"]
+            found = [int.from_bytes(bytes.fromhex(it)[-4:], "little") for it in shells]
+            self.check(found == lock_times, f"the HTLC transactions of outputs that share a script: {found}")
+
+    def test_claims_are_outputs(self) -> None:
+        """What it answers of the peer's commitment is what a request for a spend takes."""
+        asked = close_requests.request(self.told, self.told["cases"][1], "peer")
+        outputs = [it["output"] for it in json.loads(spend_answer(line(asked), "close")[0])["claims"]]
+        preimages = asked["preimages"]
+        spending = {"outputs": outputs, "preimages": preimages, "destination": "0014" + "c7" * 20, "feerate_per_kw": 253}
+        wanted = line(wanted_plan(self.told, spending, [0] * len(outputs), 504)), 0
+        found = spend_answer(line(spending))
+        self.check(found == wanted, f"a plan of what is claimed: {found}")
+
+    def test_faults(self) -> None:
+        for text, name, number, note in close_requests.faults(self.told):
+            found = spend_answers(text, "close")
             wanted = refused_line(name, number), 1, [note]
             self.check(found == wanted, f"a fault that is to be named by {note}: {found}")
