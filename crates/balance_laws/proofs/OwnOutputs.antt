@@ -43,8 +43,8 @@ use Rattle.safety.proofs.Claimed.{AreKeys}
 use Rattle.safety.proofs.Limits.{no_longer}
 use Rattle.safety.proofs.Spelt.{to_local_ops}
 use Rattle.safety.proofs.Standing.{naming, spent_is}
-use Rattle.safety.proofs.Stripped.{has_stripped, same_stripped}
-use Rattle.safety.proofs.Ids.{id_is}
+use Rattle.safety.proofs.Stripped.{has_stripped}
+use Rattle.safety.proofs.Ids.{id_is, unsigned_limits, same_stripped}
 use Rattle.safety.proofs.Indices.{htlc_in, one_htlc}
 use Rattle.safety.proofs.Fates.{bare_second}
 use Rattle.safety.proofs.Seconds.{bare_commitment, standing, found}
@@ -199,7 +199,7 @@ stands_there hs blocks s x i lock e =
     let id : transaction_id t.0 ≡ transaction_id u = id_is t.0 ∙ ap sha256d same ∙ sym (id_is u) in
     let limits = s.watched.ledger.limits (output_lock (second_stage_penalty (contents s) x)) lock h.0 t.0 stands id in
     let whole = recorded_limits (terms_in s.holding) s.commitment (payable hs blocks s) u (of_htlc x i refl) in
-    record { height = h.0; signed = t.0; stands = stands; same = same_stripped t.0 u limits whole same ∙ bare_second (contents s) x }
+    record { height = h.0; signed = t.0; stands = stands; same = same_stripped t.0 u limits (unsigned_limits u whole) same ∙ bare_second (contents s) x }
 
 pub standing_there : (hs : List Holding) (blocks : List Block) (s : OwnClose hs blocks) (x : HtlcOutput) (output : CommitmentOutput) → IsHtlcAt (contents s) x output → standing blocks (contents s) x.index ≡ true
     → IsOnChain blocks (htlc_tx_of (contents s) x)

@@ -39,7 +39,7 @@ use Rattle.safety.proofs.Slots.{contains_first, same_bytes}
 use Rattle.safety.proofs.Lists.{at_reversed, any_found, any_holds, contains_map}
 use Rattle.safety.proofs.Tests.{from_map}
 use Rattle.safety.proofs.Standing.{block_in, spent_is}
-use Rattle.safety.proofs.Ids.{one_id}
+use Rattle.safety.proofs.Ids.{unsigned_limits, one_unsigned_id}
 use Rattle.due_laws.specs.Filling.{DuesAreFillable}
 use Rattle.due_laws.specs.Passing.{IsRipe, MayBeFilled, KeepLimits, FillingsPass}
 
@@ -275,7 +275,7 @@ module _ (spends : AcceptedSpend) (timed : FittingIsTimed) (blocks : List Block)
       (λ (s : unsigned_transaction filled ≡ unsigned_transaction u.transaction).
       absurd (false≢true (sym ripe.unspent ∙ spent_is blocks c.place.outpoint ripe.coin ripe.there ∙ is_spent blocks filled u.transaction (filled_input bare ps c) u.height u.stands f.1 s)))
       (λ (x : Collide sha256d (stripped_spelling filled) (stripped_spelling u.transaction)). inr (record { height = u.height; twin = u.transaction; stands = u.stands; collide = x }))
-      (one_id filled u.transaction k.filling (k.twins u.height u.transaction u.stands u.is) (sym u.is))
+      (one_unsigned_id filled u.transaction (unsigned_limits filled k.filling) (k.twins u.height u.transaction u.stands u.is) (sym u.is))
 
 pub fillings_pass : AcceptedSpend → FittingIsTimed → FillingsFit → DuesAreFillable → FillingsPass
 fillings_pass spends timed fit fillable h kept owns known w blocks claims outputs m k =

@@ -272,7 +272,7 @@ filled_keeps = record {
 
 -- yes: KeepLimits
 they_keep : KeepLimits chain filled
-they_keep = record { twins = λ height t s e. subst KeepsLimits (sym (only_closed height t s)) closed_keeps; filling = filled_keeps }
+they_keep = record { twins = λ height t s e. unsigned_limits t (subst KeepsLimits (sym (only_closed height t s)) closed_keeps); filling = filled_keeps }
 
 -- ---- so it passes. A claim is whole by its type
 

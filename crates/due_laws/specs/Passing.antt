@@ -2,7 +2,7 @@
 use Rattle.std.specs.Prelude.{◌≡◌, ◌⊎◌, ◌<◌, ◌≤◌, ℕ, ◌+◌, false, List, ◌∷◌, length, Some, None}
 use Rattle.std.specs.List.{AllByRecursion}
 use Rattle.tx.specs.Parts.{Output}
-use Rattle.tx.specs.Fields.{Transaction, KeepsLimits}
+use Rattle.tx.specs.Fields.{Transaction, KeepsLimits, unsigned_transaction}
 use Rattle.tx.specs.Spelling.{transaction_id}
 use Rattle.chain.specs.Blocks.{Contents as Block, Coin, empty_block, coin_at}
 use Rattle.chain.specs.Checks.{transaction_refusal}
@@ -37,7 +37,7 @@ pub record MayBeFilled (known : Known) (blocks : List Block) (claims : List Clai
 
 -- transactions keep their limits, as their types say: the one that fills the claims, and one on the chain that has its id
 pub record KeepLimits (blocks : List Block) (t : Transaction) : Type 0 where
-  pub twins : (height : ℕ) (u : Transaction) → StandsAt blocks height u → transaction_id u ≡ transaction_id t → KeepsLimits u
+  pub twins : (height : ℕ) (u : Transaction) → StandsAt blocks height u → transaction_id u ≡ transaction_id t → KeepsLimits (unsigned_transaction u)
   pub filling : KeepsLimits t
 
 -- Then the transaction that fills them passes all tests of the next block. Or what is hashed for its id collides with what is hashed for the id of one on the chain

@@ -288,7 +288,7 @@ module _ (first second : List ℕ) (k : is_key first ≡ true) (l : is_key secon
 -- a transaction that makes an output
 module _ (keys : List (List ℕ)) (w : LockedOutput) (t : Transaction) where
   -- no: IsLedgerOf
-  made_past_the_limits : transaction_id t ≡ w.place.outpoint.txid → (KeepsLimits t → ⊥) → IsLedgerOf keys [] (w ∷ []) (with_it t) → ⊥
+  made_past_the_limits : transaction_id t ≡ w.place.outpoint.txid → (KeepsLimits (unsigned_transaction t) → ⊥) → IsLedgerOf keys [] (w ∷ []) (with_it t) → ⊥
   made_past_the_limits e n l = n (l.limits w (0, lit< tt, refl) 1 t (stands_there t) e)
 
   -- no: IsLedgerOf
@@ -313,13 +313,14 @@ module _ (keys : List (List ℕ)) (w : LockedOutput) (t : Transaction) where
     one_of_two P p q zero v s = either P p q v (subst (λ (b : Block). Contains b.transactions v) (sym (same_Some (record { transactions = t ∷ u ∷ []; granted = [] }) s.block s.there)) s.within)
     one_of_two P p q (suc n) v s = absurd (none_some s.block (sym (slice_get_past (record { transactions = t ∷ u ∷ []; granted = [] } ∷ []) (suc n) (omega arith)) ∙ s.there))
 
+    -- with whatever witnesses the second has
     -- yes: IsLedgerOf
-    but_for_witnesses : unsigned_transaction t ≡ unsigned_transaction u → KeepsLimits t → KeepsLimits u
+    but_for_witnesses : unsigned_transaction t ≡ unsigned_transaction u → KeepsLimits (unsigned_transaction t)
         → ((output : Output) → slice_get t.outputs w.place.outpoint.index ≡ Some output → (coin : Coin) × (coin_at twice w.place.outpoint ≡ Some coin) × (coin.output ≡ output))
         → IsLedgerOf keys [] (w ∷ []) twice
-    but_for_witnesses same k l coins = record {
+    but_for_witnesses same k coins = record {
       named = λ v i coin c height x input s within names. absurd (contains_none v i);
-      limits = λ v i height x s id. one_of_two KeepsLimits k l height x s;
+      limits = λ v i height x s id. one_of_two (λ (z : Transaction). KeepsLimits (unsigned_transaction z)) k (subst KeepsLimits same k) height x s;
       one = λ v i height earlier x y s r id rival. one_of_two (λ (z : Transaction). unsigned_transaction z ≡ unsigned_transaction t) refl (sym same) height x s
           ∙ sym (one_of_two (λ (z : Transaction). unsigned_transaction z ≡ unsigned_transaction t) refl (sym same) earlier y r);
       coins = λ v i height x s output makes. subst (λ (z : LockedOutput). (coin : Coin) × (coin_at twice z.place.outpoint ≡ Some coin) × (coin.output ≡ output)) (only w v i)

@@ -20,7 +20,7 @@ unfolding input
 unsigned_text [] = refl
 unsigned_text (x ∷ xs) = ap (λ (t : List ℕ). input x ++ t) (unsigned_text xs)
 
-unsigned_bytes : (t : Transaction) → stripped_spelling (unsigned_transaction t) ≡ stripped_spelling t
+pub unsigned_bytes : (t : Transaction) → stripped_spelling (unsigned_transaction t) ≡ stripped_spelling t
 unfolding stripped_spelling body
 unsigned_bytes t = rw (unsigned_length t.inputs, unsigned_text t.inputs) refl
 
@@ -28,21 +28,25 @@ no_witness : (xs : List TxIn) → has_witness (unsigned_inputs xs) ≡ false
 no_witness [] = refl
 no_witness (x ∷ xs) = no_witness xs
 
+-- a transaction without its witnesses keeps the limits that it keeps with them
+pub unsigned_limits : (t : Transaction) → KeepsLimits t → KeepsLimits (unsigned_transaction t)
+unsigned_limits t k = record {
+  version = k.version;
+  some_input = omega (arith, unsigned_length t.inputs, k.some_input);
+  inputs = unsigned_within t.inputs k.inputs;
+  outputs = k.outputs;
+  lock_time = k.lock_time;
+}
+
 -- the form without marker, flag and witnesses spells it
-stripped : (t : Transaction) → KeepsLimits t → IsStripped (unsigned_transaction t) (stripped_spelling t)
+stripped : (t : Transaction) → KeepsLimits (unsigned_transaction t) → IsStripped (unsigned_transaction t) (stripped_spelling t)
 stripped t k = record {
-  limits = record {
-    version = k.version;
-    some_input = omega (arith, unsigned_length t.inputs, k.some_input);
-    inputs = unsigned_within t.inputs k.inputs;
-    outputs = k.outputs;
-    lock_time = k.lock_time;
-  };
+  limits = k;
   unsigned = no_witness t.inputs;
   spelled = sym (unsigned_bytes t);
 }
 
-same_stripped : (t u : Transaction) → KeepsLimits t → KeepsLimits u → stripped_spelling t ≡ stripped_spelling u → unsigned_transaction t ≡ unsigned_transaction u
+pub same_stripped : (t u : Transaction) → KeepsLimits (unsigned_transaction t) → KeepsLimits (unsigned_transaction u) → stripped_spelling t ≡ stripped_spelling u → unsigned_transaction t ≡ unsigned_transaction u
 same_stripped t u k l e =
     let s = stripped u l in
     one_stripped_value (unsigned_transaction t) (unsigned_transaction u) (stripped_spelling t) (stripped t k) (record { limits = s.limits; unsigned = s.unsigned; spelled = e ∙ s.spelled })
@@ -61,9 +65,13 @@ pub id_is : (t : Transaction) → transaction_id t ≡ sha256d (stripped_spellin
 unfolding transaction_id
 id_is t = refl
 
-pub one_id : OneId
-one_id t u k l e = by (same_or_collide sha256d (stripped_spelling t) (stripped_spelling u) (sym (id_is t) ∙ e ∙ id_is u))
+pub one_unsigned_id : (t u : Transaction) → KeepsLimits (unsigned_transaction t) → KeepsLimits (unsigned_transaction u) → transaction_id t ≡ transaction_id u
+    → (unsigned_transaction t ≡ unsigned_transaction u) ⊎ Collide sha256d (stripped_spelling t) (stripped_spelling u)
+one_unsigned_id t u k l e = by (same_or_collide sha256d (stripped_spelling t) (stripped_spelling u) (sym (id_is t) ∙ e ∙ id_is u))
   where
     by : (stripped_spelling t ≡ stripped_spelling u) ⊎ Collide sha256d (stripped_spelling t) (stripped_spelling u) → (unsigned_transaction t ≡ unsigned_transaction u) ⊎ Collide sha256d (stripped_spelling t) (stripped_spelling u)
     by (inl s) = inl (same_stripped t u k l s)
     by (inr c) = inr c
+
+pub one_id : OneId
+one_id t u k l = one_unsigned_id t u (unsigned_limits t k) (unsigned_limits u l)

@@ -1,25 +1,24 @@
 -- A chain that passed its tests is a ledger of any outputs.
-use Rattle.std.proofs.Common.{◌≡◌, ℕ, ◌+◌, ◌%◌, ◌^◌, ◌<◌, Bool, true, false, List, length, Some, None, sym, ap, ◌∙◌, refl, subst, inl}
-use Rattle.std.specs.Prelude.{◌&&◌, ◌||◌, ◌==◌, not, nat_lt, nat_le, slice_get}
+use Rattle.std.proofs.Common.{◌≡◌, ℕ, ◌+◌, ◌%◌, ◌^◌, Bool, true, false, List, Some, None, sym, ap, ◌∙◌, refl, subst, inl}
+use Rattle.std.specs.Prelude.{◌&&◌, ◌||◌, ◌==◌, not, nat_lt, nat_le}
 use Rattle.std.specs.List.{Contains, list_all}
-use Rattle.std.proofs.lemmas.Bool.{false≢true, and_from}
+use Rattle.std.proofs.lemmas.Bool.{and_from}
 use Rattle.script.specs.declared.limits.TheConstants.{LOCKTIME_THRESHOLD}
 use Rattle.script.specs.Step.{bit_at}
-use Rattle.tx.specs.declared.input.OutPoint.{OutPoint}
 use Rattle.tx.specs.declared.input.TxIn.{TxIn}
 use Rattle.tx.specs.Parts.{Output}
-use Rattle.tx.specs.Fields.{Transaction, KeepsLimits, unsigned_transaction}
+use Rattle.tx.specs.Fields.{Transaction, unsigned_transaction}
 use Rattle.tx.specs.Spelling.{transaction_id}
 use Rattle.chain.specs.Blocks.{Contents as Block, Coin, coin_at}
 use Rattle.chain.specs.Indexing.{marked}
 use Rattle.chain.specs.Locks.{is_final, is_old_enough}
 use Rattle.chain.specs.Checks.{coin_refusal}
 use Rattle.chain.specs.Checked.{is_checked}
-use Rattle.chain.specs.Conserving.{GrantsAreApart}
 use Rattle.safety.specs.Standing.{StandsAt}
 use Rattle.safety.specs.Premises.{LockedOutput, spend}
 use Rattle.safety.specs.Ledgers.{SpendsCoin, Makes, CheckedAreLedgers}
 use Rattle.safety.proofs.Lists.{some_is}
+use Rattle.safety.proofs.Ids.{unsigned_limits}
 use Rattle.safety.proofs.Signing.{limits_fit}
 use Rattle.safety.proofs.OnChain.{passed}
 use Rattle.safety.proofs.Passed.{inputs_have_passed}
@@ -67,7 +66,7 @@ spends keys w blocks checked height t input stands within coin there =
 pub checked_are_ledgers : CheckedAreLedgers
 checked_are_ledgers blocks checked limits grants keys locks made = record {
   named = λ w i coin there height t input stands within names. (limits_fit t (limits height t stands), spends keys w blocks checked height t input stands within coin (ap (coin_at blocks) names ∙ there.there));
-  limits = λ w i height t stands id. limits height t stands;
+  limits = λ w i height t stands id. unsigned_limits t (limits height t stands);
   one = λ w i height earlier t u stands also id rival. one_by height earlier t u stands also (id ∙ sym rival);
   coins = λ w i height t stands output makes. made_by w height t stands output makes;
 }

@@ -1,7 +1,7 @@
 -- The newest commitment passes the next block.
 use Rattle.std.proofs.Common.{◌≡◌, ℕ, zero, suc, ◌+◌, ◌*◌, ◌<◌, ◌≤◌, Bool, true, false, List, [], ◌∷◌, ◌++◌, map, length, Option, Some, None, option_map, unwrap_or, append-nil, sym, ap, ◌∙◌, refl, subst, inl, inr, ⊎_elim, arith}
 use Rattle.std.specs.Prelude.{◌⊎◌, nat_le, slice_get}
-use Rattle.std.specs.List.{Contains, find, list_any, sum_by}
+use Rattle.std.specs.List.{Contains, find, list_any}
 use Rattle.std.specs.Str.{bytes_eq}
 use Rattle.std.proofs.lemmas.Bool.{false≢true, le-leb}
 use Rattle.std.proofs.lemmas.List.Sums.{sum_by-cons}
@@ -11,7 +11,7 @@ use Rattle.digest.specs.Hash.{sha256d, Collide}
 use Rattle.tx.specs.declared.input.OutPoint.{OutPoint}
 use Rattle.tx.specs.declared.input.TxIn.{TxIn}
 use Rattle.tx.specs.Parts.{Output}
-use Rattle.tx.specs.Fields.{Transaction, KeepsLimits, same_outpoint, signed_input, unsigned_inputs, unsigned_transaction}
+use Rattle.tx.specs.Fields.{Transaction, same_outpoint, signed_input, unsigned_inputs, unsigned_transaction}
 use Rattle.tx.specs.Spelling.{input, body, stripped_spelling, transaction_id}
 use Rattle.chain.specs.Blocks.{Contents as Block, Creation, Coin, empty_block, created_of, names, is_named, coin_at, height_of, has_id, value_at, paid_in, paid_out}
 use Rattle.chain.specs.Checks.{input_refusal, transaction_refusal}
@@ -36,20 +36,20 @@ use Rattle.penalty.specs.Claimable.{Claimable, place_in, penalty_on, payment_on,
 use Rattle.channel.specs.declared.commitments.CommitmentState.{CommitmentState}
 use Rattle.channel.specs.States.{State}
 use Rattle.channel.specs.Tokens.{contents_of}
-use Rattle.publish.specs.Published.{funding_witness, signed_transaction, signed_commitment_of}
+use Rattle.publish.specs.Published.{funding_witness, signed_transaction}
 use Rattle.publish.specs.Opening.{funding_output, HasUnspent, CommitmentsSpend}
 use Rattle.safety.specs.Standing.{StandsAt}
-use Rattle.safety.specs.Recorded.{IsPayable, of_commitment}
+use Rattle.safety.specs.Recorded.{of_commitment}
 use Rattle.safety.specs.Holdings.{Holding, terms_in}
 use Rattle.safety.specs.Premises.{funding_lock, output_lock, locks_of, outputs_in, outputs_by}
 use Rattle.safety.specs.Ledgers.{IsCoinAt}
 use Rattle.safety.specs.Closers.{IsWatched}
-use Rattle.safety.specs.Passing.{HasTwinOn, CanClose, IsReady, NewestPasses}
-use Rattle.safety.proofs.Slots.{contains_first, same_bytes}
+use Rattle.safety.specs.Passing.{HasTwinOn, CanClose, NewestPasses}
+use Rattle.safety.proofs.Slots.{same_bytes}
 use Rattle.safety.proofs.Lists.{contained, contains_map, at_reversed, any_found, any_holds}
 use Rattle.safety.proofs.Tests.{flat_in, from_map}
 use Rattle.safety.proofs.Standing.{block_in, spent_is}
-use Rattle.safety.proofs.Ids.{id_is, one_id}
+use Rattle.safety.proofs.Ids.{id_is, unsigned_limits, one_unsigned_id}
 use Rattle.safety.proofs.Recorded.{recorded_limits}
 use Rattle.safety.proofs.Handed.{own_payable}
 use Rattle.safety.proofs.Own.{kept_one}
@@ -202,7 +202,7 @@ can_close spend hs blocks w h held coin at free k there some =
           stands = u.stands;
           collide = subst (λ (s : List ℕ). Collide sha256d s (stripped_spelling u.transaction)) (sym (same_spelling (terms_in h) k)) e;
         }))
-        (one_id (transaction_of c) u.transaction (recorded_limits (terms_in h) k payable (transaction_of c) (of_commitment refl)) limits (sym id))
+        (one_unsigned_id (transaction_of c) u.transaction (unsigned_limits (transaction_of c) (recorded_limits (terms_in h) k payable (transaction_of c) (of_commitment refl))) limits (sym id))
 
 some_at : {X : Type 0} (xs : List X) (k : ℕ) → k < length xs → (x : X) × (slice_get xs k ≡ Some x)
 some_at [] k l = absurd (omega (arith, l))

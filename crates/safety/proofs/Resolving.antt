@@ -1,7 +1,7 @@
 -- What becomes of the outputs of a peer's commitment.
-use Rattle.std.proofs.Common.{◌≡◌, ℕ, zero, suc, ◌+◌, ◌%◌, ◌^◌, ◌<◌, ◌≤◌, Bool, true, false, List, [], ◌∷◌, ◌++◌, length, Some, None, option_map, sym, ap, ◌∙◌, refl, subst, inl, inr, ⊎_elim, arith}
-use Rattle.std.specs.Prelude.{◌⊎◌, ◌↔◌, not, ◌&&◌, ◌||◌, ◌==◌, nat_lt, nat_le, slice_get, if◌then◌else◌, codes}
-use Rattle.std.specs.List.{Contains, All, list_all, list_any}
+use Rattle.std.proofs.Common.{◌≡◌, ℕ, zero, suc, ◌+◌, ◌%◌, ◌^◌, ◌<◌, ◌≤◌, Bool, true, false, List, [], ◌∷◌, ◌++◌, length, Some, sym, ap, ◌∙◌, refl, subst, inl, inr, arith}
+use Rattle.std.specs.Prelude.{◌↔◌, not, ◌&&◌, ◌||◌, ◌==◌, nat_lt, nat_le, slice_get, if◌then◌else◌, codes}
+use Rattle.std.specs.List.{Contains, list_all, list_any}
 use Rattle.std.specs.Str.{bytes_eq}
 use Rattle.std.proofs.lemmas.Bool.{false≢true, and_parts, lt-leb, le-ltb, ltb-true, leb-true, eqb-true}
 use Rattle.std.proofs.lemmas.List.Elements.{All-contains, Contains-append_left, Contains-append_right}
@@ -19,21 +19,17 @@ use Rattle.script.specs.Run.{Clean}
 use Rattle.tx.specs.declared.input.OutPoint.{OutPoint}
 use Rattle.tx.specs.declared.input.TxIn.{TxIn}
 use Rattle.tx.specs.declared.limits.TheConstants.{MAX_VALUE}
-use Rattle.tx.specs.Parts.{Output}
 use Rattle.tx.specs.Fields.{Transaction, signed_input, unsigned_transaction}
 use Rattle.tx.specs.Spelling.{stripped_spelling, transaction_id}
 use Rattle.tx.proofs.Witnesses.{same_id}
 use Rattle.sighash.specs.Programs.{run_of, spend_of, script_hash_program}
 use Rattle.keys.specs.Derivation.{derived_key, revocation_key}
-use Rattle.terms.specs.declared.htlcs.Htlc.{Htlc}
 use Rattle.terms.specs.declared.agreement.Terms.{Terms}
 use Rattle.terms.specs.Agreement.{party}
 use Rattle.terms.specs.Sides.{other}
 use Rattle.terms.specs.Scripts.{to_local, key_hash}
-use Rattle.paths.specs.Listing.{CheckedScript}
 use Rattle.forms.proofs.Forms.{key_length}
-use Rattle.forms.specs.Forms.{to_local_form}
-use Rattle.chain.specs.Blocks.{Contents as Block, Coin, coin_at, is_named}
+use Rattle.chain.specs.Blocks.{Contents as Block, Coin}
 use Rattle.claim.specs.declared.parts.Place.{Place}
 use Rattle.claim.specs.Fitting.{output_at}
 use Rattle.commit.specs.declared.fees.Direction.{Direction}
@@ -42,10 +38,9 @@ use Rattle.commit.specs.declared.outputs.OutputKind.{OutputKind}
 use Rattle.commit.specs.declared.outputs.OutputKind.TheVariants.{ToLocal, ToRemote, ToHtlc}
 use Rattle.commit.specs.declared.outputs.CommitmentOutput.{CommitmentOutput}
 use Rattle.commit.specs.declared.outputs.HtlcOutput.{HtlcOutput}
-use Rattle.commit.specs.Fees.{satoshis_of}
-use Rattle.commit.specs.Keys.{KeyBytes, keys_of}
+use Rattle.commit.specs.Keys.{keys_of}
 use Rattle.commit.specs.Outputs.{to_local_script, htlc_script}
-use Rattle.commit.specs.Commitments.{Contents, commitment_of, tx_output, transaction_of, id_of, htlcs_of, htlc_tx_of, htlc_tx_output, lock_time_of, IsOutputOf}
+use Rattle.commit.specs.Commitments.{Contents, commitment_of, tx_output, transaction_of, htlcs_of, htlc_tx_of, htlc_tx_output, lock_time_of, IsOutputOf}
 use Rattle.penalty.specs.Outputs.{program_of, HasHeight, IsOutput}
 use Rattle.penalty.specs.Claimable.{Claimable, place_in, penalty_on, payment_on, htlc_form, htlc_penalty_on, second_stage_penalty, claims_on, claims_by, claims_from}
 use Rattle.penalty.specs.Worth.{stage_on, staged}
@@ -56,39 +51,39 @@ use Rattle.channel.specs.declared.commitments.CommitmentState.{CommitmentState}
 use Rattle.channel.specs.Tokens.{contents_of}
 use Rattle.safety.specs.Signing.{Collision, AreSame}
 use Rattle.safety.specs.Satisfying.{HasPreimage}
-use Rattle.safety.specs.Spending.{spend_on, IsSignedBy, peer_keys, ItemCollides, Waits, HasWaited}
+use Rattle.safety.specs.Spending.{spend_on, IsSignedBy, peer_keys, Waits}
 use Rattle.safety.specs.Standing.{StandsAt}
 use Rattle.safety.specs.Whereabouts.{IsOnChain, IsNamedBy, IsCoinOf}
-use Rattle.safety.specs.Recorded.{IsPayable, of_commitment, of_htlc}
+use Rattle.safety.specs.Recorded.{IsPayable, of_htlc}
 use Rattle.safety.specs.Fates.{htlc_signed}
-use Rattle.safety.specs.Places.{place_at, IsAt, IsHtlcAt, IsPeersClaim, payment, direct, IsRevokedClaim, penalty, own_payment, htlc_penalty, second_penalty, IsOutPointOf, of_output, of_second_stage}
-use Rattle.safety.specs.Holdings.{Holding, terms_in, KeepsRules}
-use Rattle.safety.specs.Premises.{LockedOutput, spend, output_lock, outputs_by}
+use Rattle.safety.specs.Places.{place_at, IsAt, IsHtlcAt, payment, direct, IsRevokedClaim, penalty, own_payment, htlc_penalty, second_penalty}
+use Rattle.safety.specs.Holdings.{Holding, terms_in}
+use Rattle.safety.specs.Premises.{output_lock, outputs_by}
 use Rattle.safety.specs.Ledgers.{keeps_locks}
 use Rattle.safety.specs.Breaks.{IsHashedForKey, Breaks, by_keys, by_script, by_key, by_preimage}
 use Rattle.safety.specs.Closers.{IsWatched}
-use Rattle.safety.specs.Resolutions.{WasReleased, Resolution, unspent, ours, lost, broken, IsSlept, ShowsPreimage, IsOnHtlc, IsPaidOrLate, paid, late, PeersAreResolved}
+use Rattle.safety.specs.Resolutions.{Resolution, unspent, ours, lost, broken, IsSlept, IsOnHtlc, IsPaidOrLate, paid, late, PeersAreResolved}
 use Rattle.safety.proofs.Slots.{contains_first, contains_later}
-use Rattle.safety.proofs.Lists.{none_some, some_is, contained, any_found, at_reversed}
+use Rattle.safety.proofs.Lists.{none_some, contained, any_found, at_reversed}
 use Rattle.safety.proofs.Claimed.{AreKeys}
 use Rattle.safety.proofs.Limits.{no_longer, htlc_short}
 use Rattle.safety.proofs.Spelt.{to_local_ops, key_hash_ops}
 use Rattle.safety.proofs.Ran.{LastCollides, KeyCollides}
 use Rattle.safety.proofs.Standing.{naming, spent_is}
-use Rattle.safety.proofs.Stripped.{has_stripped, same_stripped}
-use Rattle.safety.proofs.Ids.{id_is}
+use Rattle.safety.proofs.Stripped.{has_stripped}
+use Rattle.safety.proofs.Ids.{id_is, unsigned_limits, same_stripped}
 use Rattle.safety.proofs.Indices.{htlc_in, one_htlc}
-use Rattle.safety.proofs.Fates.{bare_second, IsForHtlc}
+use Rattle.safety.proofs.Fates.{bare_second}
 use Rattle.safety.proofs.Seconds.{bare_commitment, standing, found}
 use Rattle.safety.proofs.Whereabouts.{commitment_pays, second_pays, none_stands, not_on_to_local, not_on_to_remote}
 use Rattle.safety.proofs.Recorded.{limited, limited_htlc, recorded_limits}
-use Rattle.safety.proofs.Places.{IsGiven, given_by, Rule, htlc_at_index, contains_one, revoked_at}
+use Rattle.safety.proofs.Places.{given_by, Rule, htlc_at_index, contains_one, revoked_at}
 use Rattle.safety.proofs.Takers.{low_lock, not_final, short}
 use Rattle.safety.proofs.Handed.{peers_payable, keys_good, remote_good}
 use Rattle.safety.proofs.Own.{kept_one, output_made, made_locked, peers_key_own, Names, spend_on_chain, IsOwnInput, by_release, by_htlc, by_break, peers_collide, is_own_input}
 use Rattle.safety.proofs.Reading.{secret_key, IsRead, read, read_key, read_preimage}
 use Rattle.safety.proofs.Opening.{OpensLocal, by_revoked, by_delayed, by_local_script, opens_local, OpensRemote, by_payment_key, by_other_key, opens_remote, OpensHtlc, by_revocation, by_remote, by_preimage as opens_by_preimage, by_expiry, by_script as opens_by_script, by_key as opens_by_key, opens_htlc}
-use Rattle.safety.proofs.Closing.{revoked_start, htlc_no_funding}
+use Rattle.safety.proofs.Closing.{revoked_start}
 
 -- ---- an output of a commitment
 
@@ -430,7 +425,7 @@ stands_there hs blocks s x i lock e =
     let id : transaction_id t.0 ≡ transaction_id u = id_is t.0 ∙ ap sha256d same ∙ sym (id_is u) in
     let limits = s.watched.ledger.limits (output_lock (second_stage_penalty (contents s) x)) lock h.0 t.0 stands id in
     let whole = recorded_limits (terms_in s.holding) s.commitment (payable hs blocks s) u (of_htlc x i refl) in
-    record { height = h.0; signed = t.0; stands = stands; same = same_stripped t.0 u limits whole same ∙ bare_second (contents s) x }
+    record { height = h.0; signed = t.0; stands = stands; same = same_stripped t.0 u limits (unsigned_limits u whole) same ∙ bare_second (contents s) x }
 
 pub standing_there : (hs : List Holding) (blocks : List Block) (s : Setting hs blocks) (x : HtlcOutput) (output : CommitmentOutput) → IsHtlcAt (contents s) x output → standing blocks (contents s) x.index ≡ true
     → IsOnChain blocks (htlc_tx_of (contents s) x)

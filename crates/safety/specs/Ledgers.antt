@@ -1,5 +1,5 @@
 -- What a chain has to satisfy for the outputs that a node's channels make. A chain that passed the tests of `chain` does, and so does Bitcoin's, whatever hash types others sign with.
-use Rattle.std.specs.Prelude.{◌≡◌, ◌⊎◌, ℕ, ◌+◌, ◌%◌, ◌^◌, Bool, true, false, not, ◌&&◌, ◌||◌, ◌==◌, nat_lt, nat_le, List, reverse, Some, slice_get}
+use Rattle.std.specs.Prelude.{◌≡◌, ◌⊎◌, ℕ, ◌+◌, ◌%◌, ◌^◌, Bool, true, false, ◌&&◌, ◌||◌, ◌==◌, nat_lt, nat_le, List, reverse, Some, slice_get}
 use Rattle.std.specs.List.{Contains, list_all}
 use Rattle.script.specs.declared.limits.TheConstants.{LOCKTIME_THRESHOLD}
 use Rattle.script.specs.Token.{token_of, is_key}
@@ -54,12 +54,12 @@ pub record Makes (t : Transaction) (o : OutPoint) (output : Output) : Type 0 whe
   pub id : transaction_id t ≡ o.txid
   pub there : slice_get t.outputs o.index ≡ Some output
 
--- An input that names one of these outputs spends it, if it stands on the chain; the fields of its transaction fit into their bytes. A transaction with the id of one of those that are made keeps all limits and is
--- the only one of its id, and its outputs are the coins at their outpoints
+-- An input that names one of these outputs spends it, if it stands on the chain; the fields of its transaction fit into their bytes. A transaction with the id of one of those that are made keeps all limits but for its
+-- witnesses, which no id shows (BIP 141). It is the only one of its id, and its outputs are the coins at their outpoints
 pub record IsLedgerOf (keys : List (List ℕ)) (locks made : List LockedOutput) (blocks : List Block) : Type 0 where
   pub named : (w : LockedOutput) → Contains locks w → (coin : Coin) → IsCoinAt blocks w coin → (height : ℕ) (t : Transaction) (input : TxIn) → StandsAt blocks height t → Contains t.inputs input
       → input.outpoint ≡ w.place.outpoint → FieldsFit t × SpendsCoin keys height (spend w t input) coin
-  pub limits : (w : LockedOutput) → Contains made w → (height : ℕ) (t : Transaction) → StandsAt blocks height t → transaction_id t ≡ w.place.outpoint.txid → KeepsLimits t
+  pub limits : (w : LockedOutput) → Contains made w → (height : ℕ) (t : Transaction) → StandsAt blocks height t → transaction_id t ≡ w.place.outpoint.txid → KeepsLimits (unsigned_transaction t)
   pub one : (w : LockedOutput) → Contains made w → (height earlier : ℕ) (t u : Transaction) → StandsAt blocks height t → StandsAt blocks earlier u
       → transaction_id t ≡ w.place.outpoint.txid → transaction_id u ≡ w.place.outpoint.txid → unsigned_transaction t ≡ unsigned_transaction u
   pub coins : (w : LockedOutput) → Contains made w → (height : ℕ) (t : Transaction) → StandsAt blocks height t → (output : Output) → Makes t w.place.outpoint output

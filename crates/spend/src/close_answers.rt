@@ -1,10 +1,7 @@
 //! What an unrevoked commitment lets one claim of a transaction, from when, and until when.
 
-ghost use Rattle.std.specs.Prelude.{◌≡◌, map, IfOk};
-ghost use Rattle.penalty.specs.Sets.{AreClaimsOn};
-ghost use Rattle.unilateral.specs.Names.{name_at};
-ghost use Rattle.unilateral.specs.Reading.{claimed_in, others_in};
-ghost use Rattle.spend.specs.CloseAnswers.{close_of};
+ghost use Rattle.std.specs.Prelude.{◌≡◌, IfOk};
+ghost use Rattle.spend.specs.CloseAnswers.{IsFoundIn, IsCloseAnswer};
 
 use crate::close_requests::CloseRequest;
 use crate::revoked_answers::kind_of;
@@ -14,9 +11,10 @@ use page::Page;
 use page::Piece::{Count, Text};
 use std::alloc::{AllocError, Global};
 use texts::WriteValue;
+use tx::Tx;
 use unilateral::{
-    Close, Found, KnownPreimages, OutputName, Revoked, channel_patterns, claims_in, from_height,
-    names_at,
+    ChannelPatterns, Close, Found, FundingKeys, KnownPreimages, OutputName, Revoked,
+    channel_patterns, claims_in, from_height, names_at,
 };
 
 /// An unrevoked commitment, and what was found of it in a transaction.
@@ -30,17 +28,44 @@ pub struct CloseAnswer {
     pub confirmed_height: Option<u32>,
 }
 
-/// All that the commitment of a request lets one claim of the transaction, and the indices and the names of the other outputs. The only error is that memory ran out.
-pub fn close_answer_of(alloc: Global, request: CloseRequest) -> Result<CloseAnswer, AllocError>
-    ensures commitment { IfOk result (λ a. a.close ≡ close_of request) }
-    ensures claims { IfOk result (λ a. AreClaimsOn
-        (claimed_in (close_of request) request.transaction) a.found.claims) }
-    ensures others { IfOk result (λ a. a.found.others
-        ≡ others_in (close_of request) request.transaction) }
-    ensures names { IfOk result (λ a. a.names ≡ map (name_at (close_of request).commitment
-        request.funding_keys request.transaction)
-        (others_in (close_of request) request.transaction)) }
-    ensures height { IfOk result (λ a. a.confirmed_height ≡ request.confirmed_height) }
+// The preimages that are known, each hashed once.
+fn known_of(preimages: List<[u8; 32]>) -> Result<KnownPreimages, AllocError>
+    ensures { IfOk result (λ k. k ≡ preimages) }
+{
+    let mut known = KnownPreimages::from_vec(preimages.into_vec());
+    known.index()?;
+    Ok(known)
+}
+
+// What is found of a commitment in a transaction.
+fn found_in(
+    alloc: Global,
+    patterns: &ChannelPatterns,
+    close: Close,
+    funding_keys: Option<FundingKeys>,
+    transaction: &Tx,
+    confirmed_height: Option<u32>,
+) -> Result<CloseAnswer, AllocError>
+    ensures { IfOk result (IsFoundIn close funding_keys transaction.now confirmed_height) }
+{
+    let found = claims_in(alloc, patterns, &close, transaction)?;
+    let others = found.others.values();
+    let names = names_at(alloc, &close.commitment, funding_keys, transaction, others)?;
+    Ok(CloseAnswer {
+        close,
+        found,
+        names,
+        confirmed_height,
+    })
+}
+
+// The answer to a request, by the patterns of scripts.
+fn answer_by(
+    alloc: Global,
+    patterns: &ChannelPatterns,
+    request: CloseRequest,
+) -> Result<CloseAnswer, AllocError>
+    ensures { IfOk result (IsCloseAnswer request) }
 {
     let CloseRequest {
         channel_type,
@@ -54,31 +79,31 @@ pub fn close_answer_of(alloc: Global, request: CloseRequest) -> Result<CloseAnsw
         transaction,
         confirmed_height,
     } = request;
-    let patterns = channel_patterns(alloc)?;
+    let preimages = known_of(preimages)?;
     let htlcs = htlcs.into_vec();
-    let commitment = Revoked::new(alloc, &patterns, channel_type, keys, delay_blocks, htlcs)?;
-    let mut preimages = KnownPreimages::from_vec(preimages.into_vec());
-    preimages.index()?;
+    let commitment = Revoked::new(alloc, patterns, channel_type, keys, delay_blocks, htlcs)?;
     let close = Close {
         commitment,
         whose,
         feerate_per_kw,
         preimages,
     };
-    let found = claims_in(alloc, &patterns, &close, &transaction)?;
-    let names = names_at(
+    found_in(
         alloc,
-        &close.commitment,
+        patterns,
+        close,
         funding_keys,
         &transaction,
-        found.others.values(),
-    )?;
-    Ok(CloseAnswer {
-        close,
-        found,
-        names,
         confirmed_height,
-    })
+    )
+}
+
+/// All that the commitment of a request lets one claim of the transaction, and the indices and the names of the other outputs. The only error is that memory ran out.
+pub fn close_answer_of(alloc: Global, request: CloseRequest) -> Result<CloseAnswer, AllocError>
+    ensures { IfOk result (IsCloseAnswer request) }
+{
+    let patterns = channel_patterns(alloc)?;
+    answer_by(alloc, &patterns, request)
 }
 
 /// Writes an answer: a line with a JSON object.
