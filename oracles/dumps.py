@@ -221,15 +221,19 @@ def lacking(channels):
             for htlc in channel.htlcs():
                 if htlc["direction"] == "received" and (htlc["ours"] or htlc["theirs"]) and htlc["hash"] in others and htlc["hash"] not in own:
                     number = htlc["id"]
+                    if ["fail", number] in channel.updates[0]:
+                        yield f"channel {index} failed the received HTLC {number}, whose preimage channel {other} has: it can't be fulfilled any more"
+                        continue
                     yield f"channel {index} lacks the preimage of the received HTLC {number}, which channel {other} has: it can't be claimed before it is fulfilled in channel {index} too"
 
 
 def new_dumps():
-    """Dumps that oracles/histories.py makes anew: of two channels that are unlike in all their terms, by A, who closed the second one, by B, and by A before the close; and of a channel whose funding output has another index than 0."""
+    """Dumps that oracles/histories.py makes anew: of two channels that are unlike in all their terms, by A, who closed the second one, by B, by A before the close, and by A once it failed what it has the preimage of, or another one; and of a channel whose funding output has another index than 0."""
     with open(f"{TOP}/oracles/unlike_channels.json", encoding="utf-8") as file:
         unlike = json.load(file)
     before = dict(unlike, events=[it for it in unlike["events"] if it[0] != "close"])
-    return [Books(unlike).dump("A"), Books(unlike).dump("B"), Books(before).dump("A"), Books(dict(unlike, events=[]), 70_000).dump("B")]
+    failed = [dict(before, events=[*before["events"], ["fail", "A", *it]]) for it in ((1, 0), (0, 1))]
+    return [Books(unlike).dump("A"), Books(unlike).dump("B"), Books(before).dump("A"), *(Books(it).dump("A") for it in failed), Books(dict(unlike, events=[]), 70_000).dump("B")]
 
 
 def json_line(value):
