@@ -65,15 +65,15 @@ def push(item):
     return bitcoin.push(bytes.fromhex(item)).hex()
 
 
-def end(opcode, item, rule):
+def end(opcode, item, rule, has_others=False):
     count = len(item) // 2
     tail = "; consensus is laxer, and may let others spend"
     if rule == NO_KEY:
-        tail = "; in consensus no signature is valid for it either, and other keys may sign"
+        tail = "; in consensus no signature is valid for it, and other keys of this check may sign" if has_others else "; in consensus its check is false, and nobody can spend where that has to be true"
         if count == 65 and item[:2] in ("04", "06", "07"):
             tail = "; consensus takes this one, and nodes relay no spend with it"
         if count == 32:
-            tail = ", as taproot alone has them; in consensus no signature is valid for it, and other keys may sign"
+            tail = ", as taproot alone has them" + tail
     return f"a branch ends at opcode {opcode}: {item} ({count} byte{'s' * (count > 1)}) is {rule}{tail}"
 
 
@@ -135,7 +135,9 @@ ENDS = [
     (many_keys(20, "0114"), strict_notes((23, LONG, NO_KEY))),
     (many_keys(21, "0115"), EXACT),
     # two keys: the first that is none is named; a key of 33 bytes that begins with 04, and one of 32
-    (f"0000{push('02aa')}{push('03bb')}52ae", strict_notes((5, "03bb", NO_KEY))),
+    (f"0000{push('02aa')}{push('03bb')}52ae", strict_notes((5, "03bb", NO_KEY, True))),
+    (f"0000{push(OTHER[:64])}51ae", strict_notes((4, OTHER[:64], NO_KEY, True))),
+    (f"63{push(KEY)}ac67{push(OTHER[:64])}ac68", [end(5, OTHER[:64], NO_KEY)]),
     (f"00{push('04' + KEY[2:])}ac", strict_notes((2, "04" + KEY[2:], NO_KEY))),
     (f"00{push(KEY[:64])}ac", strict_notes((2, KEY[:64], NO_KEY))),
     # signatures of 72 and 73 bytes; one of 74 is none in consensus either
@@ -335,6 +337,31 @@ def relay_rows():
     for more in ("", push("") + "75"):
         length = len(code + more) // 2
         yield code + more, [anyone] + [f"the script has {length} bytes, and nodes relay no spend of one above 3600"] * (length > 3600)
+
+
+def origin_rows():
+    """Bytes in the place of a HASH160 that are no secret's: zeros, ff, the hash of nothing and of a byte, and of a point that all know or nobody; and others."""
+    g, h = "79be667ef9dcbbac55a06295ce870b07029bfcdb2dce28d959f2815b16f81798", "50929b74c1a04954b78b4b6035e97a5e078a5a0f28ec96d547bfee9ace803ac0"
+    y = 0x483ADA7726A3C4655DA4FBFC0E1108A8FD17B448A68554199C47D08FFB10D4B8
+    point, negation, nobodys = "the point G, whose private key is 1", "the point -G, whose private key all know", "the point H of BIP 341, whose private key nobody knows"
+    hashed = [("", "nothing"), *((f"{byte:02x}", f"the script {byte:02x}") for byte in (0x00, 0x01, 0x4F, 0x51, 0x6A, 0x80, 0xAC, 0xFE, 0xFF)), ("0000", ""), ("5151", "")]
+    hashed += [("02" + g, point), (f"04{g}{y:064x}", point), ("03" + g, negation), (f"04{g}{FIELD - y:064x}", negation), (f"04{g}{y + 1:064x}", ""), ("02" + h, nobodys), ("03" + h, nobodys), (g, "")]
+    found = [(bitcoin.hash160(bytes.fromhex(text)).hex(), f"the hash of {what}" if what else "") for text, what in hashed]
+    for item, what in [*found, ("00" * 20, "zeros"), ("00" * 19 + "01", ""), ("ff" * 20, "bytes of ff"), ("ff" * 19 + "fe", "")]:
+        yield f"a9{push(item)}88{push(KEY)}ac", [f"opcode 1: {item} is {what}: as a hash it keeps nobody out, or everybody"] * bool(what)
+
+
+def operand_rows():
+    """CHECKMULTISIGs that no rule decides: with a lock's number in the place of a signature, and with a number that the witness brings."""
+    gives_up = "no rule decides it on what stands on the stack there, so the listing gives up: whether anyone can spend, or nobody, is not said"
+    keys = push(KEY) + push(OTHER) + push(THIRD)
+    for lock in (144, 52_560):
+        missing = f"on a branch {bitcoin.number_item(lock).hex()} ({len(bitcoin.number_item(lock))} bytes) stands there in the place of a signature: is a DROP missing?"
+        yield f"635367{number(lock)}b25268{keys}53ae", [f"opcode 11 is OP_CHECKMULTISIG: {gives_up}", missing]
+        yield f"63{number(lock)}b252675368{keys}53ae", [f"opcode 11 is OP_CHECKMULTISIG: {gives_up}", missing]
+    brings = "where the witness brings the number of signatures, it may be 0, and anyone can spend: compare the number of keys with the keys before it"
+    yield f"52{keys}54ae", [f"opcode 5 is OP_CHECKMULTISIG: {gives_up}", brings]
+    yield f"{keys}53ae", [f"opcode 4 is OP_CHECKMULTISIG: {gives_up}", brings]
 
 
 def shared_rows():
@@ -668,6 +695,100 @@ def repeated_rows():
     yield text, again("events", text.rindex('"e'), 3, 3)
 
 
+# ---- forwards
+
+PREIMAGE, AMOUNT, EXPIRY = "00" * 32, 12_000_000, 60
+PAYMENT = bitcoin.sha256(bytes.fromhex(PREIMAGE)).hex()
+
+
+class Forward:
+    """What A forwards: B offers it an HTLC in channel 1, and A offers B one of the same hash in channel 0."""
+
+    def __init__(self):
+        self.events, self.revoked = [], {}
+        for side, channel in (("B", 1), ("A", 0)):
+            self.add("offer", side, channel, AMOUNT, PAYMENT, EXPIRY)
+            self.deliver("AB".strip(side), channel)
+            self.commit(side, channel)
+
+    def add(self, *event):
+        """The number of an event that is added."""
+        self.events.append([*event])
+        return len(self.events) - 1
+
+    def deliver(self, side, channel, count=1):
+        for _ in range(count):
+            self.add("deliver", side, channel)
+
+    def sign(self, side, channel):
+        """The other side's next commitment; before it the penalties of the one that is revoked."""
+        peer = "AB".strip(side)
+        number = self.revoked.get((peer, channel), 0)
+        if number:
+            self.add("keep", side, channel, number - 1)
+        self.add("sign", side, channel)
+        self.deliver(peer, channel)
+        self.revoked[peer, channel] = number + 1
+
+    def commit(self, side, channel):
+        """Both sign, and both revoke: what this side sent is irrevocably committed (BOLT 2)."""
+        for signer in (side, "AB".strip(side)):
+            self.sign(signer, channel)
+            self.deliver(signer, channel)
+
+    def row(self, *notes):
+        return json.dumps({**scenario(), "events": self.events}), [*notes]
+
+
+def refused_note(events, event):
+    return f"event {event} is the first that was refused, UnknownHtlc: {json.dumps(events[event])}"
+
+
+def fail_rows():
+    """A fails what it forwards: up to each step by which the fail of B is irrevocably committed, by a preimage that A has or has not, and after a fail of B that is refused."""
+    fails = "A fails an HTLC in channel 1"
+    early = "before B's fail of the same hash in channel 0 is irrevocably committed: B may still take that one, and is paid by A alone"
+    for steps in range(6):
+        it = Forward()
+        it.add("fail", "B", 0, 0)
+        for step, side in ((it.deliver, "A"), (it.sign, "B"), (it.deliver, "B"), (it.sign, "A"), (it.deliver, "A"))[:steps]:
+            step(side, 0)
+        event = it.add("fail", "A", 1, 0)
+        yield it.row(*[f"event {event}: {fails} {early}"] * (steps < 5))
+    stands = "while it offers the same hash in channel 0: whoever fulfils that one is paid by A alone"
+    for is_known, why in ((True, "whose preimage it has by B's fulfil in channel 0: A alone pays there"), (False, stands)):
+        it = Forward()
+        it.add("fulfil", "B", 0, 0, PREIMAGE)
+        if is_known:
+            it.deliver("A", 0)
+            it.commit("B", 0)
+        yield it.row(f"event {it.add('fail', 'A', 1, 0)}: {fails} {why}")
+    it = Forward()
+    first, event = it.add("fail", "B", 0, 7), it.add("fail", "A", 1, 0)
+    yield it.row(refused_note(it.events, first), "there is no such HTLC: A offered 1 in channel 0, numbered from 0", f"event {event}: {fails} {stands}")
+
+
+def fulfil_rows():
+    """A fulfils what it forwards: too early, so that it is refused, and in the block after its expiry, by which it may be taken back, and the one before."""
+    it = Forward()
+    it.events.insert(2, ["fulfil", "A", 1, 0, PREIMAGE])
+    event = it.add("fulfil", "B", 0, 0, PREIMAGE)
+    it.deliver("A", 0)
+    it.add("close", "B", 1)
+    learnt = "A learns by this fulfil in channel 0 the preimage of an HTLC in channel 1, and does not fulfil that one: a fulfil in one channel is not known in another"
+    early = "HTLC 0 of channel 1 is not yet committed on both sides: B signs, A revokes and signs, and B revokes, in this order"
+    yield it.row(refused_note(it.events, 2), early, f"event {event}: {learnt}")
+    for blocks in (EXPIRY, EXPIRY + 1):
+        it = Forward()
+        it.add("fulfil", "B", 0, 0, PREIMAGE)
+        it.deliver("A", 0)
+        it.add("close", "B", 1)
+        it.add("blocks", blocks)
+        event = it.add("fulfil", "A", 1, 0, PREIMAGE)
+        late = f"event {event}: A fulfils an HTLC in channel 1 at height {blocks}, and the channel is closed, and the HTLC expired at height {EXPIRY}: where B took it back on the chain, the fulfil takes nothing"
+        yield it.row(*[late] * (blocks > EXPIRY))
+
+
 # ---- the calls
 
 
@@ -707,7 +828,7 @@ def names_dead_ends(code, ran):
 def main():
     os.chdir(TOP)
     command = program("enforce")
-    scripts = [*opcode_rows(), *((code, with_dead_ends(code, notes)) for code, notes in [*ENDS, *lock_rows(), *key_rows(), *constant_rows(), *shared_rows(), *relay_rows()])]
+    scripts = [*opcode_rows(), *operand_rows(), *((code, with_dead_ends(code, notes)) for code, notes in [*ENDS, *lock_rows(), *key_rows(), *constant_rows(), *shared_rows(), *relay_rows(), *origin_rows()])]
     pairs = [(code, facts, with_dead_ends(code, notes)) for code, facts, notes in pair_rows()]
     texts = [(json.dumps(value), [note]) for value, note in scenario_rows()]
     # the place of what is no JSON, in a text of as many bytes as there may be; one more byte is not looked at
@@ -718,10 +839,12 @@ def main():
     repeated = [(given, [note]) for given, note in repeated_rows()]
     wrong += sum(not is_noted(command, ["run"], given, notes) for given, notes in repeated)
     wrong += sum(not is_noted(command, ["node", "1"], given, notes) for given, notes in texts[:1] + repeated[:1])
+    forwards = [*fail_rows(), *fulfil_rows()]
+    wrong += sum(not is_noted(command, ["run"], given, notes) for given, notes in forwards)
     drawn = [(code, printed_notes(subprocess.run([command, "paths", code], capture_output=True))) for code in mixed_scripts(600)]
     wrong += sum(not is_right(code, notes) for code, notes in ENDS)
     wrong += sum(ends_so(notes) and not is_right(code, notes) for code, notes in drawn)
-    print(f"notes: {len(scripts)} scripts, {sum(ends_so(it[1]) for it in drawn)} more that end as in consensus, {len(pairs)} pairs of facts, {sum(is_contradictory(it[2]) for it in pairs)} of them contradictory, {len(texts)} texts that are no scenario, {len(repeated)} scenarios with a member that stands twice: {wrong} noted otherwise")
+    print(f"notes: {len(scripts)} scripts, {sum(ends_so(it[1]) for it in drawn)} more that end as in consensus, {len(pairs)} pairs of facts, {sum(is_contradictory(it[2]) for it in pairs)} of them contradictory, {len(texts)} texts that are no scenario, {len(repeated)} scenarios with a member that stands twice, {len(forwards)} with a forward: {wrong} noted otherwise")
     return int(wrong > 0)
 
 

@@ -264,9 +264,13 @@ def givens(told: dict[str, Any]) -> Iterator[tuple[dict[str, Any], tuple[str, in
         yield {**paying, "outputs": [{**late, "value": value}], "feerate_per_kw": 1000}, None, notes
     key = told["terms"]["keys"]["remote_htlcpubkey"]
     curve = "5120" + "12" * 32
-    known = [*ORIGINS, "0014" + "00" * 19 + "01", "5115" + "00" * 21, "5120" + POINT_H[:-2] + "c1"]
+    known = [*ORIGINS, "0014" + "00" * 19 + "01", "0014" + "ff" * 19 + "fe", "0020" + sha256(bytes(2)).hex(), "5115" + "00" * 21, "5120" + POINT_H[:-2] + "c1"]
     for destination in ("5103" + "11" * 3, "6003" + "11" * 3, "5220" + "11" * 32, curve, *known, *(it for it, _ in DUST)):
         yield {**paying, "destination": destination}, None, destination_notes(destination)
+    # without the preimage RIPEMD-160 of its hash stands in the script
+    pushed = "0014" + ripemd160(bytes.fromhex(preimage_slot(told, 1)[1])).hex()
+    again = "destination: what it pays to is a push of the script of outputs[0]: anyone can spend from it, or nobody"
+    yield {**paying, "destination": pushed}, None, [again]
     cut = [it[:-2] for it, _ in DUST] + [
         "0014" + "11" * 19,
         "0015" + "11" * 21,
@@ -296,7 +300,7 @@ def givens(told: dict[str, Any]) -> Iterator[tuple[dict[str, Any], tuple[str, in
 POINT_G = "79be667ef9dcbbac55a06295ce870b07029bfcdb2dce28d959f2815b16f81798"
 POINT_H = "50929b74c1a04954b78b4b6035e97a5e078a5a0f28ec96d547bfee9ace803ac0"
 # programs whose hash or key is nobody's secret: HASH160 of nothing, of 51 and of the key 1 (BIP 173), SHA-256 of nothing
-# and of 51
+# and of 51; then HASH160 of the keys 1 and -1 in 65 bytes and of -1 in 33, and SHA-256 of 00, of 6a and of ff
 ORIGINS = {
     "76a914" + "00" * 20 + "88ac": "zeros",
     "a914" + "00" * 20 + "87": "zeros",
@@ -307,6 +311,15 @@ ORIGINS = {
     "00204ae81572f06e1b88fd5ced7a1a000945432e83e1551e6f721ee9c00b8cc33260": "the hash of the script 51",
     "0014751e76e8199196d454941c45d1b3a323f1433bd6": "the hash of the point G, whose private key is 1",
     "76a914751e76e8199196d454941c45d1b3a323f1433bd688ac": "the hash of the point G, whose private key is 1",
+    "76a91491b24bf9f5288532960ac687abb035127b1d28a588ac": "the hash of the point G, whose private key is 1",
+    "76a914bec08011c9e76dcc42e739a2d7752c2e3ac86e6e88ac": "the hash of the point -G, whose private key all know",
+    "0014adde4c73c7b9cee17da6c7b3e2b2eea1a0dcbe67": "the hash of the point -G, whose private key all know",
+    "00206e340b9cffb37a989ca544e6bb780a2c78901d3fb33738768511a30617afa01d": "the hash of the script 00",
+    "0020189f40034be7a199f1fa9891668ee3ab6049f82d38c68be70f596eab2e1857b7": "the hash of the script 6a",
+    "0020a8100ae6aa1940d0b663bb31cd466142ebbdbd5187131b92d93818987832eb89": "the hash of the script ff",
+    "0014" + "ff" * 20: "bytes of ff",
+    "a914" + "ff" * 20 + "87": "bytes of ff",
+    "0020" + "ff" * 32: "bytes of ff",
     "5120" + POINT_G: "it is the point G, whose private key is 1: anyone can sign for it",
     "5120" + POINT_H: "it is the point H of BIP 341, whose private key nobody knows: nobody can sign for it",
 }
@@ -527,6 +540,73 @@ def open_to_others(told: dict[str, Any]) -> Iterator[tuple[dict[str, Any], list[
         found = keyed_claim(told, before, 1_000_000)
         notes = [unrelayed + why] * bool(why)
         yield {**alone, "outputs": [{**found, "slots": [*slots, *found["slots"]]}]}, notes
+    for alone, destination, what in own_bytes(told):
+        again = f"destination: what it pays to is {what}: anyone can spend from it, or nobody"
+        yield {**alone, "destination": destination}, [again] * bool(what)
+
+
+def hash160(text: str) -> str:
+    return ripemd160(sha256(bytes.fromhex(text))).hex()
+
+
+def hash256(text: str) -> str:
+    return sha256(bytes.fromhex(text)).hex()
+
+
+def own_bytes(told: dict[str, Any]) -> Iterator[tuple[dict[str, Any], str, str]]:
+    """Requests, each with a destination that is made of its own bytes, and what that is called; nothing where a key or
+    a script stands in its own place, so that its owner can spend.
+    """
+    asked, _, _ = next(requests(told))
+    first = {**asked["outputs"][0], "value": 1_000_000}
+    one = {**asked, "outputs": [first]}
+    (_, payment_hash), (_, key) = first["slots"]
+    preimage, txid, program, script = asked["preimages"][0], first["outpoint"][:64], first["program"], first["script"]
+    x, shown, pushed = key[2:], shown_id(bytes.fromhex(txid)), script[6:46]
+    for destination, what in (
+        ("0020" + txid, "the id of outputs[0]"),
+        ("5120" + shown, "the id of outputs[0]"),
+        ("0020" + hash256(txid), "the hash of the id of outputs[0]"),
+        (f"a914{hash160(shown)}87", "the hash of the id of outputs[0]"),
+        ("0020" + preimage, "preimages[0]"),
+        ("5120" + preimage, "preimages[0]"),
+        ("0020" + payment_hash, "the hash of preimages[0]"),
+        ("5120" + payment_hash, "the hash of preimages[0]"),
+        ("0014" + hash160(preimage), "the hash of preimages[0]"),
+        (f"76a914{hash160(preimage)}88ac", "the hash of preimages[0]"),
+        (f"a914{hash160(preimage)}87", "the hash of preimages[0]"),
+        ("0020" + hash256(payment_hash), "the hash of the payment hash in outputs[0].slots[0]"),
+        ("0020" + x, "the x coordinate of a key of outputs[0]"),
+        ("5120" + x, ""),
+        ("0014" + hash160(x), "the hash of the x coordinate of a key of outputs[0]"),
+        ("5120" + hash256(x), "the hash of the x coordinate of a key of outputs[0]"),
+        ("0014" + hash160(key), ""),
+        (f"76a914{hash160(key)}88ac", ""),
+        (f"a914{hash160(key)}87", "the hash of a key of outputs[0]"),
+        ("0020" + hash256(key), "the hash of a key of outputs[0]"),
+        ("0020" + hash256(program), "the hash of the program of outputs[0]"),
+        ("0014" + hash160(program), "the hash of the program of outputs[0]"),
+        (f"a914{hash160(program)}87", ""),
+        ("5120" + program[4:], "the hash in the program of outputs[0]"),
+        ("0014" + hash160(script), "the hash of the script of outputs[0]"),
+        (f"a914{hash160(script)}87", ""),
+        # the script has the hash of the key by which its peer takes it at once
+        ("0014" + pushed, ""),
+        (f"a914{pushed}87", "a push of the script of outputs[0]"),
+    ):
+        yield one, destination, what
+    payment, alone = told["terms"]["keys"]["remote_payment_basepoint"], {**asked, "preimages": []}
+    by_key = {**alone, "outputs": [claim(told, 5, 0, [["exact", payment], ["sig", payment]])]}
+    for destination, what in (
+        (f"76a914{hash160(payment)}88ac", ""),
+        (f"a914{hash160(payment)}87", "the hash in the program of outputs[0]"),
+        ("0020" + payment[2:], "the x coordinate of a key of outputs[0]"),
+    ):
+        yield by_key, destination, what
+    item = keyed_claim(told, "75", 1_000_000)
+    given = {**alone, "outputs": [{**item, "slots": [["exact", "aa" * 32], *item["slots"]]}]}
+    yield given, "0020" + "aa" * 32, "outputs[0].slots[0]"
+    yield given, "0014" + hash160("aa" * 32), "the hash of outputs[0].slots[0]"
 
 
 def no_json() -> Iterator[tuple[str, str]]:

@@ -7,7 +7,7 @@
 //! rules that are stricter than consensus, and about what endangers money. They change no status.
 #![tactic(auto)]
 
-use enforce_notes::{Kept, notes_of};
+use enforce_notes::{Copied, Kept, notes_of};
 use enforce_words::{refuse_memory, refuse_words, run_words};
 use node_words::{run_word, workers_in};
 use std::io::Write;
@@ -15,8 +15,14 @@ use std::process::ExitCode;
 use std::{env, io};
 
 // Writes the notes on a call. Notes that can't be made or written are left out.
-fn write_notes(rt: &HostRuntime, words: &[String], status: u8, input: Option<&[u8]>) {
-    if let Ok(notes) = notes_of(rt.alloc(), words, status, input) {
+fn write_notes(
+    rt: &HostRuntime,
+    words: &[String],
+    status: u8,
+    input: Option<&[u8]>,
+    printed: &[u8],
+) {
+    if let Ok(notes) = notes_of(rt.alloc(), words, status, input, printed) {
         let _ = rt.stderr().write_all(notes.as_bytes());
     }
 }
@@ -37,23 +43,30 @@ fn main(rt: HostRuntime) -> ExitCode {
         }
     }
     let mut input = Kept::new(rt.alloc(), rt.stdin());
+    let mut out = Copied::new(rt.alloc(), rt.stdout());
     let status = match workers_in(words.as_slice()) {
         Some(workers) => run_word(
             &rt,
             rt.alloc(),
             workers,
             &mut input,
-            &mut rt.stdout(),
+            &mut out,
             &mut rt.stderr(),
         ),
         None => run_words(
             rt.alloc(),
             words.as_slice(),
             &mut input,
-            &mut rt.stdout(),
+            &mut out,
             &mut rt.stderr(),
         ),
     };
-    write_notes(&rt, words.as_slice(), status, input.all_bytes());
+    write_notes(
+        &rt,
+        words.as_slice(),
+        status,
+        input.all_bytes(),
+        out.all_bytes(),
+    );
     ExitCode::from(status)
 }

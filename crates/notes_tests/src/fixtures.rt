@@ -32,11 +32,15 @@ pub fn are_notes(rt: &impl Abort, text: Result<String, AllocError>, notes: &str)
 /// Asserts the notes on a script.
 pub fn noted_of(rt: &impl Abort, alloc: Global, code: &str, notes: &str) {
     let words = words_of(rt, alloc, &["paths", code]);
-    are_notes(rt, notes_of(alloc, words.as_slice(), 0, None), notes);
+    are_notes(rt, notes_of(alloc, words.as_slice(), 0, None, &[]), notes);
 }
 
 /// Asserts the notes on a scenario that is not played, where `run` read these bytes.
 pub fn noted_on(rt: &impl Abort, alloc: Global, text: &[u8], notes: &str) {
     let words = words_of(rt, alloc, &["run"]);
-    are_notes(rt, notes_of(alloc, words.as_slice(), 1, Some(text)), notes);
+    are_notes(
+        rt,
+        notes_of(alloc, words.as_slice(), 1, Some(text), &[]),
+        notes,
+    );
 }

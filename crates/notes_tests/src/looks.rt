@@ -225,7 +225,7 @@ fn tells_transactions(rt: HostRuntime) {
 // Asserts the notes on a message that is to be hashed.
 fn noted_on_message(rt: &impl Abort, alloc: Global, text: &str, notes: &str) {
     let words = words_of(rt, alloc, &["ripemd", text]);
-    are_notes(rt, notes_of(alloc, words.as_slice(), 1, None), notes);
+    are_notes(rt, notes_of(alloc, words.as_slice(), 1, None, &[]), notes);
 }
 
 #[test]

@@ -117,10 +117,14 @@ fn places_what_is_no_json(rt: HostRuntime) {
 #[test]
 fn says_nothing(rt: HostRuntime) {
     let words = words_of(&rt, rt.alloc(), &["run"]);
-    are_notes(&rt, notes_of(rt.alloc(), words.as_slice(), 1, None), "");
     are_notes(
         &rt,
-        notes_of(rt.alloc(), words.as_slice(), 0, Some(b"x")),
+        notes_of(rt.alloc(), words.as_slice(), 1, None, &[]),
+        "",
+    );
+    are_notes(
+        &rt,
+        notes_of(rt.alloc(), words.as_slice(), 0, Some(b"x"), &[]),
         "",
     );
 }

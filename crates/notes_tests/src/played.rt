@@ -186,7 +186,7 @@ const FULFILS: [(&[&str], &str); 28] = [
         ],
         "",
     ),
-    // a fulfil there of a number that there is not, before the offer, and of a number that counts no refused offer
+    // a fulfil there of a number that there is not, before the offer, and of another one's number
     (
         &[OFFER_IN_0, OFFER_IN_1, FULFIL_IN_0, BEYOND_IN_1, CLOSE_1],
         NOT_IN_1,
@@ -203,7 +203,7 @@ const FULFILS: [(&[&str], &str); 28] = [
             FULFIL_IN_1,
             CLOSE_1,
         ],
-        "",
+        NOT_IN_1_EITHER,
     ),
     // a forward: A fulfils what B offers in channel 1, and B leaves what A offers in channel 0
     (
@@ -230,7 +230,7 @@ const FULFILS: [(&[&str], &str); 28] = [
             ",[\"fail\",\"B\",0,0]",
             CLOSE_0,
         ],
-        "",
+        "note: event 5: B fails an HTLC in channel 0 whose preimage it has by A's fulfil in channel 1: B alone pays there\n",
     ),
     // the fulfil does not come to B, comes to it in another channel, or channel 0 is open
     (&[OFFER_IN_0, OFFER_OF_B, TO_B_IN_1, BY_A_IN_1, CLOSE_0], ""),
@@ -271,18 +271,174 @@ const FAIL_BY_A: &str = ",[\"fail\",\"A\",1,0]";
 
 const FAIL_BY_B: &str = ",[\"fail\",\"B\",0,0]";
 
+// What commits a fail of B's in channel 0 irrevocably: both sign, and both revoke. The offer of A's is delivered between.
+const HALF: &str =
+    ",[\"sign\",\"B\",0],[\"deliver\",\"A\",0],[\"deliver\",\"A\",0],[\"sign\",\"A\",0],[\"deliver\",\"B\",0],[\"deliver\",\"B\",0],[\"deliver\",\"B\",0]";
+
+const TO_A_IN_0: &str = ",[\"deliver\",\"A\",0]";
+
 const FAILED: &str =
     "note: event 3: A fails an HTLC in channel 1 while it offers the same hash in channel 0: whoever fulfils that one is paid by A alone\n";
 
+const UNCOMMITTED_AT_4: &str =
+    "note: event 4: A fails an HTLC in channel 1 before B's fail of the same hash in channel 0 is irrevocably committed: B may still take that one, and is paid by A alone\n";
+
+const UNCOMMITTED_AT_11: &str =
+    "note: event 11: A fails an HTLC in channel 1 before B's fail of the same hash in channel 0 is irrevocably committed: B may still take that one, and is paid by A alone\n";
+
+const KNOWN_AT_6: &str =
+    "note: event 6: A fails an HTLC in channel 1 whose preimage it has by B's fulfil in channel 0: A alone pays there\n";
+
+const LESS_IN_0: &str =
+    ",[\"offer\",\"A\",0,11999999,\"66687aadf862bd776c8fc18b8e9f8e20089714856ee233b3902a591d0d5f2925\",60]";
+
 // Events, and the notes on a fail before its time.
-const FAILS: [(&[&str], &str); 6] = [
+const FAILS: [(&[&str], &str); 15] = [
     (&[OFFER_OF_B, OFFER_IN_0, FAIL_BY_A], FAILED),
     (&[OFFER_OF_B, OFFER_IN_0, FAIL_BY_A, FAIL_BY_B], FAILED),
-    (&[OFFER_OF_B, OFFER_IN_0, FAIL_BY_B, FAIL_BY_A], ""),
+    // the fail in channel 0 is not delivered, lacks the last revocation, and has it
+    (
+        &[OFFER_OF_B, OFFER_IN_0, FAIL_BY_B, FAIL_BY_A],
+        UNCOMMITTED_AT_4,
+    ),
+    (
+        &[OFFER_OF_B, OFFER_IN_0, FAIL_BY_B, HALF, FAIL_BY_A],
+        UNCOMMITTED_AT_11,
+    ),
+    (
+        &[
+            OFFER_OF_B, OFFER_IN_0, FAIL_BY_B, HALF, FAIL_BY_A, TO_A_IN_0,
+        ],
+        UNCOMMITTED_AT_11,
+    ),
+    (
+        &[
+            OFFER_OF_B, OFFER_IN_0, FAIL_BY_B, HALF, TO_A_IN_0, FAIL_BY_A,
+        ],
+        "",
+    ),
+    // it is fulfilled in channel 0: what A knows, and what it does not know yet
+    (
+        &[
+            OFFER_OF_B,
+            OFFER_IN_0,
+            FULFIL_IN_0,
+            TO_A_IN_0,
+            TO_A_IN_0,
+            FAIL_BY_A,
+        ],
+        KNOWN_AT_6,
+    ),
+    (&[OFFER_OF_B, OFFER_IN_0, FAIL_BY_A, FULFIL_IN_0], FAILED),
+    // two parts: what is left to A is as much as B may still take, or less by a millisatoshi
+    (&[OFFER_OF_B, OFFER_OF_B, OFFER_IN_0, FAIL_BY_A], ""),
+    (
+        &[
+            OFFER_OF_B,
+            OFFER_OF_B,
+            OFFER_IN_0,
+            FAIL_BY_A,
+            ",[\"fail\",\"A\",1,1]",
+        ],
+        "note: event 5: A fails an HTLC in channel 1 while it offers the same hash in channel 0: whoever fulfils that one is paid by A alone\n",
+    ),
+    (
+        &[OFFER_OF_B, OFFER_OF_B, LESS_IN_0, OFFER_IN_0, FAIL_BY_A],
+        "note: event 5: A fails an HTLC in channel 1 while it offers the same hash in channel 0: whoever fulfils that one is paid by A alone\n",
+    ),
+    (&[OFFER_OF_B, OFFER_OF_B, LESS_IN_0, FAIL_BY_A], ""),
     // of another number, before the offer, and by who offers nothing
     (&[OFFER_OF_B, OFFER_IN_0, ",[\"fail\",\"A\",1,1]"], ""),
     (&[OFFER_OF_B, FAIL_BY_A, OFFER_IN_0], ""),
     (&[OFFER_OF_B, OFFER_IN_0, FAIL_BY_B], ""),
+];
+
+// Events, the lines of those that a play refused, and the notes.
+const REFUSED: [(&[&str], &str, &str); 6] = [
+    // a fail, a fulfil, and an offer before it are refused
+    (
+        &[
+            OFFER_IN_0,
+            OFFER_IN_1,
+            FULFIL_IN_0,
+            ",[\"fail\",\"B\",1,0]",
+            CLOSE_1,
+        ],
+        "3 ok\n4 refused UnknownHtlc\n5 ok\n",
+        NOT_IN_1,
+    ),
+    (
+        &[OFFER_IN_0, OFFER_IN_1, FULFIL_IN_1, FULFIL_IN_0, CLOSE_1],
+        "3 refused UnknownHtlc\n",
+        NOT_IN_1_EITHER,
+    ),
+    (
+        &[
+            OFFER_IN_0,
+            OTHER_AND_OFFER_IN_1,
+            FULFIL_IN_0,
+            FULFIL_IN_1,
+            CLOSE_1,
+        ],
+        "2 refused BelowMinimum\n",
+        "",
+    ),
+    (
+        &[OFFER_OF_B, OFFER_IN_0, FAIL_BY_A],
+        "3 refused UnknownHtlc\n",
+        "",
+    ),
+    // a line of no event, and one that is no refusal
+    (
+        &[OFFER_OF_B, OFFER_IN_0, FAIL_BY_A],
+        "30 refused X\n refused Y\n3 refused",
+        FAILED,
+    ),
+    (
+        &[OFFER_OF_B, OFFER_IN_0, FAIL_BY_A],
+        "3 ok refused X\n3refused\n99999999999999999999999 refused X\n",
+        FAILED,
+    ),
+];
+
+const LATE: &str =
+    "note: event 4: B fulfils an HTLC in channel 0 at height 61, and the channel is closed, and the HTLC expired at height 60: where A took it back on the chain, the fulfil takes nothing\n";
+
+// Events, and the notes on a fulfil after the expiry.
+const LATE_ONES: [(&[&str], &str); 5] = [
+    (
+        &[OFFER_IN_0, CLOSE_0, ",[\"blocks\",61]", FULFIL_IN_0],
+        LATE,
+    ),
+    (
+        &[
+            OFFER_IN_0,
+            ",[\"broadcast\",\"A\",0,0]",
+            ",[\"blocks\",61]",
+            FULFIL_IN_0,
+        ],
+        LATE,
+    ),
+    (
+        &[
+            OFFER_IN_0,
+            CLOSE_0,
+            ",[\"blocks\",60],[\"reorg\",1,0]",
+            FULFIL_IN_0,
+        ],
+        "note: event 5: B fulfils an HTLC in channel 0 at height 61, and the channel is closed, and the HTLC expired at height 60: where A took it back on the chain, the fulfil takes nothing\n",
+    ),
+    (
+        &[
+            OFFER_IN_0,
+            CLOSE_0,
+            ",[\"blocks\",60]",
+            FULFIL_IN_0,
+            ",[\"blocks\",1]",
+        ],
+        "",
+    ),
+    (&[OFFER_IN_0, ",[\"blocks\",61]", FULFIL_IN_0, CLOSE_0], ""),
 ];
 
 // Events, and the notes on those that are not counted in threads. Channels are 0 and 1.
@@ -314,15 +470,28 @@ fn names_a_member_that_stands_twice(rt: HostRuntime) {
     }
 }
 
-// Asserts the notes on a scenario with two channels and these events that was played by these words.
-fn noted_after(rt: &impl Abort, alloc: Global, words: &[&str], events: &[&str], notes: &str) {
+// Asserts the notes on a scenario with two channels and these events that was played by these words, which printed this.
+fn noted_after(
+    rt: &impl Abort,
+    alloc: Global,
+    words: &[&str],
+    events: &[&str],
+    printed: &str,
+    notes: &str,
+) {
     let (beginning, events) = (joined(rt, alloc, &BEGINNING), joined(rt, alloc, events));
     let pieces = [beginning.as_str(), MIDDLE, events.as_str(), END];
     let text = joined(rt, alloc, &pieces);
     let words = words_of(rt, alloc, words);
     are_notes(
         rt,
-        notes_of(alloc, words.as_slice(), 0, Some(text.as_bytes())),
+        notes_of(
+            alloc,
+            words.as_slice(),
+            0,
+            Some(text.as_bytes()),
+            printed.as_bytes(),
+        ),
         notes,
     );
 }
@@ -330,23 +499,41 @@ fn noted_after(rt: &impl Abort, alloc: Global, words: &[&str], events: &[&str], 
 #[test]
 fn names_a_fulfil_that_another_channel_lacks(rt: HostRuntime) {
     for (events, notes) in &FULFILS {
-        noted_after(&rt, rt.alloc(), &["run"], events, notes);
+        noted_after(&rt, rt.alloc(), &["run"], events, "", notes);
     }
 }
 
 #[test]
 fn names_a_fail_before_its_time(rt: HostRuntime) {
     for (events, notes) in &FAILS {
-        noted_after(&rt, rt.alloc(), &["run"], events, notes);
+        noted_after(&rt, rt.alloc(), &["run"], events, "", notes);
     }
+}
+
+#[test]
+fn names_a_late_fulfil(rt: HostRuntime) {
+    for (events, notes) in &LATE_ONES {
+        noted_after(&rt, rt.alloc(), &["run"], events, "", notes);
+    }
+}
+
+// What was refused did not happen. Of a play in threads the lines do not tell it.
+#[test]
+fn leaves_refused_events_out(rt: HostRuntime) {
+    for (events, printed, notes) in &REFUSED {
+        noted_after(&rt, rt.alloc(), &["run"], events, printed, notes);
+    }
+    let events = [OFFER_OF_B, OFFER_IN_0, FAIL_BY_A];
+    let printed = "3 refused UnknownHtlc\n";
+    noted_after(&rt, rt.alloc(), &["node", "1"], &events, printed, FAILED);
 }
 
 // They are counted of `node` alone.
 #[test]
 fn counts_what_is_not_counted(rt: HostRuntime) {
     for (events, notes) in &UNCOUNTED {
-        noted_after(&rt, rt.alloc(), &["node", "4"], events, notes);
-        noted_after(&rt, rt.alloc(), &["run"], events, "");
+        noted_after(&rt, rt.alloc(), &["node", "4"], events, "", notes);
+        noted_after(&rt, rt.alloc(), &["run"], events, "", "");
     }
 }
 
@@ -356,12 +543,12 @@ fn notes_more_than_one(rt: HostRuntime) {
     let events = [",[\"sign\",\"A\",2]],\"events\":[[\"sign\",\"A\",3]"];
     let notes =
         "note: the member events stands twice in its object, and the last one counts: again at byte 463: line 1, column 464\nnote: updates, signatures and deliveries in a channel that there is not: 1, the first is event 0; none is played or counted\n";
-    noted_after(&rt, rt.alloc(), &["node", "1"], &events, notes);
+    noted_after(&rt, rt.alloc(), &["node", "1"], &events, "", notes);
     let words = words_of(&rt, rt.alloc(), &["run"]);
     let text = b"{\"seeds\":1,\"seeds\":2}";
     are_notes(
         &rt,
-        notes_of(rt.alloc(), words.as_slice(), 1, Some(text)),
+        notes_of(rt.alloc(), words.as_slice(), 1, Some(text), &[]),
         "note: the scenario: its seeds is not an array of two seeds of 32 bytes in hexadecimal\nnote: the member seeds stands twice in its object, and the last one counts: again at byte 11: line 1, column 12\n",
     );
 }

@@ -6,11 +6,28 @@ use std::alloc::Global;
 use std::process::Abort;
 
 // Scripts that are not listed, and the notes on them.
-const REFUSED: [(&str, &str); 10] = [
+const REFUSED: [(&str, &str); 14] = [
     // 2 of four keys, of which three stand there
     (
         "5221021212121212121212121212121212121212121212121212121212121212121212210222222222222222222222222222222222222222222222222222222222222222222102333333333333333333333333333333333333333333333333333333333333333354ae",
         "note: opcode 5 is OP_CHECKMULTISIG: no rule decides it on what stands on the stack there, so the listing gives up: whether anyone can spend, or nobody, is not said\nnote: where the witness brings the number of signatures, it may be 0, and anyone can spend: compare the number of keys with the keys before it\n",
+    ),
+    // 3 of three keys, which become 2 after 144 blocks: a DROP is missing, on the second branch and on the first; below a signature of the witness; and a hash in the place of a key
+    (
+        "635367029000b2526821021212121212121212121212121212121212121212121212121212121212121212210222222222222222222222222222222222222222222222222222222222222222222102333333333333333333333333333333333333333333333333333333333333333353ae",
+        "note: opcode 11 is OP_CHECKMULTISIG: no rule decides it on what stands on the stack there, so the listing gives up: whether anyone can spend, or nobody, is not said\nnote: on a branch 9000 (2 bytes) stands there in the place of a signature: is a DROP missing?\n",
+    ),
+    (
+        "63029000b25267536821021212121212121212121212121212121212121212121212121212121212121212210222222222222222222222222222222222222222222222222222222222222222222102333333333333333333333333333333333333333333333333333333333333333353ae",
+        "note: opcode 11 is OP_CHECKMULTISIG: no rule decides it on what stands on the stack there, so the listing gives up: whether anyone can spend, or nobody, is not said\nnote: on a branch 9000 (2 bytes) stands there in the place of a signature: is a DROP missing?\n",
+    ),
+    (
+        "029000b27c52210212121212121212121212121212121212121212121212121212121212121212122102222222222222222222222222222222222222222222222222222222222222222252ae",
+        "note: opcode 7 is OP_CHECKMULTISIG: no rule decides it on what stands on the stack there, so the listing gives up: whether anyone can spend, or nobody, is not said\nnote: on a branch 9000 (2 bytes) stands there in the place of a signature: is a DROP missing?\n",
+    ),
+    (
+        "a9517c51ae",
+        "note: opcode 4 is OP_CHECKMULTISIG: no rule decides it on what stands on the stack there, so the listing gives up: whether anyone can spend, or nobody, is not said\n",
     ),
     (
         "87",
@@ -205,7 +222,7 @@ fn tells_limits_and_terms(rt: HostRuntime) {
 // Asserts the notes on wrong words.
 fn noted_after(rt: &impl Abort, alloc: Global, words: &[&str], notes: &str) {
     let words = words_of(rt, alloc, words);
-    are_notes(rt, notes_of(alloc, words.as_slice(), 2, None), notes);
+    are_notes(rt, notes_of(alloc, words.as_slice(), 2, None, &[]), notes);
 }
 
 #[test]

@@ -440,6 +440,44 @@ fn has_risks(rt: &impl Abort, alloc: Global, code: &[&str], notes: &[&str]) {
     noted_of(rt, alloc, code.as_str(), notes.as_str());
 }
 
+// Bytes in the place of a hash, and what is noted of them.
+const ORIGINS: [(&str, &str); 10] = [
+    (
+        "ffffffffffffffffffffffffffffffffffffffff",
+        "note: opcode 1: ffffffffffffffffffffffffffffffffffffffff is bytes of ff: as a hash it keeps nobody out, or everybody\n",
+    ),
+    ("fffffffffffffffffffffffffffffffffffffffe", ""),
+    (
+        "9f7fd096d37ed2c0e3f7f0cfc924beef4ffceb68",
+        "note: opcode 1: 9f7fd096d37ed2c0e3f7f0cfc924beef4ffceb68 is the hash of the script 00: as a hash it keeps nobody out, or everybody\n",
+    ),
+    (
+        "8296da5ca015c76181754a475b0677012cf63960",
+        "note: opcode 1: 8296da5ca015c76181754a475b0677012cf63960 is the hash of the script ff: as a hash it keeps nobody out, or everybody\n",
+    ),
+    ("e6c41bcc570872e88e58db7c940dc8d399e72aef", ""),
+    (
+        "91b24bf9f5288532960ac687abb035127b1d28a5",
+        "note: opcode 1: 91b24bf9f5288532960ac687abb035127b1d28a5 is the hash of the point G, whose private key is 1: as a hash it keeps nobody out, or everybody\n",
+    ),
+    (
+        "adde4c73c7b9cee17da6c7b3e2b2eea1a0dcbe67",
+        "note: opcode 1: adde4c73c7b9cee17da6c7b3e2b2eea1a0dcbe67 is the hash of the point -G, whose private key all know: as a hash it keeps nobody out, or everybody\n",
+    ),
+    (
+        "bec08011c9e76dcc42e739a2d7752c2e3ac86e6e",
+        "note: opcode 1: bec08011c9e76dcc42e739a2d7752c2e3ac86e6e is the hash of the point -G, whose private key all know: as a hash it keeps nobody out, or everybody\n",
+    ),
+    (
+        "7c461e5dfab30ef6f343b8e6f1ea1a0330361065",
+        "note: opcode 1: 7c461e5dfab30ef6f343b8e6f1ea1a0330361065 is the hash of the point H of BIP 341, whose private key nobody knows: as a hash it keeps nobody out, or everybody\n",
+    ),
+    (
+        "85137e8795c8f4da95bc257449783abf353a238a",
+        "note: opcode 1: 85137e8795c8f4da95bc257449783abf353a238a is the hash of the point H of BIP 341, whose private key nobody knows: as a hash it keeps nobody out, or everybody\n",
+    ),
+];
+
 #[test]
 fn tells_who_else_can_spend(rt: HostRuntime) {
     for case in &RISKS {
@@ -474,9 +512,17 @@ fn tells_of_an_offered_htlc(rt: HostRuntime) {
     let without = [
         "note: a branch ends at opcode 18: ",
         NO_KEY,
-        " (33 bytes) is no key here (a key has 33 bytes, and begins with 02 or 03); in consensus no signature is valid for it either, and other keys may sign\n",
+        " (33 bytes) is no key here (a key has 33 bytes, and begins with 02 or 03); in consensus no signature is valid for it, and other keys of this check may sign\n",
         "note: a key is taken by its hash on path 0",
         HASHED,
     ];
     has_risks(&rt, rt.alloc(), &WITHOUT_TIMEOUT, &without);
+}
+
+#[test]
+fn tells_hashes_of_no_secret(rt: HostRuntime) {
+    for (hash, notes) in &ORIGINS {
+        let code = joined(&rt, rt.alloc(), &["a914", hash, "8821", KEY, "ac"]);
+        noted_of(&rt, rt.alloc(), code.as_str(), notes);
+    }
 }

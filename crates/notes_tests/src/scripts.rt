@@ -203,13 +203,16 @@ const NONE_OF_KEY: &str =
 
 // What bytes of a script are not that a rule asks for.
 const NO_KEY: &str =
-    "no key here (a key has 33 bytes, and begins with 02 or 03); in consensus no signature is valid for it either, and other keys may sign\n";
+    "no key here (a key has 33 bytes, and begins with 02 or 03); in consensus its check is false, and nobody can spend where that has to be true\n";
 
 const UNCOMPRESSED: &str =
     "no key here (a key has 33 bytes, and begins with 02 or 03); consensus takes this one, and nodes relay no spend with it\n";
 
 const OF_TAPROOT: &str =
-    "no key here (a key has 33 bytes, and begins with 02 or 03), as taproot alone has them; in consensus no signature is valid for it, and other keys may sign\n";
+    "no key here (a key has 33 bytes, and begins with 02 or 03), as taproot alone has them; in consensus its check is false, and nobody can spend where that has to be true\n";
+
+const OF_TAPROOT_BESIDE_OTHERS: &str =
+    "no key here (a key has 33 bytes, and begins with 02 or 03), as taproot alone has them; in consensus no signature is valid for it, and other keys of this check may sign\n";
 
 const NO_NUMBER: &str =
     "no number here (numbers are minimally encoded); consensus is laxer, and may let others spend\n";
@@ -230,12 +233,24 @@ struct End {
 }
 
 // Keys in the script that do not have 33 bytes, numbers that are not minimally encoded, and signatures in the script.
-const ENDS: [End; 9] = [
+const ENDS: [End; 11] = [
     End {
         code: &["20", X_ONLY, "ac"],
         before: NONE,
         at: &["1: ", X_ONLY, " (32 bytes)"],
         rule: OF_TAPROOT,
+    },
+    End {
+        code: &["6321", KEY, "ac6720", X_ONLY, "ac68"],
+        before: "",
+        at: &["5: ", X_ONLY, " (32 bytes)"],
+        rule: OF_TAPROOT,
+    },
+    End {
+        code: &["5121", KEY, "20", X_ONLY, "52ae"],
+        before: NONE,
+        at: &["4: ", X_ONLY, " (32 bytes)"],
+        rule: OF_TAPROOT_BESIDE_OTHERS,
     },
     End {
         code: &["41", LONG_KEY, "ac"],

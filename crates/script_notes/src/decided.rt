@@ -131,8 +131,8 @@ fn is_condition(op: Option<&Op>) -> bool {
     }
 }
 
-// The opcode that runs next after the ELSE of an IF, or after the ENDIF of an ELSE.
-fn after(ops: &[Op], op: usize) -> usize {
+/// The opcode that runs next after the ELSE of an IF, or after the ENDIF of an ELSE.
+pub(crate) fn after(ops: &[Op], op: usize) -> usize {
     place(ops, Choice { op, runs: false }).1.saturating_add(1)
 }
 

@@ -1,6 +1,8 @@
 // Notes on scripts that are not listed.
 
 use crate::names::name_of;
+use crate::operands::{Operand, operand_at};
+use crate::sizes::Counted;
 use paths::CheckError;
 use script::limits::MAX_OPS_PER_SCRIPT;
 use script::{Op, Script};
@@ -20,7 +22,7 @@ pub fn note_refusal(
     match error {
         CheckError::OpenBranch => note_branch(notes, alloc, script.ops()),
         CheckError::TooManyOps => note_count(notes, script.counted()),
-        CheckError::Undecided(at) => note_undecided(notes, script.ops(), at),
+        CheckError::Undecided(at) => note_undecided(notes, alloc, script.ops(), at),
         CheckError::TooManyPaths => {
             notes.push_str("note: a 65th path begins, and at most 64 are listed\n")
         }
@@ -47,7 +49,12 @@ fn note_count(notes: &mut String, counted: usize) -> Result<(), AllocError> {
 }
 
 // Notes at which opcode the listing gives up.
-fn note_undecided(notes: &mut String, ops: &[Op], at: usize) -> Result<(), AllocError> {
+fn note_undecided(
+    notes: &mut String,
+    alloc: Global,
+    ops: &[Op],
+    at: usize,
+) -> Result<(), AllocError> {
     let Some(op) = ops.get(at) else {
         return notes.push_str(
             "note: no rule decides whether the last entry is true, so the listing gives up: whether anyone can spend, or nobody, is not said\n",
@@ -60,10 +67,30 @@ fn note_undecided(notes: &mut String, ops: &[Op], at: usize) -> Result<(), Alloc
         "note: opcode {at} is {name}: no rule decides it on what stands on the stack there, so the listing gives up: whether anyone can spend, or nobody, is not said"
     )?;
     match op {
-        Op::CheckMultiSig => notes.push_str(
+        Op::CheckMultiSig => note_operand(notes, alloc, ops, at),
+        _ => Ok(()),
+    }
+}
+
+// Notes what keeps the CHECKMULTISIG at an opcode from being decided.
+fn note_operand(
+    notes: &mut String,
+    alloc: Global,
+    ops: &[Op],
+    at: usize,
+) -> Result<(), AllocError> {
+    match operand_at(alloc, ops, at)? {
+        Some(Operand::Constant(bytes)) => {
+            let bytes = Counted(bytes.as_slice());
+            writeln!(
+                notes,
+                "note: on a branch {bytes} stands there in the place of a signature: is a DROP missing?"
+            )
+        }
+        Some(Operand::Count) => notes.push_str(
             "note: where the witness brings the number of signatures, it may be 0, and anyone can spend: compare the number of keys with the keys before it\n",
         ),
-        _ => Ok(()),
+        None => Ok(()),
     }
 }
 

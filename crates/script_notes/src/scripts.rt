@@ -120,7 +120,7 @@ fn note_listing(notes: &mut String, alloc: Global, checked: &Checked) -> Result<
         }
     }
     for end in &ends.strict {
-        note_end(notes, end)?;
+        note_end(notes, ops, end)?;
     }
     // of an output's program it is said what it looks like
     if look_of(checked.script().bytes()).is_none() {
@@ -149,25 +149,37 @@ fn note_stricter(notes: &mut String) -> Result<(), AllocError> {
 }
 
 // Notes the rule by which a branch ended.
-fn note_end(notes: &mut String, end: &StrictEnd) -> Result<(), AllocError> {
-    let (op, bytes) = (end.op, Counted(end.bytes.as_slice()));
-    write!(notes, "note: a branch ends at opcode {op}: {bytes}")?;
-    notes.push_str(match end.rule {
-        Rule::Key => " is no key here (a key has 33 bytes, and begins with 02 or 03)",
-        Rule::Signature => " is no signature here (signatures are tokens)",
-        Rule::Number => " is no number here (numbers are minimally encoded)",
-    })?;
-    notes.push_str(match (end.rule, end.bytes.as_slice()) {
-        (Rule::Key, [4 | 6 | 7, point @ ..]) if point.len() == 64 => {
-            "; consensus takes this one, and nodes relay no spend with it\n"
+fn note_end(notes: &mut String, ops: &[Op], end: &StrictEnd) -> Result<(), AllocError> {
+    let (op, bytes) = (end.op, end.bytes.as_slice());
+    let counted = Counted(bytes);
+    write!(notes, "note: a branch ends at opcode {op}: {counted}")?;
+    match end.rule {
+        Rule::Key => {
+            notes.push_str(" is no key here (a key has 33 bytes, and begins with 02 or 03)")?;
+            note_key(notes, bytes, matches!(ops.get(op), Some(Op::CheckSig)))
         }
-        (Rule::Key, x) if x.len() == 32 => {
-            ", as taproot alone has them; in consensus no signature is valid for it, and other keys may sign\n"
+        Rule::Signature => notes.push_str(
+            " is no signature here (signatures are tokens); consensus is laxer, and may let others spend\n",
+        ),
+        Rule::Number => notes.push_str(
+            " is no number here (numbers are minimally encoded); consensus is laxer, and may let others spend\n",
+        ),
+    }
+}
+
+// Ends the note on bytes that are no key here. A CHECKSIG has no other key.
+fn note_key(notes: &mut String, bytes: &[u8], is_alone: bool) -> Result<(), AllocError> {
+    match bytes {
+        [4 | 6 | 7, point @ ..] if point.len() == 64 => {
+            return notes.push_str("; consensus takes this one, and nodes relay no spend with it\n");
         }
-        (Rule::Key, _) => {
-            "; in consensus no signature is valid for it either, and other keys may sign\n"
-        }
-        _ => "; consensus is laxer, and may let others spend\n",
+        _ if bytes.len() == 32 => notes.push_str(", as taproot alone has them")?,
+        _ => {}
+    }
+    notes.push_str(if is_alone {
+        "; in consensus its check is false, and nobody can spend where that has to be true\n"
+    } else {
+        "; in consensus no signature is valid for it, and other keys of this check may sign\n"
     })
 }
 

@@ -22,6 +22,7 @@ mod notes;
 mod outputs;
 mod outputs_at_fault;
 mod plans;
+mod request_bytes;
 mod requests;
 mod revoked_answers;
 mod revoked_requests;

@@ -9,13 +9,14 @@ use crate::errors::PlanError;
 use crate::inputs::note_inputs;
 use crate::outputs_at_fault::{note_claims_at_fault, note_slots, output_at};
 use crate::plans::{Plan, asked_fee};
+use crate::request_bytes::note_request_bytes;
 use crate::requests::MOST_FEERATE_PER_KW;
 use crate::shapes::{CLOSE, Member, REVOKED, note_shape, note_whole, said};
 use json_names::first_repeated_member;
 use json_value::Value;
 use page::Page;
 use page::Piece::{Count, Sum};
-use script_notes::{is_curve_x, origin_of_hash, origin_of_point};
+use script_notes::{Origin, is_curve_x, origin_of_hash, origin_of_point};
 use std::alloc::Global;
 use std::io::Write;
 use streams::written;
@@ -41,7 +42,7 @@ fn say(notes: &Page, err: &mut dyn Write) {
 /// Says what a person has to look at in a plan: its destination, its feerate, its fee, its inputs, and the slots that nodes do not pass on.
 pub fn say_plan(alloc: Global, asked: &Asked, plan: &Plan, err: &mut dyn Write) {
     let mut notes = Page::new(alloc);
-    note_destination(&mut notes, asked.destination.bytes());
+    note_destination(alloc, &mut notes, asked);
     note_feerate(&mut notes, asked);
     let total = total_of(asked);
     if plan.fee_sat.saturating_mul(DEAR) > total {
@@ -64,14 +65,20 @@ fn total_of(asked: &Asked) -> u128 {
     total
 }
 
-// Notes a destination from which anyone can spend, or nobody.
-fn note_destination(notes: &mut Page, program: &[u8]) {
+// Notes a destination from which anyone can spend, or nobody, as far as that is known: it pays to what is no secret's, to the request's own bytes, to no key of the curve, or to a program that has no rule yet.
+fn note_destination(alloc: Global, notes: &mut Page, asked: &Asked) {
+    let program = asked.destination.bytes();
     if let Some(origin) = origin_of_destination(program) {
         notes.push("note: destination: what it pays to is ");
-        notes.push(origin);
+        notes.show(&origin);
         notes.push(": anyone can spend from it, or nobody\n");
-        return;
+    } else if !note_request_bytes(alloc, notes, asked) {
+        note_version(notes, program);
     }
+}
+
+// Notes a witness program of a later version than 0 whose key is no secret's, or that has no rule yet.
+fn note_version(notes: &mut Page, program: &[u8]) {
     let [code, _, key @ ..] = program else {
         return;
     };
@@ -98,7 +105,7 @@ fn note_destination(notes: &mut Page, program: &[u8]) {
 }
 
 // What a program is the hash of, if no secret is: P2PKH, P2SH, P2WPKH or P2WSH.
-fn origin_of_destination(program: &[u8]) -> Option<&'static str> {
+fn origin_of_destination(program: &[u8]) -> Option<Origin> {
     match program {
         [0x76, 0xa9, 0x14, hash @ .., 0x88, 0xac] => origin_of_hash(hash),
         [0xa9, 0x14, hash @ .., 0x87] => origin_of_hash(hash),

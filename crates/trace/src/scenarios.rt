@@ -124,6 +124,7 @@ fn tell_world(
     out: &mut dyn Write,
     err: &mut dyn Write,
     world: &mut World,
+    told: &mut Told,
     events: &[Event],
     words: &[Value],
     notes: &str,
@@ -133,13 +134,10 @@ fn tell_world(
 {
     let mut line = Page::new(alloc);
     if let Wish::Dump(side) = wish {
-        dump_played(&mut line, world, events, side);
+        dump_played(&mut line, world, told, events, side);
         return write_told(out, &mut line, 0);
     }
-    let mut told = Told::new(alloc);
-    let status = tell_events(
-        alloc, out, &mut line, world, &mut told, events, words, notes,
-    );
+    let status = tell_events(alloc, out, &mut line, world, told, events, words, notes);
     match wish {
         Wish::Strictly if !told.first_refused.text().is_empty() => {
             say(err, told.first_refused.text());
@@ -197,9 +195,13 @@ fn tell_scenario(
     match World::new(alloc, &scenario.seeds, scenario.channels.values()) {
         Ok(mut world) => {
             let (events, words) = (scenario.events.values(), words_in(value));
-            let status = tell_world(alloc, out, err, &mut world, events, words, notes, wish);
+            let mut told = Told::new(alloc);
+            let status = tell_world(
+                alloc, out, err, &mut world, &mut told, events, words, notes, wish,
+            );
             world.leak();
-            if let Ok(notes) = played_notes(alloc, false, bytes) {
+            let refused = told.refused.as_slice();
+            if let Ok(notes) = played_notes(alloc, false, refused, bytes) {
                 say(err, notes.as_str());
             }
             status

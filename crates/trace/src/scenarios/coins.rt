@@ -63,6 +63,8 @@ pub struct Told {
     pub of_b: u64,
     /// The note on the first event that was refused; empty where none was.
     pub first_refused: Page,
+    /// The events that were refused.
+    pub refused: Vec<usize>,
     // both as they were written last
     told_a: u64,
     told_b: u64,
@@ -78,6 +80,7 @@ impl Told {
             of_a: 0,
             of_b: 0,
             first_refused: Page::new(alloc),
+            refused: Vec::new(alloc),
             told_a: 0,
             told_b: 0,
         }

@@ -1,16 +1,31 @@
 //! Writes the dump of a side's book, once the events of a scenario are played.
 
+use crate::scenarios::coins::Told;
 use book_dump::Dump as _;
 use page::Page;
 use scenario::Event;
+use std::slice;
 use terms::Side;
 use world::World;
 
-/// Plays the events, and writes the dump of a side's book, a line.
-pub fn dump_played(line: &mut Page, world: &mut World, events: &[Event], side: Side) {
-    if world.play(events).is_err() {
-        line.fail();
-        return;
+/// Plays the events, keeps which were refused, and writes the dump of a side's book, a line.
+pub fn dump_played(
+    line: &mut Page,
+    world: &mut World,
+    told: &mut Told,
+    events: &[Event],
+    side: Side,
+) {
+    match world.play(events) {
+        Ok(outcomes) => {
+            for (index, outcome) in outcomes.iter().enumerate() {
+                told.note_refused(index, slice::from_ref(outcome));
+            }
+        }
+        Err(_) => {
+            line.fail();
+            return;
+        }
     }
     match world.book(side).dump(line.alloc()) {
         Ok(text) => {

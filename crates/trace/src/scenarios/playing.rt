@@ -93,9 +93,10 @@ impl Told {
         line.push("}\n");
     }
 
-    /// Keeps the note on the first event that was refused, if this one is it.
+    /// Keeps which event was refused, if this one was, and the note on it if it is the first. Where memory runs out, it is not kept.
     pub fn note_refused(&mut self, index: usize, outcomes: &[Outcome]) {
         if let [Outcome::Refused(error)] = outcomes {
+            let _ = self.refused.push(index);
             if self.first_refused.text().is_empty() {
                 self.first_refused.count("note: event ", index as u64);
                 self.first_refused.push(" is the first that was refused, ");
