@@ -23,17 +23,23 @@ enum {
     ENFORCE_SLOT_SIGNATURE = 1, /* The slot is the signature of `key` over the spend. */
     ENFORCE_SLOT_PREIMAGE = 2, /* The slot is 32 bytes whose SHA-256 is `hash`. */
     ENFORCE_SLOT_EXACT = 3, /* The slot is the `bytes_length` bytes from `bytes_at` on, at most 520. */
+    ENFORCE_SLOT_GIVEN = 4, /* The slot is the signature of `key` over the digest `hash`, which was given over one transaction, with no witnesses the `bytes_length` bytes from `bytes_at` on. The claim is of this transaction alone, over whose digest the other signatures are too. No call reads such a slot. */
 };
 
 enum {
     ENFORCE_CHANNEL_STATIC_REMOTE_KEY = 1, /* A channel without anchors: `option_static_remotekey` (BOLT 9). */
     ENFORCE_CHANNEL_ANCHORS = 2, /* A channel with `option_anchors` (BOLT 9). */
+    ENFORCE_CLOSE_OWN = 1, /* One's own commitment, the newest. */
+    ENFORCE_CLOSE_PEERS = 2, /* The peer's newest commitment, or the one after it, while the newest is not revoked. */
     ENFORCE_DIRECTION_OFFERED = 1, /* The owner of the commitment offered the HTLC. */
     ENFORCE_DIRECTION_RECEIVED = 2, /* The owner of the commitment received the HTLC. */
+    ENFORCE_OUTPUT_UNKNOWN = 0, /* None that is known. */
     ENFORCE_OUTPUT_TO_LOCAL = 1, /* To the owner of the commitment, after the delay. The output of an HTLC transaction has the same script. */
     ENFORCE_OUTPUT_TO_REMOTE = 2, /* To the owner's peer. */
     ENFORCE_OUTPUT_OFFERED = 3, /* An HTLC that the owner offered. */
     ENFORCE_OUTPUT_RECEIVED = 4, /* An HTLC that the owner received. */
+    ENFORCE_OUTPUT_OWN_ANCHOR = 5, /* One's own anchor. */
+    ENFORCE_OUTPUT_PEERS_ANCHOR = 6, /* The peer's anchor. */
 };
 
 enum {
@@ -100,17 +106,18 @@ enum {
     ENFORCE_NOT_A_COMMITMENT_KEY = 0x802, /* Bytes that are to be a key of the commitment do not have the form of one; the answer has which of its fields it is, from 0. */
     ENFORCE_NO_SUCH_DIRECTION = 0x803, /* There is no direction of this kind; the answer has the index of the HTLC. */
     ENFORCE_EXPIRY_TOO_LARGE = 0x804, /* The expiry of an HTLC is 500,000,000 or more, which is a time and not a height; the answer has the index of the HTLC. */
+    ENFORCE_NO_SUCH_CLOSE = 0x805, /* It is neither one's own commitment nor the peer's. */
 };
 
 enum {
-    ENFORCE_ABI = 2, /* What declarations mean together: it is raised whenever one changes its meaning. */
+    ENFORCE_ABI = 3, /* What declarations mean together: it is raised whenever one changes its meaning. */
 };
 
 /* How a claim fills a slot of its path. A field that the kind does not name is not read. */
 typedef struct {
     uint32_t kind; /* One of the kinds of slots. */
     uint8_t key[33]; /* A compressed public key. */
-    uint8_t hash[32]; /* The SHA-256 of a preimage, in the hash's own byte order. */
+    uint8_t hash[32]; /* The SHA-256 of a preimage, in the hash's own byte order; or a digest. */
     size_t bytes_at; /* Where the bytes begin among those that the call is given. */
     size_t bytes_length; /* How many there are. */
 } enforce_slot_row;
@@ -144,6 +151,9 @@ typedef struct {
     uint8_t local_htlc[33]; /* local_htlcpubkey, of the owner. */
     uint8_t remote_htlc[33]; /* remote_htlcpubkey, of the owner's peer. */
     uint8_t remote[33]; /* remotepubkey, of the owner's peer: its payment basepoint. */
+    bool has_funding_keys; /* Whether the keys of the channel's funding output are told, by which anchors are named. */
+    uint8_t own_funding[33]; /* One's own. */
+    uint8_t peers_funding[33]; /* The peer's. */
 } enforce_commitment;
 
 /* An HTLC of a commitment, by what its script is made of. */
@@ -153,12 +163,19 @@ typedef struct {
     uint8_t hash[32]; /* SHA-256 of the payment preimage. */
 } enforce_htlc_row;
 
-/* Of a claim, which output of the commitment it is on, and until when it is alone. */
+/* Of a claim, which output of the commitment it is on, from when it can be made, and until when it is alone. */
 typedef struct {
     uint32_t kind; /* One of the kinds of outputs. */
-    bool has_owner_height; /* Whether the owner of the commitment can take the output at all. */
-    uint64_t owner_height; /* The least height of a block in which the owner can. A transaction that takes the output is safe in all blocks below (BOLT 5). */
+    bool has_deadline; /* Whether the other side can take the output at all. */
+    uint64_t from_height; /* The least height of a block that can have a transaction with the claim. */
+    uint64_t deadline_height; /* The least height of a block in which the other side can take the output. A transaction that takes it is safe in all blocks below (BOLT 5). */
 } enforce_found_row;
+
+/* An output without a claim. */
+typedef struct {
+    uint32_t index; /* Its index in the transaction. */
+    uint32_t kind; /* One of the kinds of outputs. */
+} enforce_other_row;
 
 /* What a call that finds claims tells beside its status. Each call writes all of it: the rows and bytes that there are, whether or not they were written, and the number that a refusal carries. There are as many rows of outputs as of claims. */
 typedef struct {
@@ -275,10 +292,15 @@ uint32_t enforce_claim(const enforce_claim_row *claim, const enforce_slot_row *s
    Proved: AnswersSpend (record { claims = claims.now; slots = slots.now; outputs = outputs.now; bytes = bytes.now }) (preimages_in preimages.now) (record { bytes = tx.old; signatures = signatures.old }) (record { status = result; answer = answer.new; lists = record { bytes = tx.new; signatures = signatures.new } }) (crates/enforce_c/specs/Spent.antt) */
 uint32_t enforce_unsigned_spend(const enforce_claim_row *claims, size_t claims_length, const enforce_slot_row *slots, size_t slots_length, const enforce_output_row *outputs, size_t outputs_length, const enforce_preimage_row *preimages, size_t preimages_length, const uint8_t *bytes, size_t bytes_length, uint8_t *tx, size_t tx_length, enforce_signature_row *signatures, size_t signatures_length, enforce_spend_answer *answer);
 
-/* Finds all that a revoked commitment lets its owner's peer claim of a transaction: the commitment, one of its HTLC transactions, or any other, with witnesses or without. Writes a claim on each output whose script is one of the commitment's, in the order of the outputs, with what `enforce_unsigned_spend` takes: rows of slots, and the bytes that both refer to. Of each claim it writes which output it is on, and the first block in which the owner can take that, where a block of `confirmed_height` has the transaction. Of each other output it writes the index. The statuses of refusals are those of family 8 in this order: the type of the channel, each key, each HTLC; then those of family 6, of the first fault of the transaction; and `TOO_SMALL` if one of the five buffers is too short.
+/* Finds all that a revoked commitment lets its owner's peer claim of a transaction: the commitment, one of its HTLC transactions, or any other, with witnesses or without. Writes a claim on each output whose script is one of the commitment's, in the order of the outputs, with what `enforce_unsigned_spend` takes: rows of slots, and the bytes that both refer to. Of each claim it writes which output it is on, and the first block in which the owner can take that, where a block of `confirmed_height` has the transaction. Of each other output it writes the index, and what it is. The statuses of refusals are those of family 8 in this order: the type of the channel, each key, each HTLC; then those of family 6, of the first fault of the transaction; and `TOO_SMALL` if one of the five buffers is too short.
 
-   Proved: AnswersFound (record { commitment = commitment.now; htlcs = htlcs.now; tx = tx.now; confirmed_height = confirmed_height }) (record { claims = claims.old; found = found_outputs.old; slots = slots.old; others = others.old; bytes = bytes.old }) (record { status = result; answer = answer.new; lists = record { claims = claims.new; found = found_outputs.new; slots = slots.new; others = others.new; bytes = bytes.new } }) (crates/enforce_c/specs/Found.antt) */
-uint32_t enforce_revoked(const enforce_commitment *commitment, const enforce_htlc_row *htlcs, size_t htlcs_length, const uint8_t *tx, size_t tx_length, uint32_t confirmed_height, enforce_claim_row *claims, size_t claims_length, enforce_found_row *found_outputs, size_t found_outputs_length, enforce_slot_row *slots, size_t slots_length, uint32_t *others, size_t others_length, uint8_t *bytes, size_t bytes_length, enforce_found_answer *answer);
+   Proved: AnswersFound (asked_of_revoked commitment.now htlcs.now tx.now confirmed_height) (record { claims = claims.old; found = found_outputs.old; slots = slots.old; others = others.old; bytes = bytes.old }) (record { status = result; answer = answer.new; lists = record { claims = claims.new; found = found_outputs.new; slots = slots.new; others = others.new; bytes = bytes.new } }) (crates/enforce_c/specs/Found.antt) */
+uint32_t enforce_revoked(const enforce_commitment *commitment, const enforce_htlc_row *htlcs, size_t htlcs_length, const uint8_t *tx, size_t tx_length, uint32_t confirmed_height, enforce_claim_row *claims, size_t claims_length, enforce_found_row *found_outputs, size_t found_outputs_length, enforce_slot_row *slots, size_t slots_length, enforce_other_row *others, size_t others_length, uint8_t *bytes, size_t bytes_length, enforce_found_answer *answer);
+
+/* Finds all that a commitment which is not revoked lets one claim of a transaction, where it closed the channel: of that commitment, one's own HTLC transaction, or any other, with witnesses or without. `whose` says whose commitment it is. `feerate_per_kw` is its feerate, by which one's own HTLC transactions pay. Writes what `enforce_revoked` does: a claim for each way to take an output, in the order of the outputs, from which block on, and the first block in which the other side can take it; and each other output. An HTLC of one's own commitment is claimed by its HTLC transaction, in a channel without anchors: a slot of the kind `SLOT_GIVEN` has it, and the digest that its two signatures are over; `enforce_unsigned_spend` does not read such a claim. The statuses of refusals are `NO_SUCH_CLOSE`, and then those of `enforce_revoked`.
+
+   Proved: AnswersFound (record { question = OfClose; whose = whose; commitment = commitment.now; htlcs = htlcs.now; feerate_per_kw = feerate_per_kw; preimages = preimages_in preimages.now; tx = tx.now; confirmed_height = confirmed_height }) (record { claims = claims.old; found = found_outputs.old; slots = slots.old; others = others.old; bytes = bytes.old }) (record { status = result; answer = answer.new; lists = record { claims = claims.new; found = found_outputs.new; slots = slots.new; others = others.new; bytes = bytes.new } }) (crates/enforce_c/specs/Found.antt) */
+uint32_t enforce_close(uint32_t whose, const enforce_commitment *commitment, const enforce_htlc_row *htlcs, size_t htlcs_length, uint32_t feerate_per_kw, const enforce_preimage_row *preimages, size_t preimages_length, const uint8_t *tx, size_t tx_length, uint32_t confirmed_height, enforce_claim_row *claims, size_t claims_length, enforce_found_row *found_outputs, size_t found_outputs_length, enforce_slot_row *slots, size_t slots_length, enforce_other_row *others, size_t others_length, uint8_t *bytes, size_t bytes_length, enforce_found_answer *answer);
 
 /* The word for a status. */
 static inline const char *enforce_name(uint32_t status) {
@@ -323,6 +345,7 @@ static inline const char *enforce_name(uint32_t status) {
     case ENFORCE_NOT_A_COMMITMENT_KEY: return "NotACommitmentKey";
     case ENFORCE_NO_SUCH_DIRECTION: return "NoSuchDirection";
     case ENFORCE_EXPIRY_TOO_LARGE: return "ExpiryTooLarge";
+    case ENFORCE_NO_SUCH_CLOSE: return "NoSuchClose";
     default: return "Unknown";
     }
 }
@@ -352,7 +375,7 @@ _Static_assert(offsetof(enforce_claim_row, slots) == 96, "the layout of enforce_
 _Static_assert(sizeof(enforce_due) == 16, "the layout of enforce_due");
 _Static_assert(offsetof(enforce_due, height) == 0, "the layout of enforce_due");
 _Static_assert(offsetof(enforce_due, sequence) == 8, "the layout of enforce_due");
-_Static_assert(sizeof(enforce_commitment) == 172, "the layout of enforce_commitment");
+_Static_assert(sizeof(enforce_commitment) == 240, "the layout of enforce_commitment");
 _Static_assert(offsetof(enforce_commitment, channel_type) == 0, "the layout of enforce_commitment");
 _Static_assert(offsetof(enforce_commitment, delay_blocks) == 4, "the layout of enforce_commitment");
 _Static_assert(offsetof(enforce_commitment, revocation) == 6, "the layout of enforce_commitment");
@@ -360,14 +383,21 @@ _Static_assert(offsetof(enforce_commitment, delayed) == 39, "the layout of enfor
 _Static_assert(offsetof(enforce_commitment, local_htlc) == 72, "the layout of enforce_commitment");
 _Static_assert(offsetof(enforce_commitment, remote_htlc) == 105, "the layout of enforce_commitment");
 _Static_assert(offsetof(enforce_commitment, remote) == 138, "the layout of enforce_commitment");
+_Static_assert(offsetof(enforce_commitment, has_funding_keys) == 171, "the layout of enforce_commitment");
+_Static_assert(offsetof(enforce_commitment, own_funding) == 172, "the layout of enforce_commitment");
+_Static_assert(offsetof(enforce_commitment, peers_funding) == 205, "the layout of enforce_commitment");
 _Static_assert(sizeof(enforce_htlc_row) == 40, "the layout of enforce_htlc_row");
 _Static_assert(offsetof(enforce_htlc_row, direction) == 0, "the layout of enforce_htlc_row");
 _Static_assert(offsetof(enforce_htlc_row, expiry_height) == 4, "the layout of enforce_htlc_row");
 _Static_assert(offsetof(enforce_htlc_row, hash) == 8, "the layout of enforce_htlc_row");
-_Static_assert(sizeof(enforce_found_row) == 16, "the layout of enforce_found_row");
+_Static_assert(sizeof(enforce_found_row) == 24, "the layout of enforce_found_row");
 _Static_assert(offsetof(enforce_found_row, kind) == 0, "the layout of enforce_found_row");
-_Static_assert(offsetof(enforce_found_row, has_owner_height) == 4, "the layout of enforce_found_row");
-_Static_assert(offsetof(enforce_found_row, owner_height) == 8, "the layout of enforce_found_row");
+_Static_assert(offsetof(enforce_found_row, has_deadline) == 4, "the layout of enforce_found_row");
+_Static_assert(offsetof(enforce_found_row, from_height) == 8, "the layout of enforce_found_row");
+_Static_assert(offsetof(enforce_found_row, deadline_height) == 16, "the layout of enforce_found_row");
+_Static_assert(sizeof(enforce_other_row) == 8, "the layout of enforce_other_row");
+_Static_assert(offsetof(enforce_other_row, index) == 0, "the layout of enforce_other_row");
+_Static_assert(offsetof(enforce_other_row, kind) == 4, "the layout of enforce_other_row");
 _Static_assert(sizeof(enforce_found_answer) == 40, "the layout of enforce_found_answer");
 _Static_assert(offsetof(enforce_found_answer, claims) == 0, "the layout of enforce_found_answer");
 _Static_assert(offsetof(enforce_found_answer, slots) == 8, "the layout of enforce_found_answer");

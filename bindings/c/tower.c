@@ -16,7 +16,7 @@ static enforce_claim_row claims[OUTPUTS];
 static enforce_found_row found[OUTPUTS];
 static enforce_slot_row slots[2 * OUTPUTS];
 static enforce_signature_row signatures[OUTPUTS];
-static uint32_t others[OUTPUTS];
+static enforce_other_row others[OUTPUTS];
 
 /* The next word, as hexadecimal digits of at most so many bytes; how many there are. */
 static size_t read_hex(uint8_t *to, size_t most) {
@@ -47,8 +47,8 @@ int main(void) {
     for (; count < HTLCS && scanf("%" SCNu32 "%" SCNu32, &htlcs[count].direction, &htlcs[count].expiry_height) == 2; count++) read_hex(htlcs[count].hash, 32);
     uint32_t status = enforce_revoked(&c, htlcs, count, tx, length, height, claims, OUTPUTS, found, OUTPUTS, slots, 2 * OUTPUTS, others, OUTPUTS, bytes, BYTES - 42, &answer);
     if (status != ENFORCE_DONE) return printf("refused %s\n", enforce_name(status)), 1;
-    for (size_t i = 0; i < answer.claims; value += claims[i++].value) printf("claim %" PRIu32 " kind %" PRIu32 " until %" PRIu64 "\n", claims[i].index, found[i].kind, found[i].owner_height);
-    for (size_t i = 0; i < answer.others; i++) printf("other %" PRIu32 "\n", others[i]);
+    for (size_t i = 0; i < answer.claims; value += claims[i++].value) printf("claim %" PRIu32 " kind %" PRIu32 " until %" PRIu64 "\n", claims[i].index, found[i].kind, found[i].deadline_height);
+    for (size_t i = 0; i < answer.others; i++) printf("other %" PRIu32 "\n", others[i].index);
     memcpy(bytes + answer.bytes, program, program_length);
     enforce_output_row output = {.value = value > fee ? value - fee : 0, .script_at = answer.bytes, .script_length = program_length};
     status = enforce_unsigned_spend(claims, answer.claims, slots, answer.slots, &output, 1, none, 0, bytes, answer.bytes + program_length, spend, BYTES, signatures, OUTPUTS, &made);

@@ -7,11 +7,20 @@ import "C"
 
 import "unsafe"
 
-// Slot is how a claim fills a slot of its path: the signature of a key, 32 bytes with this SHA-256, or else these bytes, at most 520.
+// Slot is how a claim fills a slot of its path: the signature of a key, 32 bytes with this SHA-256, the peer's signature that was given over one transaction, or else these bytes, at most 520.
 type Slot struct {
 	Signature *[33]byte
 	Preimage  *[32]byte
+	Given     *GivenSignature
 	Exact     []byte
+}
+
+// GivenSignature is the peer's signature by this key over this digest, which it gave over one transaction (BIP 144, without witnesses). The claim is of this transaction alone, and one's own signature is over the same
+// digest.
+type GivenSignature struct {
+	Key    [33]byte
+	Digest [32]byte
+	Tx     []byte
 }
 
 // Claim is a claim on an output, by one path of its script. The id is in the hash's own byte order, and the slots are the top of the stack first.
@@ -64,6 +73,8 @@ func (g *given) slot(slot *Slot) {
 	case slot.Preimage != nil:
 		row.kind = C.ENFORCE_SLOT_PREIMAGE
 		*(*[32]byte)(unsafe.Pointer(&row.hash)) = *slot.Preimage
+	case slot.Given != nil:
+		row.kind = C.ENFORCE_SLOT_GIVEN
 	default:
 		row.kind = C.ENFORCE_SLOT_EXACT
 		row.bytes_at, row.bytes_length = g.put(slot.Exact)

@@ -25,15 +25,27 @@ const (
 	Received Direction = C.ENFORCE_DIRECTION_RECEIVED
 )
 
+// Whose says whose commitment closed a channel.
+type Whose uint32
+
+// One's own newest commitment; or the peer's newest, or the one after it while the newest is not revoked.
+const (
+	Own   Whose = C.ENFORCE_CLOSE_OWN
+	Peers Whose = C.ENFORCE_CLOSE_PEERS
+)
+
 // OutputKind is which output of a commitment it is. The output of an HTLC transaction has the script of to_local.
 type OutputKind uint32
 
 // The kinds of outputs.
 const (
-	ToLocal    OutputKind = C.ENFORCE_OUTPUT_TO_LOCAL
-	ToRemote   OutputKind = C.ENFORCE_OUTPUT_TO_REMOTE
-	ToOffered  OutputKind = C.ENFORCE_OUTPUT_OFFERED
-	ToReceived OutputKind = C.ENFORCE_OUTPUT_RECEIVED
+	ToUnknown     OutputKind = C.ENFORCE_OUTPUT_UNKNOWN
+	ToLocal       OutputKind = C.ENFORCE_OUTPUT_TO_LOCAL
+	ToRemote      OutputKind = C.ENFORCE_OUTPUT_TO_REMOTE
+	ToOffered     OutputKind = C.ENFORCE_OUTPUT_OFFERED
+	ToReceived    OutputKind = C.ENFORCE_OUTPUT_RECEIVED
+	ToOwnAnchor   OutputKind = C.ENFORCE_OUTPUT_OWN_ANCHOR
+	ToPeersAnchor OutputKind = C.ENFORCE_OUTPUT_PEERS_ANCHOR
 )
 
 // Htlc is an HTLC of a commitment. The expiry is below 500,000,000, and the hash is SHA-256 of the payment preimage.
@@ -49,31 +61,45 @@ type Commitment struct {
 	DelayBlocks                                        uint16
 	Revocation, Delayed, LocalHtlc, RemoteHtlc, Remote [33]byte
 	Htlcs                                              []Htlc
+	// Those of the channel's funding output, by which anchors are named; or nil.
+	FundingKeys *FundingKeys
 }
 
-// FoundClaim is a claim, which output it is on, and the first block in which the commitment's owner can take that; nil if it can't.
+// FundingKeys has one's own key of a channel's funding output, and the peer's.
+type FundingKeys struct {
+	Own, Peers [33]byte
+}
+
+// FoundClaim is a claim, which output it is on, the first block that can have a transaction with it, and the first in which the other side can take the output; nil if it can't.
 type FoundClaim struct {
-	Claim       Claim
-	Kind        OutputKind
-	OwnerHeight *uint64
+	Claim          Claim
+	Kind           OutputKind
+	FromHeight     uint64
+	DeadlineHeight *uint64
 }
 
-// Found has the claims on outputs of a transaction, in their order, and the indices of the other outputs.
+// Other is an output without a claim.
+type Other struct {
+	Index uint32
+	Kind  OutputKind
+}
+
+// Found has the claims on outputs of a transaction, in their order, and the other outputs.
 type Found struct {
 	Claims []FoundClaim
-	Others []uint32
+	Others []Other
 }
 
 type lists struct {
 	claims []C.enforce_claim_row
 	found  []C.enforce_found_row
 	slots  []C.enforce_slot_row
-	others []uint32
+	others []C.enforce_other_row
 	bytes  []byte
 }
 
 func makeLists(claims, slots, others, bytes C.size_t) lists {
-	return lists{make([]C.enforce_claim_row, claims), make([]C.enforce_found_row, claims), make([]C.enforce_slot_row, slots), make([]uint32, others), make([]byte, bytes)}
+	return lists{make([]C.enforce_claim_row, claims), make([]C.enforce_found_row, claims), make([]C.enforce_slot_row, slots), make([]C.enforce_other_row, others), make([]byte, bytes)}
 }
 
 func (l *lists) part(at, length C.size_t) []byte {
@@ -88,6 +114,8 @@ func (l *lists) slot(row *C.enforce_slot_row) Slot {
 	case C.ENFORCE_SLOT_PREIMAGE:
 		hash := *(*[32]byte)(unsafe.Pointer(&row.hash))
 		return Slot{Preimage: &hash}
+	case C.ENFORCE_SLOT_GIVEN:
+		return Slot{Given: &GivenSignature{*(*[33]byte)(unsafe.Pointer(&row.key)), *(*[32]byte)(unsafe.Pointer(&row.hash)), l.part(row.bytes_at, row.bytes_length)}}
 	}
 	return Slot{Exact: l.part(row.bytes_at, row.bytes_length)}
 }
@@ -103,12 +131,15 @@ func (l *lists) claim(row *C.enforce_claim_row) Claim {
 }
 
 func (l *lists) told(claims, others C.size_t) Found {
-	found := Found{Others: l.others[:others]}
+	var found Found
+	for _, it := range l.others[:others] {
+		found.Others = append(found.Others, Other{uint32(it.index), OutputKind(it.kind)})
+	}
 	for i := range l.claims[:claims] {
-		it := FoundClaim{Claim: l.claim(&l.claims[i]), Kind: OutputKind(l.found[i].kind)}
-		if l.found[i].has_owner_height {
-			height := uint64(l.found[i].owner_height)
-			it.OwnerHeight = &height
+		it := FoundClaim{Claim: l.claim(&l.claims[i]), Kind: OutputKind(l.found[i].kind), FromHeight: uint64(l.found[i].from_height)}
+		if l.found[i].has_deadline {
+			height := uint64(l.found[i].deadline_height)
+			it.DeadlineHeight = &height
 		}
 		found.Claims = append(found.Claims, it)
 	}
@@ -120,6 +151,10 @@ func (c *Commitment) rows() (C.enforce_commitment, []C.enforce_htlc_row) {
 	*(*[33]byte)(unsafe.Pointer(&row.revocation)), *(*[33]byte)(unsafe.Pointer(&row.delayed)) = c.Revocation, c.Delayed
 	*(*[33]byte)(unsafe.Pointer(&row.local_htlc)), *(*[33]byte)(unsafe.Pointer(&row.remote_htlc)) = c.LocalHtlc, c.RemoteHtlc
 	*(*[33]byte)(unsafe.Pointer(&row.remote)) = c.Remote
+	if c.FundingKeys != nil {
+		row.has_funding_keys = true
+		*(*[33]byte)(unsafe.Pointer(&row.own_funding)), *(*[33]byte)(unsafe.Pointer(&row.peers_funding)) = c.FundingKeys.Own, c.FundingKeys.Peers
+	}
 	htlcs := make([]C.enforce_htlc_row, len(c.Htlcs))
 	for i, it := range c.Htlcs {
 		htlcs[i].direction, htlcs[i].expiry_height = C.uint32_t(it.Direction), C.uint32_t(it.ExpiryHeight)
@@ -128,21 +163,12 @@ func (c *Commitment) rows() (C.enforce_commitment, []C.enforce_htlc_row) {
 	return row, htlcs
 }
 
-// Revoked finds all that a revoked commitment lets its owner's peer claim of a transaction, with witnesses or without: the commitment, one of its HTLC transactions, or any other. A block of confirmedHeight has the
-// transaction.
-//
-// Proved of enforce_revoked: each output is claimed, or its index is among the others; each claim is accepted, and is on the output that it says.
-func Revoked(commitment *Commitment, tx []byte, confirmedHeight uint32) (Found, error) {
-	row, htlcs := commitment.rows()
-	given, length := bytesOf(tx)
+// What a call finds: it is made again with room where there was not enough.
+func filled(call func(l *lists, answer *C.enforce_found_answer) C.uint32_t) (Found, error) {
 	l := makeLists(16, 32, 16, 4096)
 	for {
 		var answer C.enforce_found_answer
-		data, size := bytesOf(l.bytes)
-		others := (*C.uint32_t)(unsafe.Pointer(first(l.others)))
-		status := C.enforce_revoked(&row, first(htlcs), C.size_t(len(htlcs)), given, length, C.uint32_t(confirmedHeight), first(l.claims), C.size_t(len(l.claims)), first(l.found), C.size_t(len(l.found)),
-			first(l.slots), C.size_t(len(l.slots)), others, C.size_t(len(l.others)), data, size, &answer)
-		switch status {
+		switch status := call(&l, &answer); status {
 		case C.ENFORCE_DONE:
 			return l.told(answer.claims, answer.others), nil
 		case C.ENFORCE_TOO_SMALL:
@@ -151,4 +177,37 @@ func Revoked(commitment *Commitment, tx []byte, confirmedHeight uint32) (Found, 
 			return Found{}, refused(status, answer.number)
 		}
 	}
+}
+
+// Revoked finds all that a revoked commitment lets its owner's peer claim of a transaction, with witnesses or without: the commitment, one of its HTLC transactions, or any other. A block of confirmedHeight has the
+// transaction.
+//
+// Proved of enforce_revoked: each output is claimed, or is among the others; each claim is accepted, and is on the output that it says.
+func Revoked(commitment *Commitment, tx []byte, confirmedHeight uint32) (Found, error) {
+	row, htlcs := commitment.rows()
+	given, length := bytesOf(tx)
+	return filled(func(l *lists, answer *C.enforce_found_answer) C.uint32_t {
+		data, size := bytesOf(l.bytes)
+		return C.enforce_revoked(&row, first(htlcs), C.size_t(len(htlcs)), given, length, C.uint32_t(confirmedHeight), first(l.claims), C.size_t(len(l.claims)), first(l.found), C.size_t(len(l.found)),
+			first(l.slots), C.size_t(len(l.slots)), first(l.others), C.size_t(len(l.others)), data, size, answer)
+	})
+}
+
+// Close finds all that a commitment which closed the channel and is not revoked lets one claim of a transaction: of that commitment, of one's own HTLC transaction, or of any other. The feerate is the commitment's, by
+// which one's own HTLC transactions pay. A block of confirmedHeight has the transaction.
+//
+// Proved of enforce_close: each output is claimed in each way that there is, or is among the others. An HTLC of one's own commitment is claimed by its HTLC transaction, where there are no anchors: the slot with Given has
+// it, and UnsignedSpend refuses such a claim.
+func Close(whose Whose, commitment *Commitment, feeratePerKw uint32, preimages [][32]byte, tx []byte, confirmedHeight uint32) (Found, error) {
+	row, htlcs := commitment.rows()
+	given, length := bytesOf(tx)
+	known := make([]C.enforce_preimage_row, len(preimages))
+	for i := range preimages {
+		*(*[32]byte)(unsafe.Pointer(&known[i].bytes)) = preimages[i]
+	}
+	return filled(func(l *lists, answer *C.enforce_found_answer) C.uint32_t {
+		data, size := bytesOf(l.bytes)
+		return C.enforce_close(C.uint32_t(whose), &row, first(htlcs), C.size_t(len(htlcs)), C.uint32_t(feeratePerKw), first(known), C.size_t(len(known)), given, length, C.uint32_t(confirmedHeight),
+			first(l.claims), C.size_t(len(l.claims)), first(l.found), C.size_t(len(l.found)), first(l.slots), C.size_t(len(l.slots)), first(l.others), C.size_t(len(l.others)), data, size, answer)
+	})
 }

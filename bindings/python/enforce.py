@@ -12,7 +12,7 @@ and the classes here, and ctypes are trusted.
 import ctypes
 import os
 from dataclasses import dataclass
-from typing import List, Optional, Sequence, Tuple, Type, TypeVar, Union
+from typing import Callable, List, Optional, Sequence, Tuple, Type, TypeVar, Union
 
 import enforce_raw as raw
 
@@ -196,7 +196,16 @@ class Exact:
     item: bytes
 
 
-Slot = Union[Signature, Preimage, Exact]
+@dataclass(frozen=True)
+class GivenSignature:
+    """The slot is the peer's signature by this key over this digest, which it gave over one transaction (BIP 144, without witnesses). The claim is of this transaction alone, and one's own signature is over the same digest."""
+
+    key: bytes
+    digest: bytes
+    tx: bytes
+
+
+Slot = Union[Signature, Preimage, Exact, GivenSignature]
 
 
 @dataclass(frozen=True)
@@ -264,9 +273,11 @@ class _Given:
         elif isinstance(slot, Preimage):
             row.kind = raw.SLOT_PREIMAGE
             _fill(row.hash, slot.hash, "a hash")
-        else:
+        elif isinstance(slot, Exact):
             row.kind = raw.SLOT_EXACT
             row.bytes_at, row.bytes_length = self.put(slot.item)
+        else:
+            row.kind = raw.SLOT_GIVEN
         return row
 
     def claim(self, claim: Claim) -> raw.ClaimRow:
@@ -348,7 +359,8 @@ class Htlc:
 
 @dataclass(frozen=True)
 class Commitment:
-    """A commitment, by what its scripts are made of: one of the types CHANNEL_.. of enforce_raw, to_self_delay, the keys at its point as its owner names them (BOLT 3, "Key Derivation"), and its HTLCs."""
+    """A commitment, by what its scripts are made of: one of the types CHANNEL_.. of enforce_raw, to_self_delay, the keys at its point as its owner names them (BOLT 3, "Key Derivation"), its HTLCs, and
+    one's own and the peer's key of the channel's funding output, by which anchors are named."""
 
     channel_type: int
     delay_blocks: int
@@ -358,29 +370,43 @@ class Commitment:
     remote_htlc: bytes
     remote: bytes
     htlcs: Tuple[Htlc, ...] = ()
+    funding_keys: Optional[Tuple[bytes, bytes]] = None
 
 
 @dataclass(frozen=True)
 class FoundClaim:
-    """A claim, one of the kinds OUTPUT_.. of enforce_raw of the output that it is on, and the first block in which the commitment's owner can take that, if it can."""
+    """A claim, one of the kinds OUTPUT_.. of enforce_raw of the output that it is on, the first block that can have a transaction with it, and the first in which the other side can take the output, if it can."""
 
     claim: Claim
     kind: int
-    owner_height: Optional[int]
+    from_height: int
+    deadline_height: Optional[int]
+
+
+@dataclass(frozen=True)
+class Other:
+    """An output without a claim: its index, and one of the kinds OUTPUT_.. of enforce_raw."""
+
+    index: int
+    kind: int
 
 
 @dataclass(frozen=True)
 class Found:
-    """The claims on outputs of a transaction, in their order, and the indices of the other outputs."""
+    """The claims on outputs of a transaction, in their order, and the other outputs."""
 
     claims: Tuple[FoundClaim, ...]
-    others: Tuple[int, ...]
+    others: Tuple[Other, ...]
 
 
 def _commitment(given: Commitment) -> raw.Commitment:
     row = raw.Commitment(channel_type=_number(given.channel_type, 32, "channel_type"), delay_blocks=_number(given.delay_blocks, 16, "delay_blocks"))
     for name in ("revocation", "delayed", "local_htlc", "remote_htlc", "remote"):
         _fill(getattr(row, name), getattr(given, name), name)
+    if given.funding_keys:
+        row.has_funding_keys = True
+        _fill(row.own_funding, given.funding_keys[0], "a funding key")
+        _fill(row.peers_funding, given.funding_keys[1], "a funding key")
     return row
 
 
@@ -395,7 +421,7 @@ class _Lists:
 
     def __init__(self, claims: int, slots: int, others: int, size: int) -> None:
         self.claims, self.found = (raw.ClaimRow * claims)(), (raw.FoundRow * claims)()
-        self.slots, self.others, self.bytes = (raw.SlotRow * slots)(), (ctypes.c_uint32 * others)(), (ctypes.c_uint8 * size)()
+        self.slots, self.others, self.bytes = (raw.SlotRow * slots)(), (raw.OtherRow * others)(), (ctypes.c_uint8 * size)()
 
     def part(self, at: int, length: int) -> bytes:
         return bytes(self.bytes[at : at + length])
@@ -403,6 +429,8 @@ class _Lists:
     def slot(self, row: raw.SlotRow) -> Slot:
         if row.kind == raw.SLOT_SIGNATURE:
             return Signature(bytes(row.key))
+        if row.kind == raw.SLOT_GIVEN:
+            return GivenSignature(bytes(row.key), bytes(row.hash), self.part(row.bytes_at, row.bytes_length))
         return Preimage(bytes(row.hash)) if row.kind == raw.SLOT_PREIMAGE else Exact(self.part(row.bytes_at, row.bytes_length))
 
     def claim(self, row: raw.ClaimRow) -> Claim:
@@ -414,21 +442,37 @@ class _Lists:
         return tuple(word for it in (self.claims, self.found, self.slots, self.others, self.bytes) for word in (it, len(it)))
 
 
-def revoked(commitment: Commitment, tx: bytes, confirmed_height: int) -> Found:
-    """All that a revoked commitment lets its owner's peer claim of a transaction, with witnesses or without: the commitment, one of its HTLC transactions, or any other. Raises Refused.
-
-    Proved of enforce_revoked: each output is claimed, or its index is among the others; each claim is accepted; and each is on the output that it says. A block of confirmed_height has the transaction.
-    """
-    answer, given = raw.FoundAnswer(), _commitment(commitment)
-    htlcs, count = _rows(raw.HtlcRow, list(map(_htlc, commitment.htlcs)))
-    height, room = _number(confirmed_height, 32, "confirmed_height"), (16, 32, 16, 4096)
+def _found(call: Callable[..., int], arguments: Tuple[object, ...]) -> Found:
+    """What a call finds, by its arguments before the buffers."""
+    answer, room = raw.FoundAnswer(), (16, 32, 16, 4096)
     while True:
         lists = _Lists(*room)
-        status = _library.enforce_revoked(ctypes.byref(given), htlcs, count, _buffer(tx), len(tx), height, *lists.arguments(), ctypes.byref(answer))
+        status = call(*arguments, *lists.arguments(), ctypes.byref(answer))
         if status == raw.DONE:
             rows = zip(lists.claims[: answer.claims], lists.found)
-            claims = tuple(FoundClaim(lists.claim(claim), it.kind, it.owner_height if it.has_owner_height else None) for claim, it in rows)
-            return Found(claims, tuple(lists.others[: answer.others]))
+            claims = tuple(FoundClaim(lists.claim(claim), it.kind, it.from_height, it.deadline_height if it.has_deadline else None) for claim, it in rows)
+            return Found(claims, tuple(Other(it.index, it.kind) for it in lists.others[: answer.others]))
         if status != raw.TOO_SMALL:
             raise Refused(status, answer.number)
         room = answer.claims, answer.slots, answer.others, answer.bytes
+
+
+def revoked(commitment: Commitment, tx: bytes, confirmed_height: int) -> Found:
+    """All that a revoked commitment lets its owner's peer claim of a transaction, with witnesses or without: the commitment, one of its HTLC transactions, or any other. Raises Refused.
+
+    Proved of enforce_revoked: each output is claimed, or is among the others; each claim is accepted; and each is on the output that it says. A block of confirmed_height has the transaction.
+    """
+    given, htlcs = _commitment(commitment), _rows(raw.HtlcRow, list(map(_htlc, commitment.htlcs)))
+    return _found(_library.enforce_revoked, (ctypes.byref(given), *htlcs, _buffer(tx), len(tx), _number(confirmed_height, 32, "confirmed_height")))
+
+
+def close(whose: int, commitment: Commitment, feerate_per_kw: int, preimages: Sequence[bytes], tx: bytes, confirmed_height: int) -> Found:
+    """All that a commitment which closed the channel and is not revoked lets one claim of a transaction: of that commitment, of one's own HTLC transaction, or of any other. `whose` is one of CLOSE_.. of enforce_raw. Raises Refused.
+
+    Proved of enforce_close: each output is claimed in each way that there is, or is among the others. An HTLC of one's own commitment is claimed by its HTLC transaction, where there are no anchors: the slot with a
+    GivenSignature has it. unsigned_spend refuses such a claim.
+    """
+    given, htlcs = _commitment(commitment), _rows(raw.HtlcRow, list(map(_htlc, commitment.htlcs)))
+    known = _rows(raw.PreimageRow, [_preimage(it) for it in preimages])
+    numbers = _number(whose, 32, "whose"), _number(feerate_per_kw, 32, "feerate_per_kw"), _number(confirmed_height, 32, "confirmed_height")
+    return _found(_library.enforce_close, (numbers[0], ctypes.byref(given), *htlcs, numbers[1], *known, _buffer(tx), len(tx), numbers[2]))

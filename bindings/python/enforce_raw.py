@@ -7,15 +7,23 @@ SLOT_SIGNATURE = 0x1
 SLOT_PREIMAGE = 0x2
 # The slot is the `bytes_length` bytes from `bytes_at` on, at most 520.
 SLOT_EXACT = 0x3
+# The slot is the signature of `key` over the digest `hash`, which was given over one transaction, with no witnesses the `bytes_length` bytes from `bytes_at` on. The claim is of this transaction alone, over whose digest the other signatures are too. No call reads such a slot.
+SLOT_GIVEN = 0x4
 
 # A channel without anchors: `option_static_remotekey` (BOLT 9).
 CHANNEL_STATIC_REMOTE_KEY = 0x1
 # A channel with `option_anchors` (BOLT 9).
 CHANNEL_ANCHORS = 0x2
+# One's own commitment, the newest.
+CLOSE_OWN = 0x1
+# The peer's newest commitment, or the one after it, while the newest is not revoked.
+CLOSE_PEERS = 0x2
 # The owner of the commitment offered the HTLC.
 DIRECTION_OFFERED = 0x1
 # The owner of the commitment received the HTLC.
 DIRECTION_RECEIVED = 0x2
+# None that is known.
+OUTPUT_UNKNOWN = 0x0
 # To the owner of the commitment, after the delay. The output of an HTLC transaction has the same script.
 OUTPUT_TO_LOCAL = 0x1
 # To the owner's peer.
@@ -24,6 +32,10 @@ OUTPUT_TO_REMOTE = 0x2
 OUTPUT_OFFERED = 0x3
 # An HTLC that the owner received.
 OUTPUT_RECEIVED = 0x4
+# One's own anchor.
+OUTPUT_OWN_ANCHOR = 0x5
+# The peer's anchor.
+OUTPUT_PEERS_ANCHOR = 0x6
 
 # A funding output: both keys, `key` and `other`, in whichever order.
 FORM_FUNDING = 0x1
@@ -141,9 +153,11 @@ NOT_A_COMMITMENT_KEY = 0x802
 NO_SUCH_DIRECTION = 0x803
 # The expiry of an HTLC is 500,000,000 or more, which is a time and not a height; the answer has the index of the HTLC.
 EXPIRY_TOO_LARGE = 0x804
+# It is neither one's own commitment nor the peer's.
+NO_SUCH_CLOSE = 0x805
 
 # What declarations mean together: it is raised whenever one changes its meaning.
-ABI = 0x2
+ABI = 0x3
 
 NAMES = {
     DONE: "Done",
@@ -186,6 +200,7 @@ NAMES = {
     NOT_A_COMMITMENT_KEY: "NotACommitmentKey",
     NO_SUCH_DIRECTION: "NoSuchDirection",
     EXPIRY_TOO_LARGE: "ExpiryTooLarge",
+    NO_SUCH_CLOSE: "NoSuchClose",
 }
 
 
@@ -238,6 +253,9 @@ class Commitment(Structure):
         ("local_htlc", c_uint8 * 33),
         ("remote_htlc", c_uint8 * 33),
         ("remote", c_uint8 * 33),
+        ("has_funding_keys", c_bool),
+        ("own_funding", c_uint8 * 33),
+        ("peers_funding", c_uint8 * 33),
     ]
 
 
@@ -252,12 +270,22 @@ class HtlcRow(Structure):
 
 
 class FoundRow(Structure):
-    """Of a claim, which output of the commitment it is on, and until when it is alone."""
+    """Of a claim, which output of the commitment it is on, from when it can be made, and until when it is alone."""
 
     _fields_ = [
         ("kind", c_uint32),
-        ("has_owner_height", c_bool),
-        ("owner_height", c_uint64),
+        ("has_deadline", c_bool),
+        ("from_height", c_uint64),
+        ("deadline_height", c_uint64),
+    ]
+
+
+class OtherRow(Structure):
+    """An output without a claim."""
+
+    _fields_ = [
+        ("index", c_uint32),
+        ("kind", c_uint32),
     ]
 
 
@@ -372,9 +400,10 @@ LAYOUTS = {
     SlotRow: (88, [0, 4, 37, 72, 80]),
     ClaimRow: (104, [0, 32, 40, 48, 56, 64, 72, 80, 88, 96]),
     Due: (16, [0, 8]),
-    Commitment: (172, [0, 4, 6, 39, 72, 105, 138]),
+    Commitment: (240, [0, 4, 6, 39, 72, 105, 138, 171, 172, 205]),
     HtlcRow: (40, [0, 4, 8]),
-    FoundRow: (16, [0, 4, 8]),
+    FoundRow: (24, [0, 4, 8, 16]),
+    OtherRow: (8, [0, 4]),
     FoundAnswer: (40, [0, 8, 16, 24, 32]),
     Form: (144, [0, 4, 8, 10, 43, 76, 109]),
     PathRow: (56, [0, 8, 16, 24, 32, 40, 48, 52, 53]),
@@ -410,9 +439,12 @@ def declare(library: CDLL) -> None:
     # proved: AnswersSpend (record { claims = claims.now; slots = slots.now; outputs = outputs.now; bytes = bytes.now }) (preimages_in preimages.now) (record { bytes = tx.old; signatures = signatures.old }) (record { status = result; answer = answer.new; lists = record { bytes = tx.new; signatures = signatures.new } }) (crates/enforce_c/specs/Spent.antt)
     library.enforce_unsigned_spend.argtypes = [POINTER(ClaimRow), c_size_t, POINTER(SlotRow), c_size_t, POINTER(OutputRow), c_size_t, POINTER(PreimageRow), c_size_t, POINTER(c_uint8), c_size_t, POINTER(c_uint8), c_size_t, POINTER(SignatureRow), c_size_t, POINTER(SpendAnswer)]
     library.enforce_unsigned_spend.restype = c_uint32
-    # proved: AnswersFound (record { commitment = commitment.now; htlcs = htlcs.now; tx = tx.now; confirmed_height = confirmed_height }) (record { claims = claims.old; found = found_outputs.old; slots = slots.old; others = others.old; bytes = bytes.old }) (record { status = result; answer = answer.new; lists = record { claims = claims.new; found = found_outputs.new; slots = slots.new; others = others.new; bytes = bytes.new } }) (crates/enforce_c/specs/Found.antt)
-    library.enforce_revoked.argtypes = [POINTER(Commitment), POINTER(HtlcRow), c_size_t, POINTER(c_uint8), c_size_t, c_uint32, POINTER(ClaimRow), c_size_t, POINTER(FoundRow), c_size_t, POINTER(SlotRow), c_size_t, POINTER(c_uint32), c_size_t, POINTER(c_uint8), c_size_t, POINTER(FoundAnswer)]
+    # proved: AnswersFound (asked_of_revoked commitment.now htlcs.now tx.now confirmed_height) (record { claims = claims.old; found = found_outputs.old; slots = slots.old; others = others.old; bytes = bytes.old }) (record { status = result; answer = answer.new; lists = record { claims = claims.new; found = found_outputs.new; slots = slots.new; others = others.new; bytes = bytes.new } }) (crates/enforce_c/specs/Found.antt)
+    library.enforce_revoked.argtypes = [POINTER(Commitment), POINTER(HtlcRow), c_size_t, POINTER(c_uint8), c_size_t, c_uint32, POINTER(ClaimRow), c_size_t, POINTER(FoundRow), c_size_t, POINTER(SlotRow), c_size_t, POINTER(OtherRow), c_size_t, POINTER(c_uint8), c_size_t, POINTER(FoundAnswer)]
     library.enforce_revoked.restype = c_uint32
+    # proved: AnswersFound (record { question = OfClose; whose = whose; commitment = commitment.now; htlcs = htlcs.now; feerate_per_kw = feerate_per_kw; preimages = preimages_in preimages.now; tx = tx.now; confirmed_height = confirmed_height }) (record { claims = claims.old; found = found_outputs.old; slots = slots.old; others = others.old; bytes = bytes.old }) (record { status = result; answer = answer.new; lists = record { claims = claims.new; found = found_outputs.new; slots = slots.new; others = others.new; bytes = bytes.new } }) (crates/enforce_c/specs/Found.antt)
+    library.enforce_close.argtypes = [c_uint32, POINTER(Commitment), POINTER(HtlcRow), c_size_t, c_uint32, POINTER(PreimageRow), c_size_t, POINTER(c_uint8), c_size_t, c_uint32, POINTER(ClaimRow), c_size_t, POINTER(FoundRow), c_size_t, POINTER(SlotRow), c_size_t, POINTER(OtherRow), c_size_t, POINTER(c_uint8), c_size_t, POINTER(FoundAnswer)]
+    library.enforce_close.restype = c_uint32
     for struct, (size, offsets) in LAYOUTS.items():
         if sizeof(struct) != size or [getattr(struct, field[0]).offset for field in struct._fields_] != offsets:
             raise ImportError(f"the layout of {struct.__name__} is not the library's")

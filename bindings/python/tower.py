@@ -12,9 +12,9 @@ htlcs = tuple(enforce.Htlc(int(it), int(next(words)), bytes.fromhex(next(words))
 try:
     found = enforce.revoked(enforce.Commitment(channel_type, delay_blocks, *keys, htlcs), tx, height)
     for it in found.claims:
-        print(f"claim {it.claim.index} kind {it.kind} until {it.owner_height or 0}")
-    for index in found.others:
-        print(f"other {index}")
+        print(f"claim {it.claim.index} kind {it.kind} until {it.deadline_height or 0}")
+    for it in found.others:
+        print(f"other {it.index}")
     claims = [it.claim for it in found.claims]
     spend = enforce.unsigned_spend(claims, [(max(0, sum(it.value for it in claims) - fee), program)])
 except enforce.Refused as refused:

@@ -7,8 +7,10 @@
      claim CLAIM                                         when a claim is due
      spend CLAIM;.. VALUE/SCRIPT;.. PREIMAGE,..          the transaction of claims, and the signatures that it lacks
      revoked COMMITMENT HTLC;.. TX HEIGHT                what a revoked commitment lets its owner's peer claim of a transaction
+     close WHOSE COMMITMENT HTLC;.. FEERATE PREIMAGE,.. TX HEIGHT  what one that is not revoked lets one claim
 
-   A CLAIM is SCRIPT/PROGRAM/TXID/INDEX/VALUE/PATH/SLOT,.. and a slot is s=KEY, p=HASH or e=ITEM. A COMMITMENT is TYPE/DELAY/ and its five keys with / between them, an HTLC DIRECTION/EXPIRY/HASH. What is empty is a hyphen.
+   A CLAIM is SCRIPT/PROGRAM/TXID/INDEX/VALUE/PATH/SLOT,.. and a slot is s=KEY, p=HASH or e=ITEM, or in an answer g=KEY:DIGEST:TX. A COMMITMENT is TYPE/DELAY/ and its five keys and both of the funding output with / between them,
+   an HTLC DIRECTION/EXPIRY/HASH. What is empty, or not told, is a hyphen.
 
    answers             the answers. Each call is made again with buffers of just their lengths, and with each of them one shorter; each claim also with rows that name what is not there
    answers --threads   the answers, made by four threads at once as well, which must be the same
@@ -24,7 +26,7 @@
 
 enum { PATHS = 64, FACTS = 4096, BYTES = 65536, SIGNATURES = 64, THREADS = 4, FILL = 0x5a };
 enum { CLAIMS = 8, SLOTS = 64, OUTPUTS = 8, PREIMAGES = 8, HTLCS = 16, FOUND = 16 };
-/* The buffers of a call: paths or claims, rows of facts, of signatures or of outputs, bytes, slots, and the indices of others. */
+/* The buffers of a call: paths or claims, rows of facts, of signatures or of outputs, bytes, slots, and the other outputs. */
 enum { AT_PATHS, AT_ROWS, AT_BYTES, AT_SLOTS, AT_OTHERS, BUFFERS };
 
 #ifdef REFUSING
@@ -43,7 +45,7 @@ typedef struct {
     enforce_claim_row claims[FOUND];
     enforce_found_row found[FOUND];
     enforce_slot_row slots[SLOTS];
-    uint32_t others[FOUND];
+    enforce_other_row others[FOUND];
     enforce_path_row paths[PATHS];
     enforce_fact_row facts[FACTS];
     enforce_signature_row signatures[SIGNATURES];
@@ -179,7 +181,7 @@ typedef struct {
     size_t claims_length, slots_length, outputs_length, preimages_length, htlcs_length;
     enforce_commitment commitment;
     enforce_htlc_row htlcs[HTLCS];
-    uint32_t confirmed_height;
+    uint32_t confirmed_height, whose, feerate_per_kw;
 } request;
 
 static bool is_named(const request *r, const char *name) { return !strcmp(r->name, name); }
@@ -193,11 +195,18 @@ static uint32_t call_spend(const request *r, state *s, const rooms *room) {
     return status;
 }
 
-static uint32_t call_revoked(const request *r, state *s, const rooms *room) {
+static bool finds(const request *r) { return is_named(r, "revoked") || is_named(r, "close"); }
+
+static uint32_t call_found(const request *r, state *s, const rooms *room) {
     enforce_found_answer answer;
     memset(&answer, FILL, sizeof answer);
-    uint32_t status = enforce_revoked(&r->commitment, r->htlcs, r->htlcs_length, r->bytes, r->length, r->confirmed_height, s->claims, room->of[AT_PATHS], s->found, room->of[AT_ROWS], s->slots,
-                                      room->of[AT_SLOTS], s->others, room->of[AT_OTHERS], s->bytes, room->of[AT_BYTES], &answer);
+    uint32_t status;
+    if (is_named(r, "revoked"))
+        status = enforce_revoked(&r->commitment, r->htlcs, r->htlcs_length, r->bytes, r->length, r->confirmed_height, s->claims, room->of[AT_PATHS], s->found, room->of[AT_ROWS], s->slots,
+                                 room->of[AT_SLOTS], s->others, room->of[AT_OTHERS], s->bytes, room->of[AT_BYTES], &answer);
+    else
+        status = enforce_close(r->whose, &r->commitment, r->htlcs, r->htlcs_length, r->feerate_per_kw, r->preimages, r->preimages_length, r->bytes, r->length, r->confirmed_height, s->claims,
+                               room->of[AT_PATHS], s->found, room->of[AT_ROWS], s->slots, room->of[AT_SLOTS], s->others, room->of[AT_OTHERS], s->bytes, room->of[AT_BYTES], &answer);
     s->sizes = (rooms){{[AT_PATHS] = answer.claims, [AT_ROWS] = answer.claims, [AT_BYTES] = answer.bytes, [AT_SLOTS] = answer.slots, [AT_OTHERS] = answer.others}}, s->number = answer.number;
     return status;
 }
@@ -223,13 +232,13 @@ static void call(const request *r, state *s, rooms room) {
     memset(s, FILL, sizeof *s);
     for (size_t i = 0; i < PATHS; i++) s->paths[i].has_lock = s->paths[i].has_age = false;
     for (size_t i = 0; i < FACTS; i++) s->facts[i].holds = s->facts[i].key_is_slot = false;
-    for (size_t i = 0; i < FOUND; i++) s->found[i].has_owner_height = false;
+    for (size_t i = 0; i < FOUND; i++) s->found[i].has_deadline = false;
     asked = 0;
-    s->status = is_named(r, "spend") ? call_spend(r, s, &room) : is_named(r, "revoked") ? call_revoked(r, s, &room) : call_script(r, s, &room);
+    s->status = is_named(r, "spend") ? call_spend(r, s, &room) : finds(r) ? call_found(r, s, &room) : call_script(r, s, &room);
 }
 
 static rooms most(const request *r) {
-    if (is_named(r, "revoked")) return (rooms){{FOUND, FOUND, BYTES, SLOTS, FOUND}};
+    if (finds(r)) return (rooms){{FOUND, FOUND, BYTES, SLOTS, FOUND}};
     return (rooms){{PATHS, is_named(r, "spend") ? SIGNATURES : FACTS, BYTES, 0, 0}};
 }
 
@@ -253,7 +262,7 @@ static bool is_left(const state *s) {
     if (!is_filled(s->bytes, sizeof s->bytes) || !is_filled(s->signatures, sizeof s->signatures) || !is_filled(&s->due, sizeof s->due)) return false;
     if (!is_filled(s->claims, sizeof s->claims) || !is_filled(s->slots, sizeof s->slots) || !is_filled(s->others, sizeof s->others)) return false;
     for (size_t i = 0; i < FOUND; i++)
-        if ((uint8_t)s->found[i].kind != FILL || (uint8_t)s->found[i].owner_height != FILL || s->found[i].has_owner_height) return false;
+        if ((uint8_t)s->found[i].kind != FILL || (uint8_t)s->found[i].from_height != FILL || (uint8_t)s->found[i].deadline_height != FILL || s->found[i].has_deadline) return false;
     for (size_t i = 0; i < PATHS; i++)
         if (s->paths[i].arity != s->paths[PATHS - 1].arity || (uint8_t)s->paths[i].arity != FILL || s->paths[i].has_lock) return false;
     for (size_t i = 0; i < FACTS; i++)
@@ -285,7 +294,7 @@ static bool is_same_slot(const enforce_slot_row *a, const enforce_slot_row *b) {
 }
 
 static bool is_same_found(const enforce_found_row *a, const enforce_found_row *b) {
-    return a->kind == b->kind && a->has_owner_height == b->has_owner_height && a->owner_height == b->owner_height;
+    return a->kind == b->kind && a->has_deadline == b->has_deadline && a->from_height == b->from_height && a->deadline_height == b->deadline_height;
 }
 
 /* The same of what is found. */
@@ -475,6 +484,8 @@ static void read_commitment(request *r, char *text) {
     c->channel_type = (uint32_t)strtoul(first_part(text, "/", &rest), NULL, 10);
     c->delay_blocks = (uint16_t)strtoul(word(&rest, "/"), NULL, 10);
     for (int i = 0; i < 5; i++) read_hex(word(&rest, "/"), keys[i], 33);
+    c->has_funding_keys = read_hex(word(&rest, "/"), c->own_funding, 33) != 0;
+    read_hex(word(&rest, "/"), c->peers_funding, 33);
 }
 
 static void put_digits(text *to, const uint8_t *bytes, size_t length) {
@@ -492,6 +503,10 @@ static void put_claim(text *to, const state *s, const enforce_claim_row *c) {
         switch (slot->kind) {
         case ENFORCE_SLOT_SIGNATURE: put(to, "s="), put_hex(to, slot->key, sizeof slot->key); break;
         case ENFORCE_SLOT_PREIMAGE: put(to, "p="), put_hex(to, slot->hash, sizeof slot->hash); break;
+        case ENFORCE_SLOT_GIVEN:
+            put(to, "g="), put_hex(to, slot->key, sizeof slot->key), put(to, ":"), put_hex(to, slot->hash, sizeof slot->hash);
+            put(to, ":"), put_hex(to, s->bytes + slot->bytes_at, slot->bytes_length);
+            break;
         default: put(to, "e="), put_digits(to, s->bytes + slot->bytes_at, slot->bytes_length);
         }
     }
@@ -501,11 +516,12 @@ static void put_claim(text *to, const state *s, const enforce_claim_row *c) {
 static void put_found(text *to, const state *s) {
     for (size_t i = 0; i < s->sizes.of[AT_PATHS]; i++) {
         const enforce_found_row *row = s->found + i;
-        put(to, row->has_owner_height ? "found %u %llu " : "found %u - ", row->kind, (unsigned long long)row->owner_height);
+        put(to, "found %u %llu ", row->kind, (unsigned long long)row->from_height);
+        put(to, row->has_deadline ? "%llu " : "- ", (unsigned long long)row->deadline_height);
         put_claim(to, s, s->claims + i);
     }
     put(to, "others");
-    for (size_t i = 0; i < s->sizes.of[AT_OTHERS]; i++) put(to, " %u", s->others[i]);
+    for (size_t i = 0; i < s->sizes.of[AT_OTHERS]; i++) put(to, " %u:%u", s->others[i].index, s->others[i].kind);
     put(to, "\n");
 }
 
@@ -534,7 +550,7 @@ static void tell(work *w, const request *r, state *s, state *other) {
         put(to, "due %llu %u\n", (unsigned long long)s->due.height, s->due.sequence);
     } else if (is_named(r, "spend")) {
         put_spend(to, s);
-    } else if (is_named(r, "revoked")) {
+    } else if (finds(r)) {
         put_found(to, s);
     } else if (is_named(r, "list")) {
         put(to, "paths %zu\n", s->sizes.of[AT_PATHS]);
@@ -561,12 +577,16 @@ static void read_request(request *r, char *line) {
         read_each(r, claims, ";", read_claim);
         read_each(r, outputs, ";", read_output);
         read_each(r, preimages, ",", read_preimage);
-    } else if (is_named(r, "revoked")) {
+    } else if (finds(r)) {
+        char *preimages = "-";
+        if (is_named(r, "close")) r->whose = (uint32_t)strtoul(word(&rest, " "), NULL, 10);
         char *commitment = word(&rest, " "), *htlcs = word(&rest, " ");
+        if (is_named(r, "close")) r->feerate_per_kw = (uint32_t)strtoul(word(&rest, " "), NULL, 10), preimages = word(&rest, " ");
         r->length = read_hex(word(&rest, " "), r->bytes, sizeof r->bytes);
         r->confirmed_height = (uint32_t)strtoul(word(&rest, " "), NULL, 10);
         read_commitment(r, commitment);
         read_each(r, htlcs, ";", read_htlc);
+        read_each(r, preimages, ",", read_preimage);
     } else {
         r->length = read_hex(word(&rest, " "), r->bytes, sizeof r->bytes);
     }

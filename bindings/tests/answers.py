@@ -76,22 +76,44 @@ def htlc(text: str) -> enforce.Htlc:
     return enforce.Htlc(int(direction), int(expiry), data(payment_hash))
 
 
+def slot_text(it: enforce.Slot) -> str:
+    if isinstance(it, enforce.GivenSignature):
+        return f"g={it.key.hex()}:{it.digest.hex()}:{it.tx.hex()}"
+    if isinstance(it, enforce.Signature):
+        return f"s={it.key.hex()}"
+    return f"p={it.hash.hex()}" if isinstance(it, enforce.Preimage) else f"e={it.item.hex() or '-'}"
+
+
 def claim_text(it: enforce.Claim) -> str:
-    slots = ",".join(f"s={slot.key.hex()}" if isinstance(slot, enforce.Signature) else f"p={slot.hash.hex()}" if isinstance(slot, enforce.Preimage) else f"e={slot.item.hex() or '-'}" for slot in it.slots)
+    slots = ",".join(map(slot_text, it.slots))
     return f"{it.script.hex() or '-'}/{it.program.hex() or '-'}/{it.txid.hex()}/{it.index}/{it.value}/{it.path}/{slots}"
 
 
+def commitment_of(text: str, htlcs: str) -> enforce.Commitment:
+    channel_type, delay, *keys, own, peers = text.split("/")
+    funding = None if own == "-" else (data(own), data(peers))
+    return enforce.Commitment(int(channel_type), int(delay), *map(data, keys), tuple(map(htlc, parts(htlcs, ";"))), funding)
+
+
+def found_text(found: enforce.Found) -> str:
+    lines = [f"found {it.kind} {it.from_height} {or_dash(it.deadline_height)} {claim_text(it.claim)}" for it in found.claims]
+    return "\n".join([*lines, " ".join(["others", *(f"{it.index}:{it.kind}" for it in found.others)])])
+
+
 def revoked(commitment: str, htlcs: str, tx: str, height: str) -> str:
-    channel_type, delay, *keys = commitment.split("/")
-    given = enforce.Commitment(int(channel_type), int(delay), *map(data, keys), tuple(map(htlc, parts(htlcs, ";"))))
-    found = enforce.revoked(given, data(tx), int(height))
-    lines = [f"found {it.kind} {or_dash(it.owner_height)} {claim_text(it.claim)}" for it in found.claims]
-    return "\n".join([*lines, " ".join(["others", *map(str, found.others)])])
+    return found_text(enforce.revoked(commitment_of(commitment, htlcs), data(tx), int(height)))
+
+
+def close(whose: str, commitment: str, htlcs: str, feerate: str, preimages: str, tx: str, height: str) -> str:
+    known = list(map(data, parts(preimages, ",")))
+    return found_text(enforce.close(int(whose), commitment_of(commitment, htlcs), int(feerate), known, data(tx), int(height)))
 
 
 def answer(name: str, *words: str) -> str:
     if name == "revoked":
         return revoked(*words)
+    if name == "close":
+        return close(*words)
     if name == "claim":
         return due_line(*words)
     if name == "spend":

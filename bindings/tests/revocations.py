@@ -11,16 +11,37 @@ TOP = os.path.dirname(os.path.dirname(os.path.dirname(os.path.abspath(__file__))
 sys.path.insert(0, f"{TOP}/oracles")
 import revoked
 
-CHANNELS, DIRECTIONS, KINDS = {"static_remotekey": 1, "anchors": 2}, {"offered": 1, "received": 2}, {"to_local": 1, "to_remote": 2, "offered": 3, "received": 4}
+CHANNELS, DIRECTIONS = {"static_remotekey": 1, "anchors": 2}, {"offered": 1, "received": 2}
+KINDS = {"to_local": 1, "to_remote": 2, "to_remote_after_a_block": 2, "offered": 3, "received": 4}
 HEIGHT, LAST = 501, 2**32 - 1
-WORDS = 2 + len(revoked.NAMES)
+# The funding keys of one who is the owner of the appendix's commitment, and of its peer.
+OWNERS = [revoked.KEYS[f"{it}_funding_pubkey"] for it in ("local", "remote")]
+PEERS = OWNERS[::-1]
+
+
+def commitment_words(row, funding, **words):
+    """A row's commitment and its HTLCs as a line has them, with some of the commitment's words changed. Funding keys are told where there are anchors."""
+    own, peers = funding if row.values["type"] == "anchors" else ("-", "-")
+    commitment = {"type": CHANNELS[row.values["type"]], **{it: row.values[it] for it in ["delay", *revoked.NAMES]}, "own_funding": own, "peers_funding": peers, **words}
+    htlcs = [f"{DIRECTIONS.get(direction, direction)}/{expiry}/{payment_hash}" for direction, payment_hash, expiry in row.htlcs]
+    return f"{'/'.join(str(it) for it in commitment.values())} {';'.join(htlcs) or '-'}"
 
 
 def line_of(row, height=HEIGHT, tx=None, **words):
     """The line that asks of a row, with some of the commitment's words changed."""
-    commitment = {"type": CHANNELS[row.values["type"]], **{it: row.values[it] for it in ["delay", *revoked.NAMES]}, **words}
-    htlcs = [f"{DIRECTIONS.get(direction, direction)}/{expiry}/{payment_hash}" for direction, payment_hash, expiry in row.htlcs]
-    return f"revoked {'/'.join(str(it) for it in commitment.values())} {';'.join(htlcs) or '-'} {row.tx if tx is None else tx or '-'} {height}"
+    return f"revoked {commitment_words(row, PEERS, **words)} {row.tx if tx is None else tx or '-'} {height}"
+
+
+def other_text(row, index, output, funding):
+    """An output without a claim: its index, and what it is."""
+    kind = 0
+    if row.is_claimed(output):
+        kind = KINDS[output["kind"]]
+    elif row.values["type"] == "anchors" and output["kind"] == "to_remote_after_a_block" and row.values["remote"] == revoked.OWN["remote"]:
+        kind = 2
+    elif row.values["type"] == "anchors" and output["kind"] == "anchor":
+        kind = 5 + [revoked.program_of(f"21{key}ac736460b268") for key in funding].index(output["script_pubkey"])
+    return f"{index}:{kind}"
 
 
 def owner_height(row, output, height):
@@ -45,9 +66,9 @@ def claim_text(row, index, output):
 
 def answer(row, height=HEIGHT):
     claimed = [(index, it) for index, it in enumerate(row.outputs) if row.is_claimed(it)]
-    others = [index for index, it in enumerate(row.outputs) if not row.is_claimed(it)]
-    lines = [f"found {KINDS[it['kind']]} {owner_height(row, it, height)} {claim_text(row, index, it)}\n" for index, it in claimed]
-    return "".join(lines) + " ".join(["others", *map(str, others)]) + "\n"
+    others = [other_text(row, index, it, PEERS) for index, it in enumerate(row.outputs) if not row.is_claimed(it)]
+    lines = [f"found {KINDS[it['kind']]} {height} {owner_height(row, it, height)} {claim_text(row, index, it)}\n" for index, it in claimed]
+    return "".join(lines) + " ".join(["others", *others]) + "\n"
 
 
 def row_with(row, htlcs):
@@ -65,6 +86,8 @@ def refused(row):
         line_of(row, type=3): "NoSuchChannelType",
         line_of(row_with(row, [(3, payment_hash, expiry), *row.htlcs]), delayed=bad_key, remote=bad_key, tx=""): "NotACommitmentKey 1",
         **{line_of(row, **{name: bad_key}): f"NotACommitmentKey {at}" for at, name in enumerate(revoked.NAMES)},
+        line_of(row, own_funding=bad_key, peers_funding=bad_key, tx=""): "NotACommitmentKey 5",
+        line_of(row_with(row, [(3, payment_hash, expiry)]), own_funding=PEERS[0], peers_funding=bad_key): "NotACommitmentKey 6",
         line_of(row_with(row, [(direction, payment_hash, expiry), (0, payment_hash, 500_000_000)]), tx=""): "NoSuchDirection 1",
         line_of(row_with(row, [(3, payment_hash, expiry)])): "NoSuchDirection 0",
         line_of(row_with(row, [*row.htlcs, (direction, payment_hash, 500_000_000), (3, payment_hash, expiry)]), tx=""): f"ExpiryTooLarge {len(row.htlcs)}",

@@ -143,6 +143,9 @@ func spend(words []string) (string, error) {
 func commitment(text, htlcs string) *enforce.Commitment {
 	p := strings.Split(text, "/")
 	found := &enforce.Commitment{ChannelType: enforce.ChannelType(number(p[0])), DelayBlocks: uint16(number(p[1])), Revocation: key(p[2]), Delayed: key(p[3]), LocalHtlc: key(p[4]), RemoteHtlc: key(p[5]), Remote: key(p[6])}
+	if p[7] != "-" {
+		found.FundingKeys = &enforce.FundingKeys{Own: key(p[7]), Peers: key(p[8])}
+	}
 	for _, it := range parts(htlcs, ";") {
 		h := strings.Split(it, "/")
 		found.Htlcs = append(found.Htlcs, enforce.Htlc{Direction: enforce.Direction(number(h[0])), ExpiryHeight: uint32(number(h[1])), Hash: hash(h[2])})
@@ -165,6 +168,8 @@ func claimText(claim *enforce.Claim) string {
 			slots = append(slots, fmt.Sprintf("s=%x", *it.Signature))
 		case it.Preimage != nil:
 			slots = append(slots, fmt.Sprintf("p=%x", *it.Preimage))
+		case it.Given != nil:
+			slots = append(slots, fmt.Sprintf("g=%x:%x:%x", it.Given.Key, it.Given.Digest, it.Given.Tx))
 		default:
 			slots = append(slots, "e="+orDash(it.Exact))
 		}
@@ -172,21 +177,32 @@ func claimText(claim *enforce.Claim) string {
 	return fmt.Sprintf("%s/%s/%x/%d/%d/%d/%s", orDash(claim.Script), orDash(claim.Program), claim.Txid, claim.Index, claim.Value, claim.Path, strings.Join(slots, ","))
 }
 
-func revoked(words []string) (string, error) {
-	found, err := enforce.Revoked(commitment(words[0], words[1]), data(words[2]), uint32(number(words[3])))
+func foundText(found enforce.Found, err error) (string, error) {
 	text := ""
 	for i := range found.Claims {
 		it, height := &found.Claims[i], "-"
-		if it.OwnerHeight != nil {
-			height = fmt.Sprint(*it.OwnerHeight)
+		if it.DeadlineHeight != nil {
+			height = fmt.Sprint(*it.DeadlineHeight)
 		}
-		text += fmt.Sprintf("found %d %s %s\n", it.Kind, height, claimText(&it.Claim))
+		text += fmt.Sprintf("found %d %d %s %s\n", it.Kind, it.FromHeight, height, claimText(&it.Claim))
 	}
 	text += "others"
 	for _, it := range found.Others {
-		text += fmt.Sprintf(" %d", it)
+		text += fmt.Sprintf(" %d:%d", it.Index, it.Kind)
 	}
 	return text + "\n", err
+}
+
+func revoked(words []string) (string, error) {
+	return foundText(enforce.Revoked(commitment(words[0], words[1]), data(words[2]), uint32(number(words[3]))))
+}
+
+func closed(words []string) (string, error) {
+	var preimages [][32]byte
+	for _, it := range parts(words[4], ",") {
+		preimages = append(preimages, hash(it))
+	}
+	return foundText(enforce.Close(enforce.Whose(number(words[0])), commitment(words[1], words[2]), uint32(number(words[3])), preimages, data(words[5]), uint32(number(words[6]))))
 }
 
 func answer(words []string) (string, error) {
@@ -205,6 +221,8 @@ func answer(words []string) (string, error) {
 		return spend(words[1:])
 	case "revoked":
 		return revoked(words[1:])
+	case "close":
+		return closed(words[1:])
 	}
 	form := enforce.Form{Kind: uint32(number(words[1])), Key: key(words[2]), Other: key(words[3]), Local: key(words[4]), PaymentHash: hash(words[5]), ExpiryHeight: uint32(number(words[6])), DelayBlocks: uint16(number(words[7]))}
 	script, err := form.Script()

@@ -35,14 +35,14 @@ func main() {
 	var claims []enforce.Claim
 	for _, it := range found.Claims {
 		until := uint64(0)
-		if it.OwnerHeight != nil {
-			until = *it.OwnerHeight
+		if it.DeadlineHeight != nil {
+			until = *it.DeadlineHeight
 		}
 		fmt.Println("claim", it.Claim.Index, "kind", it.Kind, "until", until)
 		claims, value = append(claims, it.Claim), value+it.Claim.Value
 	}
-	for _, index := range found.Others {
-		fmt.Println("other", index)
+	for _, it := range found.Others {
+		fmt.Println("other", it.Index)
 	}
 	if fee > value {
 		fee = value

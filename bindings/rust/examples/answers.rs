@@ -1,5 +1,5 @@
 //! Makes the calls that standard input names, a line each, and prints what each answers, as `bindings/tests/answers.c` does.
-use enforce::{ChannelType, Claim, Commitment, Direction, Fact, Form, FoundClaim, Htlc, KeySource, Output, OutputKind, Path, Refused, Slot, Stated};
+use enforce::{ChannelType, Claim, Commitment, Direction, Fact, Form, Found, FoundClaim, FundingKeys, Htlc, KeySource, Output, OutputKind, Path, Refused, Slot, Stated, Whose};
 use std::io::{self, BufRead};
 
 fn hex(bytes: &[u8]) -> String {
@@ -116,60 +116,90 @@ fn htlc(text: &str) -> Option<Htlc> {
     Some(Htlc { direction, expiry_height: parts[1].parse().expect("a height"), hash: array(parts[2]) })
 }
 
-/// The commitment that words name; the refusal of a kind that no value of these types has.
-fn commitment(text: &str, htlcs: &str) -> Result<Commitment, String> {
+/// The commitment that words name, and the index of the first HTLC whose direction no value of these types has: it and those after it are left out. The refusal of such a type of channel.
+fn commitment(text: &str, htlcs: &str) -> Result<(Commitment, Option<usize>), String> {
     let parts: Vec<&str> = text.split('/').collect();
     let channel_type = match parts[0] {
         "1" => ChannelType::StaticRemoteKey,
         "2" => ChannelType::Anchors,
         _ => return Err("refused NoSuchChannelType\n".to_owned()),
     };
-    let keys: Vec<[u8; 33]> = parts[2..].iter().map(|it| array(it)).collect();
     let read = each(htlcs, ';', htlc);
-    if let Some(at) = read.iter().position(Option::is_none) {
-        return Err(format!("refused NoSuchDirection {at}\n"));
-    }
-    Ok(Commitment {
+    let unknown = read.iter().position(Option::is_none);
+    let given = Commitment {
         channel_type,
         delay_blocks: parts[1].parse().expect("a delay"),
-        revocation: keys[0],
-        delayed: keys[1],
-        local_htlc: keys[2],
-        remote_htlc: keys[3],
-        remote: keys[4],
-        htlcs: read.into_iter().flatten().collect(),
-    })
+        revocation: array(parts[2]),
+        delayed: array(parts[3]),
+        local_htlc: array(parts[4]),
+        remote_htlc: array(parts[5]),
+        remote: array(parts[6]),
+        htlcs: read.into_iter().map_while(|it| it).collect(),
+        funding_keys: (parts[7] != "-").then(|| FundingKeys { own: array(parts[7]), peers: array(parts[8]) }),
+    };
+    Ok((given, unknown))
 }
 
 fn dash(bytes: &[u8]) -> String {
     if bytes.is_empty() { "-".to_owned() } else { hex(bytes) }
 }
 
-fn found(it: &FoundClaim) -> String {
-    let kind = match it.kind {
+fn number_of(kind: OutputKind) -> u32 {
+    match kind {
+        OutputKind::Unknown => 0,
         OutputKind::ToLocal => 1,
         OutputKind::ToRemote => 2,
         OutputKind::Offered => 3,
         OutputKind::Received => 4,
-    };
+        OutputKind::OwnAnchor => 5,
+        OutputKind::PeersAnchor => 6,
+    }
+}
+
+fn found(it: &FoundClaim) -> String {
     let slots = it.claim.slots.iter().map(|slot| match slot {
         Slot::Signature(key) => format!("s={}", hex(key)),
         Slot::Preimage(hash) => format!("p={}", hex(hash)),
         Slot::Exact(item) => format!("e={}", dash(item)),
+        Slot::Given { key, digest, tx } => format!("g={}:{}:{}", hex(key), hex(digest), hex(tx)),
     });
     let Claim { script, program, txid, index, value, path, .. } = &it.claim;
-    let slots = slots.collect::<Vec<_>>().join(",");
-    format!("found {kind} {} {}/{}/{}/{index}/{value}/{path}/{slots}\n", or_dash(it.owner_height), dash(script), dash(program), hex(txid))
+    let (kind, slots) = (number_of(it.kind), slots.collect::<Vec<_>>().join(","));
+    let heights = format!("{} {}", it.from_height, or_dash(it.deadline_height));
+    format!("found {kind} {heights} {}/{}/{}/{index}/{value}/{path}/{slots}\n", dash(script), dash(program), hex(txid))
+}
+
+/// What is found by a call, or the refusal of the HTLC that was left out, if no fault stands before it.
+fn all_found(asked: Result<Found, Refused>, unknown: Option<usize>) -> Result<String, Refused> {
+    if let Some(at) = unknown {
+        return match asked {
+            Err(refused) if ["NotACommitmentKey", "ExpiryTooLarge"].iter().any(|it| refused.to_string().starts_with(it)) => Err(refused),
+            _ => Ok(format!("refused NoSuchDirection {at}\n")),
+        };
+    }
+    let all = asked?;
+    let others: String = all.others.iter().map(|it| format!(" {}:{}", it.index, number_of(it.kind))).collect();
+    Ok(all.claims.iter().map(found).collect::<String>() + &format!("others{others}\n"))
 }
 
 fn revoked(words: &[&str]) -> Result<String, Refused> {
-    let given = match commitment(words[0], words[1]) {
-        Ok(given) => given,
-        Err(told) => return Ok(told),
+    match commitment(words[0], words[1]) {
+        Ok((given, unknown)) => all_found(enforce::revoked(&given, &bytes(words[2]), words[3].parse().expect("a height")), unknown),
+        Err(told) => Ok(told),
+    }
+}
+
+fn close(words: &[&str]) -> Result<String, Refused> {
+    let whose = match words[0] {
+        "1" => Whose::Own,
+        "2" => Whose::Peers,
+        _ => return Ok("refused NoSuchClose\n".to_owned()),
     };
-    let all = enforce::revoked(&given, &bytes(words[2]), words[3].parse().expect("a height"))?;
-    let others: String = all.others.iter().map(|it| format!(" {it}")).collect();
-    Ok(all.claims.iter().map(found).collect::<String>() + &format!("others{others}\n"))
+    let (feerate, height) = (words[3].parse().expect("a feerate"), words[6].parse().expect("a height"));
+    match commitment(words[1], words[2]) {
+        Ok((given, unknown)) => all_found(enforce::close(whose, &given, feerate, &each(words[4], ',', array), &bytes(words[5]), height), unknown),
+        Err(told) => Ok(told),
+    }
 }
 
 fn answer(line: &str) -> Result<String, Refused> {
@@ -184,6 +214,7 @@ fn answer(line: &str) -> Result<String, Refused> {
         "claim" => claim(words[1]).accept().map(|due| format!("due {} {}\n", due.height, due.sequence)),
         "spend" => spend(words[1], words[2], words[3]),
         "revoked" => revoked(&words[1..]),
+        "close" => close(&words[1..]),
         _ => match form(&words[1..]) {
             Some(form) => Ok(hex(&form.script()?) + "\n"),
             // no value of `Form` has another kind

@@ -32,16 +32,16 @@ fn main() {
         let direction = if word == "1" { Direction::Offered } else { Direction::Received };
         htlcs.push(Htlc { direction, expiry_height: number(w) as u32, hash: array(w) });
     }
-    let commitment = Commitment { channel_type, delay_blocks, revocation, delayed, local_htlc, remote_htlc, remote, htlcs };
+    let commitment = Commitment { channel_type, delay_blocks, revocation, delayed, local_htlc, remote_htlc, remote, htlcs, funding_keys: None };
     let found = enforce::revoked(&commitment, &tx, height).unwrap_or_else(|refused| {
         println!("refused {refused}");
         process::exit(1)
     });
     for it in &found.claims {
         let kind = [OutputKind::ToLocal, OutputKind::ToRemote, OutputKind::Offered, OutputKind::Received].iter().position(|kind| *kind == it.kind);
-        println!("claim {} kind {} until {}", it.claim.index, kind.map_or(0, |at| at + 1), it.owner_height.unwrap_or(0));
+        println!("claim {} kind {} until {}", it.claim.index, kind.map_or(0, |at| at + 1), it.deadline_height.unwrap_or(0));
     }
-    found.others.iter().for_each(|index| println!("other {index}"));
+    found.others.iter().for_each(|it| println!("other {}", it.index));
     let claims: Vec<Claim> = found.claims.into_iter().map(|it| it.claim).collect();
     let value = claims.iter().map(|it| it.value).sum::<u64>().saturating_sub(fee);
     let spend = enforce::unsigned_spend(&claims, &[Output { value, script }], &[]).unwrap_or_else(|refused| {

@@ -356,6 +356,9 @@ pub enum Slot {
     Preimage([u8; 32]),
     /// These bytes, at most 520.
     Exact(Vec<u8>),
+    /// The peer's signature by this key over this digest, which it gave over one transaction (BIP 144, without witnesses). The claim is of this transaction alone, and one's own signature is
+    /// over the same digest.
+    Given { key: [u8; 33], digest: [u8; 32], tx: Vec<u8> },
 }
 
 /// A claim on an output, by one path of its script.
@@ -435,6 +438,7 @@ impl Given {
                 let (bytes_at, bytes_length) = self.put(item);
                 raw::SlotRow { kind: raw::SLOT_EXACT, bytes_at, bytes_length, ..blank }
             }
+            Slot::Given { .. } => raw::SlotRow { kind: raw::SLOT_GIVEN, ..blank },
         };
         self.slots.push(row);
     }
@@ -547,6 +551,25 @@ pub struct Commitment {
     pub remote: [u8; 33],
     /// In any order.
     pub htlcs: Vec<Htlc>,
+    /// Those of the channel's funding output, by which anchors are named.
+    pub funding_keys: Option<FundingKeys>,
+}
+
+/// The keys of a channel's funding output.
+#[derive(Clone, Copy, Debug, PartialEq, Eq)]
+pub struct FundingKeys {
+    /// One's own.
+    pub own: [u8; 33],
+    pub peers: [u8; 33],
+}
+
+/// Whose commitment closed a channel.
+#[derive(Clone, Copy, Debug, PartialEq, Eq)]
+pub enum Whose {
+    /// One's own, the newest.
+    Own,
+    /// The peer's newest, or the one after it, while the newest is not revoked.
+    Peers,
 }
 
 /// An output of a commitment.
@@ -557,6 +580,23 @@ pub enum OutputKind {
     ToRemote,
     Offered,
     Received,
+    OwnAnchor,
+    PeersAnchor,
+    Unknown,
+}
+
+impl OutputKind {
+    fn of(kind: u32) -> OutputKind {
+        match kind {
+            raw::OUTPUT_TO_LOCAL => OutputKind::ToLocal,
+            raw::OUTPUT_TO_REMOTE => OutputKind::ToRemote,
+            raw::OUTPUT_OFFERED => OutputKind::Offered,
+            raw::OUTPUT_RECEIVED => OutputKind::Received,
+            raw::OUTPUT_OWN_ANCHOR => OutputKind::OwnAnchor,
+            raw::OUTPUT_PEERS_ANCHOR => OutputKind::PeersAnchor,
+            _ => OutputKind::Unknown,
+        }
+    }
 }
 
 /// A claim on an output of a transaction.
@@ -564,8 +604,17 @@ pub enum OutputKind {
 pub struct FoundClaim {
     pub claim: Claim,
     pub kind: OutputKind,
-    /// The first block in which the commitment's owner can take the output, if it can.
-    pub owner_height: Option<u64>,
+    /// The first block that can have a transaction with the claim.
+    pub from_height: u64,
+    /// The first block in which the other side can take the output, if it can.
+    pub deadline_height: Option<u64>,
+}
+
+/// An output without a claim.
+#[derive(Clone, Copy, Debug, PartialEq, Eq)]
+pub struct Other {
+    pub index: u32,
+    pub kind: OutputKind,
 }
 
 /// What was found in a transaction.
@@ -573,8 +622,8 @@ pub struct FoundClaim {
 pub struct Found {
     /// In the order of the outputs.
     pub claims: Vec<FoundClaim>,
-    /// The indices of the other outputs.
-    pub others: Vec<u32>,
+    /// The other outputs.
+    pub others: Vec<Other>,
 }
 
 /// The rows of what is found, with room for them.
@@ -583,7 +632,7 @@ struct Lists {
     claims: Vec<raw::ClaimRow>,
     found: Vec<raw::FoundRow>,
     slots: Vec<raw::SlotRow>,
-    others: Vec<u32>,
+    others: Vec<raw::OtherRow>,
     bytes: Vec<u8>,
 }
 
@@ -592,9 +641,9 @@ impl Lists {
         let claim =
             raw::ClaimRow { txid: [0; 32], index: 0, value: 0, script_at: 0, script_length: 0, program_at: 0, program_length: 0, path: 0, first_slot: 0, slots: 0 };
         self.claims.resize(claims, claim);
-        self.found.resize(claims, raw::FoundRow { kind: 0, has_owner_height: false, owner_height: 0 });
+        self.found.resize(claims, raw::FoundRow { kind: 0, has_deadline: false, from_height: 0, deadline_height: 0 });
         self.slots.resize(slots, raw::SlotRow { kind: 0, key: [0; 33], hash: [0; 32], bytes_at: 0, bytes_length: 0 });
-        self.others.resize(others, 0);
+        self.others.resize(others, raw::OtherRow { index: 0, kind: 0 });
         self.bytes.resize(bytes, 0);
     }
 
@@ -606,6 +655,7 @@ impl Lists {
         match row.kind {
             raw::SLOT_SIGNATURE => Slot::Signature(row.key),
             raw::SLOT_PREIMAGE => Slot::Preimage(row.hash),
+            raw::SLOT_GIVEN => Slot::Given { key: row.key, digest: row.hash, tx: self.part(row.bytes_at, row.bytes_length) },
             _ => Slot::Exact(self.part(row.bytes_at, row.bytes_length)),
         }
     }
@@ -625,15 +675,25 @@ impl Lists {
     fn found(&self, answer: &raw::FoundAnswer) -> Found {
         let claims = self.claims[..answer.claims].iter().zip(&self.found).map(|(claim, row)| FoundClaim {
             claim: self.claim(claim),
-            kind: match row.kind {
-                raw::OUTPUT_TO_LOCAL => OutputKind::ToLocal,
-                raw::OUTPUT_TO_REMOTE => OutputKind::ToRemote,
-                raw::OUTPUT_OFFERED => OutputKind::Offered,
-                _ => OutputKind::Received,
-            },
-            owner_height: row.has_owner_height.then_some(row.owner_height),
+            kind: OutputKind::of(row.kind),
+            from_height: row.from_height,
+            deadline_height: row.has_deadline.then_some(row.deadline_height),
         });
-        Found { claims: claims.collect(), others: self.others[..answer.others].to_vec() }
+        let others = self.others[..answer.others].iter().map(|it| Other { index: it.index, kind: OutputKind::of(it.kind) });
+        Found { claims: claims.collect(), others: others.collect() }
+    }
+
+    /// What is found by a call, which gets the buffers: it is made again with room where there was not enough.
+    fn filled(mut self, call: impl Fn(&mut Lists, &mut raw::FoundAnswer) -> u32) -> Result<Found, Refused> {
+        self.make_room(16, 32, 16, 4096);
+        loop {
+            let mut answer = raw::FoundAnswer { claims: 0, slots: 0, others: 0, bytes: 0, number: 0 };
+            match call(&mut self, &mut answer) {
+                raw::DONE => return Ok(self.found(&answer)),
+                raw::TOO_SMALL => self.make_room(answer.claims, answer.slots, answer.others, answer.bytes),
+                other => return Err(refused(other, answer.number)),
+            }
+        }
     }
 }
 
@@ -651,34 +711,63 @@ impl Commitment {
             expiry_height: it.expiry_height,
             hash: it.hash,
         });
-        let Commitment { delay_blocks, revocation, delayed, local_htlc, remote_htlc, remote, .. } = *self;
-        (raw::Commitment { channel_type, delay_blocks, revocation, delayed, local_htlc, remote_htlc, remote }, htlcs.collect())
+        let Commitment { delay_blocks, revocation, delayed, local_htlc, remote_htlc, remote, funding_keys, .. } = *self;
+        let FundingKeys { own: own_funding, peers: peers_funding } = funding_keys.unwrap_or(FundingKeys { own: [0; 33], peers: [0; 33] });
+        let has_funding_keys = funding_keys.is_some();
+        let row = raw::Commitment {
+            channel_type, delay_blocks, revocation, delayed, local_htlc, remote_htlc, remote, has_funding_keys, own_funding, peers_funding,
+        };
+        (row, htlcs.collect())
     }
 }
 
 /// All that a revoked commitment lets its owner's peer claim of a transaction, with witnesses or without: the commitment, one of its HTLC transactions, or any other. A block of
 /// `confirmed_height` has the transaction.
 ///
-/// Proved (`enforce_revoked`): each output is claimed, or its index is among the others; each claim is accepted, and is on the output that it says. A refusal is the first that holds: of a
+/// Proved (`enforce_revoked`): each output is claimed, or is among the others; each claim is accepted, and is on the output that it says. A refusal is the first that holds: of a
 /// key, of an HTLC, of the transaction's bytes.
 pub fn revoked(commitment: &Commitment, tx: &[u8], confirmed_height: u32) -> Result<Found, Refused> {
     let (given, htlcs) = commitment.raw();
-    let mut lists = Lists::default();
-    lists.make_room(16, 32, 16, 4096);
-    loop {
-        let mut answer = raw::FoundAnswer { claims: 0, slots: 0, others: 0, bytes: 0, number: 0 };
-        let Lists { claims, found, slots, others, bytes } = &mut lists;
+    Lists::default().filled(|lists, answer| {
+        let Lists { claims, found, slots, others, bytes } = lists;
         // SAFETY: each pointer is of a value or of a slice that lives over the call, with that slice's length.
-        let status = unsafe {
+        unsafe {
             raw::enforce_revoked(
                 &given, htlcs.as_ptr(), htlcs.len(), tx.as_ptr(), tx.len(), confirmed_height, claims.as_mut_ptr(), claims.len(), found.as_mut_ptr(), found.len(),
-                slots.as_mut_ptr(), slots.len(), others.as_mut_ptr(), others.len(), bytes.as_mut_ptr(), bytes.len(), &mut answer,
+                slots.as_mut_ptr(), slots.len(), others.as_mut_ptr(), others.len(), bytes.as_mut_ptr(), bytes.len(), answer,
             )
-        };
-        match status {
-            raw::DONE => return Ok(lists.found(&answer)),
-            raw::TOO_SMALL => lists.make_room(answer.claims, answer.slots, answer.others, answer.bytes),
-            other => return Err(refused(other, answer.number)),
         }
-    }
+    })
+}
+
+/// All that a commitment which closed the channel and is not revoked lets one claim of a transaction: of that commitment, of one's own HTLC transaction, or of any other. The feerate is
+/// the commitment's, by which one's own HTLC transactions pay. A block of `confirmed_height` has the transaction.
+///
+/// Proved (`enforce_close`): each output is claimed in each way that there is, or is among the others. An HTLC of one's own commitment is claimed by its HTLC transaction, where there are
+/// no anchors: [`Slot::Given`] has it, and [`unsigned_spend`] refuses such a claim. A refusal is the first that holds: of a key, of an HTLC, of the transaction's bytes.
+pub fn close(
+    whose: Whose,
+    commitment: &Commitment,
+    feerate_per_kw: u32,
+    preimages: &[[u8; 32]],
+    tx: &[u8],
+    confirmed_height: u32,
+) -> Result<Found, Refused> {
+    let whose = match whose {
+        Whose::Own => raw::CLOSE_OWN,
+        Whose::Peers => raw::CLOSE_PEERS,
+    };
+    let (given, htlcs) = commitment.raw();
+    let preimages: Vec<_> = preimages.iter().map(|it| raw::PreimageRow { bytes: *it }).collect();
+    Lists::default().filled(|lists, answer| {
+        let Lists { claims, found, slots, others, bytes } = lists;
+        // SAFETY: each pointer is of a value or of a slice that lives over the call, with that slice's length.
+        unsafe {
+            raw::enforce_close(
+                whose, &given, htlcs.as_ptr(), htlcs.len(), feerate_per_kw, preimages.as_ptr(), preimages.len(), tx.as_ptr(), tx.len(), confirmed_height,
+                claims.as_mut_ptr(), claims.len(), found.as_mut_ptr(), found.len(), slots.as_mut_ptr(), slots.len(), others.as_mut_ptr(), others.len(),
+                bytes.as_mut_ptr(), bytes.len(), answer,
+            )
+        }
+    })
 }

@@ -7,15 +7,23 @@ pub const SLOT_SIGNATURE: u32 = 0x1;
 pub const SLOT_PREIMAGE: u32 = 0x2;
 /// The slot is the `bytes_length` bytes from `bytes_at` on, at most 520.
 pub const SLOT_EXACT: u32 = 0x3;
+/// The slot is the signature of `key` over the digest `hash`, which was given over one transaction, with no witnesses the `bytes_length` bytes from `bytes_at` on. The claim is of this transaction alone, over whose digest the other signatures are too. No call reads such a slot.
+pub const SLOT_GIVEN: u32 = 0x4;
 
 /// A channel without anchors: `option_static_remotekey` (BOLT 9).
 pub const CHANNEL_STATIC_REMOTE_KEY: u32 = 0x1;
 /// A channel with `option_anchors` (BOLT 9).
 pub const CHANNEL_ANCHORS: u32 = 0x2;
+/// One's own commitment, the newest.
+pub const CLOSE_OWN: u32 = 0x1;
+/// The peer's newest commitment, or the one after it, while the newest is not revoked.
+pub const CLOSE_PEERS: u32 = 0x2;
 /// The owner of the commitment offered the HTLC.
 pub const DIRECTION_OFFERED: u32 = 0x1;
 /// The owner of the commitment received the HTLC.
 pub const DIRECTION_RECEIVED: u32 = 0x2;
+/// None that is known.
+pub const OUTPUT_UNKNOWN: u32 = 0x0;
 /// To the owner of the commitment, after the delay. The output of an HTLC transaction has the same script.
 pub const OUTPUT_TO_LOCAL: u32 = 0x1;
 /// To the owner's peer.
@@ -24,6 +32,10 @@ pub const OUTPUT_TO_REMOTE: u32 = 0x2;
 pub const OUTPUT_OFFERED: u32 = 0x3;
 /// An HTLC that the owner received.
 pub const OUTPUT_RECEIVED: u32 = 0x4;
+/// One's own anchor.
+pub const OUTPUT_OWN_ANCHOR: u32 = 0x5;
+/// The peer's anchor.
+pub const OUTPUT_PEERS_ANCHOR: u32 = 0x6;
 
 /// A funding output: both keys, `key` and `other`, in whichever order.
 pub const FORM_FUNDING: u32 = 0x1;
@@ -141,9 +153,11 @@ pub const NOT_A_COMMITMENT_KEY: u32 = 0x802;
 pub const NO_SUCH_DIRECTION: u32 = 0x803;
 /// The expiry of an HTLC is 500,000,000 or more, which is a time and not a height; the answer has the index of the HTLC.
 pub const EXPIRY_TOO_LARGE: u32 = 0x804;
+/// It is neither one's own commitment nor the peer's.
+pub const NO_SUCH_CLOSE: u32 = 0x805;
 
 /// What declarations mean together: it is raised whenever one changes its meaning.
-pub const ABI: u32 = 0x2;
+pub const ABI: u32 = 0x3;
 
 /// How a claim fills a slot of its path. A field that the kind does not name is not read.
 #[repr(C)]
@@ -153,7 +167,7 @@ pub struct SlotRow {
     pub kind: u32,
     /// A compressed public key.
     pub key: [u8; 33],
-    /// The SHA-256 of a preimage, in the hash's own byte order.
+    /// The SHA-256 of a preimage, in the hash's own byte order; or a digest.
     pub hash: [u8; 32],
     /// Where the bytes begin among those that the call is given.
     pub bytes_at: usize,
@@ -244,10 +258,16 @@ pub struct Commitment {
     pub remote_htlc: [u8; 33],
     /// remotepubkey, of the owner's peer: its payment basepoint.
     pub remote: [u8; 33],
+    /// Whether the keys of the channel's funding output are told, by which anchors are named.
+    pub has_funding_keys: bool,
+    /// One's own.
+    pub own_funding: [u8; 33],
+    /// The peer's.
+    pub peers_funding: [u8; 33],
 }
 
 const _: () = {
-    assert!(size_of::<Commitment>() == 172);
+    assert!(size_of::<Commitment>() == 240);
     assert!(core::mem::offset_of!(Commitment, channel_type) == 0);
     assert!(core::mem::offset_of!(Commitment, delay_blocks) == 4);
     assert!(core::mem::offset_of!(Commitment, revocation) == 6);
@@ -255,6 +275,9 @@ const _: () = {
     assert!(core::mem::offset_of!(Commitment, local_htlc) == 72);
     assert!(core::mem::offset_of!(Commitment, remote_htlc) == 105);
     assert!(core::mem::offset_of!(Commitment, remote) == 138);
+    assert!(core::mem::offset_of!(Commitment, has_funding_keys) == 171);
+    assert!(core::mem::offset_of!(Commitment, own_funding) == 172);
+    assert!(core::mem::offset_of!(Commitment, peers_funding) == 205);
 };
 
 /// An HTLC of a commitment, by what its script is made of.
@@ -276,23 +299,42 @@ const _: () = {
     assert!(core::mem::offset_of!(HtlcRow, hash) == 8);
 };
 
-/// Of a claim, which output of the commitment it is on, and until when it is alone.
+/// Of a claim, which output of the commitment it is on, from when it can be made, and until when it is alone.
 #[repr(C)]
 #[derive(Clone, Copy, Debug, PartialEq, Eq)]
 pub struct FoundRow {
     /// One of the kinds of outputs.
     pub kind: u32,
-    /// Whether the owner of the commitment can take the output at all.
-    pub has_owner_height: bool,
-    /// The least height of a block in which the owner can. A transaction that takes the output is safe in all blocks below (BOLT 5).
-    pub owner_height: u64,
+    /// Whether the other side can take the output at all.
+    pub has_deadline: bool,
+    /// The least height of a block that can have a transaction with the claim.
+    pub from_height: u64,
+    /// The least height of a block in which the other side can take the output. A transaction that takes it is safe in all blocks below (BOLT 5).
+    pub deadline_height: u64,
 }
 
 const _: () = {
-    assert!(size_of::<FoundRow>() == 16);
+    assert!(size_of::<FoundRow>() == 24);
     assert!(core::mem::offset_of!(FoundRow, kind) == 0);
-    assert!(core::mem::offset_of!(FoundRow, has_owner_height) == 4);
-    assert!(core::mem::offset_of!(FoundRow, owner_height) == 8);
+    assert!(core::mem::offset_of!(FoundRow, has_deadline) == 4);
+    assert!(core::mem::offset_of!(FoundRow, from_height) == 8);
+    assert!(core::mem::offset_of!(FoundRow, deadline_height) == 16);
+};
+
+/// An output without a claim.
+#[repr(C)]
+#[derive(Clone, Copy, Debug, PartialEq, Eq)]
+pub struct OtherRow {
+    /// Its index in the transaction.
+    pub index: u32,
+    /// One of the kinds of outputs.
+    pub kind: u32,
+}
+
+const _: () = {
+    assert!(size_of::<OtherRow>() == 8);
+    assert!(core::mem::offset_of!(OtherRow, index) == 0);
+    assert!(core::mem::offset_of!(OtherRow, kind) == 4);
 };
 
 /// What a call that finds claims tells beside its status. Each call writes all of it: the rows and bytes that there are, whether or not they were written, and the number that a refusal carries. There are as many rows of outputs as of claims.
@@ -527,10 +569,14 @@ unsafe extern "C" {
     ///
     /// Proved: `AnswersSpend (record { claims = claims.now; slots = slots.now; outputs = outputs.now; bytes = bytes.now }) (preimages_in preimages.now) (record { bytes = tx.old; signatures = signatures.old }) (record { status = result; answer = answer.new; lists = record { bytes = tx.new; signatures = signatures.new } }) (crates/enforce_c/specs/Spent.antt)`
     pub fn enforce_unsigned_spend(claims: *const ClaimRow, claims_length: usize, slots: *const SlotRow, slots_length: usize, outputs: *const OutputRow, outputs_length: usize, preimages: *const PreimageRow, preimages_length: usize, bytes: *const u8, bytes_length: usize, tx: *mut u8, tx_length: usize, signatures: *mut SignatureRow, signatures_length: usize, answer: *mut SpendAnswer) -> u32;
-    /// Finds all that a revoked commitment lets its owner's peer claim of a transaction: the commitment, one of its HTLC transactions, or any other, with witnesses or without. Writes a claim on each output whose script is one of the commitment's, in the order of the outputs, with what `enforce_unsigned_spend` takes: rows of slots, and the bytes that both refer to. Of each claim it writes which output it is on, and the first block in which the owner can take that, where a block of `confirmed_height` has the transaction. Of each other output it writes the index. The statuses of refusals are those of family 8 in this order: the type of the channel, each key, each HTLC; then those of family 6, of the first fault of the transaction; and `TOO_SMALL` if one of the five buffers is too short.
+    /// Finds all that a revoked commitment lets its owner's peer claim of a transaction: the commitment, one of its HTLC transactions, or any other, with witnesses or without. Writes a claim on each output whose script is one of the commitment's, in the order of the outputs, with what `enforce_unsigned_spend` takes: rows of slots, and the bytes that both refer to. Of each claim it writes which output it is on, and the first block in which the owner can take that, where a block of `confirmed_height` has the transaction. Of each other output it writes the index, and what it is. The statuses of refusals are those of family 8 in this order: the type of the channel, each key, each HTLC; then those of family 6, of the first fault of the transaction; and `TOO_SMALL` if one of the five buffers is too short.
     ///
-    /// Proved: `AnswersFound (record { commitment = commitment.now; htlcs = htlcs.now; tx = tx.now; confirmed_height = confirmed_height }) (record { claims = claims.old; found = found_outputs.old; slots = slots.old; others = others.old; bytes = bytes.old }) (record { status = result; answer = answer.new; lists = record { claims = claims.new; found = found_outputs.new; slots = slots.new; others = others.new; bytes = bytes.new } }) (crates/enforce_c/specs/Found.antt)`
-    pub fn enforce_revoked(commitment: *const Commitment, htlcs: *const HtlcRow, htlcs_length: usize, tx: *const u8, tx_length: usize, confirmed_height: u32, claims: *mut ClaimRow, claims_length: usize, found_outputs: *mut FoundRow, found_outputs_length: usize, slots: *mut SlotRow, slots_length: usize, others: *mut u32, others_length: usize, bytes: *mut u8, bytes_length: usize, answer: *mut FoundAnswer) -> u32;
+    /// Proved: `AnswersFound (asked_of_revoked commitment.now htlcs.now tx.now confirmed_height) (record { claims = claims.old; found = found_outputs.old; slots = slots.old; others = others.old; bytes = bytes.old }) (record { status = result; answer = answer.new; lists = record { claims = claims.new; found = found_outputs.new; slots = slots.new; others = others.new; bytes = bytes.new } }) (crates/enforce_c/specs/Found.antt)`
+    pub fn enforce_revoked(commitment: *const Commitment, htlcs: *const HtlcRow, htlcs_length: usize, tx: *const u8, tx_length: usize, confirmed_height: u32, claims: *mut ClaimRow, claims_length: usize, found_outputs: *mut FoundRow, found_outputs_length: usize, slots: *mut SlotRow, slots_length: usize, others: *mut OtherRow, others_length: usize, bytes: *mut u8, bytes_length: usize, answer: *mut FoundAnswer) -> u32;
+    /// Finds all that a commitment which is not revoked lets one claim of a transaction, where it closed the channel: of that commitment, one's own HTLC transaction, or any other, with witnesses or without. `whose` says whose commitment it is. `feerate_per_kw` is its feerate, by which one's own HTLC transactions pay. Writes what `enforce_revoked` does: a claim for each way to take an output, in the order of the outputs, from which block on, and the first block in which the other side can take it; and each other output. An HTLC of one's own commitment is claimed by its HTLC transaction, in a channel without anchors: a slot of the kind `SLOT_GIVEN` has it, and the digest that its two signatures are over; `enforce_unsigned_spend` does not read such a claim. The statuses of refusals are `NO_SUCH_CLOSE`, and then those of `enforce_revoked`.
+    ///
+    /// Proved: `AnswersFound (record { question = OfClose; whose = whose; commitment = commitment.now; htlcs = htlcs.now; feerate_per_kw = feerate_per_kw; preimages = preimages_in preimages.now; tx = tx.now; confirmed_height = confirmed_height }) (record { claims = claims.old; found = found_outputs.old; slots = slots.old; others = others.old; bytes = bytes.old }) (record { status = result; answer = answer.new; lists = record { claims = claims.new; found = found_outputs.new; slots = slots.new; others = others.new; bytes = bytes.new } }) (crates/enforce_c/specs/Found.antt)`
+    pub fn enforce_close(whose: u32, commitment: *const Commitment, htlcs: *const HtlcRow, htlcs_length: usize, feerate_per_kw: u32, preimages: *const PreimageRow, preimages_length: usize, tx: *const u8, tx_length: usize, confirmed_height: u32, claims: *mut ClaimRow, claims_length: usize, found_outputs: *mut FoundRow, found_outputs_length: usize, slots: *mut SlotRow, slots_length: usize, others: *mut OtherRow, others_length: usize, bytes: *mut u8, bytes_length: usize, answer: *mut FoundAnswer) -> u32;
 }
 
 /// The word for a status.
@@ -576,6 +622,7 @@ pub fn name(status: u32) -> &'static str {
         NOT_A_COMMITMENT_KEY => "NotACommitmentKey",
         NO_SUCH_DIRECTION => "NoSuchDirection",
         EXPIRY_TOO_LARGE => "ExpiryTooLarge",
+        NO_SUCH_CLOSE => "NoSuchClose",
         _ => "Unknown",
     }
 }

@@ -11,14 +11,13 @@ use Rattle.enforce_c.specs.declared.claim_rows.ClaimRow.{ClaimRow}
 use Rattle.enforce_c.specs.declared.claim_rows.SlotRow.{SlotRow}
 use Rattle.enforce_c.specs.declared.statuses.Refusal.{Refusal}
 use Rattle.enforce_c.specs.declared.statuses.Refusal.TheVariants.{OutOfRange}
-use Rattle.enforce_c.specs.Ranges.{has_part, part}
+use Rattle.enforce_c.specs.Ranges.{has_part}
 use Rattle.enforce_c.specs.Listed.{IsListed}
 use Rattle.enforce_c.specs.Claimed.{slots_fault, FillAs, slots_in, place_in, IsClaimOf}
 use Rattle.enforce_c.specs.Spent.{AreClaimsOf}
-use Rattle.enforce_c.specs.ClaimLists.{ListsOfClaims, claim_row, with_row, with_claim, with_claims, no_lists, claim_lists, IsReady}
-use Rattle.enforce_c.proofs.Spends.{claims_more}
+use Rattle.enforce_c.specs.ClaimLists.{ListsOfClaims, claim_row, with_row, with_claim, with_claims, no_lists, claim_lists, IsReady, IsReadAs, AreReadAs}
 use Rattle.enforce_c.proofs.Parts.{Stands, stands_here, stands_more}
-use Rattle.enforce_c.proofs.SlotRows.{slots_more, fill_more, adds}
+use Rattle.enforce_c.proofs.SlotRows.{slots_more, fill_more, grows, adds_in}
 
 -- the fault of a claim's row, by what of it is there
 abbrev by_parts : (script program slots : Bool) → Option Refusal → Option Refusal
@@ -54,7 +53,7 @@ claim_more row slots bytes rows more c h =
       whole = h.whole;
     }
 
--- a claim that is ready is in an open transaction
+-- a claim in an open transaction
 abbrev pub IsOpen : ClaimParts → Type 0
 IsOpen c = c.shell ≡ Open
 
@@ -63,7 +62,7 @@ module _ (sound : ListedAreSound) (exact : SatisfiedExactly) where
   -- the row of a claim that was just written is read as this claim
   claim_here : (c : ClaimParts) (l : ListsOfClaims) → IsReady c → IsOpen c → (let row = claim_row c (length l.slots) (length l.bytes) (length (l.bytes ++ spelling c.ways.ops)) in IsClaimOf row (with_claim c l).slots (with_claim c l).bytes c)
   claim_here c l ready shell =
-      let a = adds c.slots (with_row c l) in
+      let a = adds_in c.shell c.slots (with_row c l) shell in
       let row = claim_row c (length l.slots) (length l.bytes) (length (l.bytes ++ spelling c.ways.ops)) in
       let script_bytes : (l.bytes ++ spelling c.ways.ops) ++ (c.place.program ++ a.more) ≡ (with_claim c l).bytes = sym (a.bytes ∙ append_assoc (l.bytes ++ spelling c.ways.ops) c.place.program a.more) in
       let script = subst (λ b. Stands row.script_at row.script_length b (spelling c.ways.ops)) script_bytes (stands_here l.bytes (spelling c.ways.ops) (c.place.program ++ a.more)) in
@@ -92,35 +91,49 @@ module _ (sound : ListedAreSound) (exact : SatisfiedExactly) where
       }
 
   -- those that were written before are still read
-  claims_before : (slots : List SlotRow) (bytes : List ℕ) (rows : List SlotRow) (more : List ℕ) (written : List ClaimRow) (done : List ClaimParts) → AreClaimsOf slots bytes written done → AreClaimsOf (slots ++ rows) (bytes ++ more) written done
+  claims_before : (slots : List SlotRow) (bytes : List ℕ) (rows : List SlotRow) (more : List ℕ) (written : List ClaimRow) (done : List ClaimParts) → AreReadAs slots bytes written done → AreReadAs (slots ++ rows) (bytes ++ more) written done
   claims_before slots bytes rows more [] [] all = tt
   claims_before slots bytes rows more [] (c ∷ cs) all = absurd all
   claims_before slots bytes rows more (row ∷ written) [] all = absurd all
-  claims_before slots bytes rows more (row ∷ written) (c ∷ cs) all = (claim_more row slots bytes rows more c all.0, claims_before slots bytes rows more written cs all.1)
+  claims_before slots bytes rows more (row ∷ written) (c ∷ cs) all = (λ is. claim_more row slots bytes rows more c (all.0 is), claims_before slots bytes rows more written cs all.1)
+
+  -- one more of them
+  read_more : (slots : List SlotRow) (bytes : List ℕ) (written : List ClaimRow) (done : List ClaimParts) (row : ClaimRow) (c : ClaimParts) → AreReadAs slots bytes written done → IsReadAs slots bytes row c → AreReadAs slots bytes (written ++ row ∷ []) (done ++ c ∷ [])
+  read_more slots bytes [] [] row c all is = (is, tt)
+  read_more slots bytes [] (d ∷ ds) row c all is = absurd all
+  read_more slots bytes (r ∷ rs) [] row c all is = absurd all
+  read_more slots bytes (r ∷ rs) (d ∷ ds) row c all is = (all.0, read_more slots bytes rs ds row c all.1 is)
 
   -- one more claim
-  one_more : (c : ClaimParts) (l : ListsOfClaims) (done : List ClaimParts) → IsReady c → IsOpen c → AreClaimsOf l.slots l.bytes l.claims done
-      → AreClaimsOf (with_claim c l).slots (with_claim c l).bytes (with_claim c l).claims (done ++ c ∷ [])
-  one_more c l done ready shell all =
-      let a = adds c.slots (with_row c l) in
+  one_more : (c : ClaimParts) (l : ListsOfClaims) (done : List ClaimParts) → IsReady c → AreReadAs l.slots l.bytes l.claims done
+      → AreReadAs (with_claim c l).slots (with_claim c l).bytes (with_claim c l).claims (done ++ c ∷ [])
+  one_more c l done ready all =
+      let a = grows c.shell c.slots (with_row c l) in
       let row = claim_row c (length l.slots) (length l.bytes) (length (l.bytes ++ spelling c.ways.ops)) in
       let after = with_claim c l in
       let longer : l.bytes ++ (spelling c.ways.ops ++ (c.place.program ++ a.more)) ≡ after.bytes =
       sym (a.bytes ∙ append_assoc (l.bytes ++ spelling c.ways.ops) c.place.program a.more ∙ append_assoc l.bytes (spelling c.ways.ops) (c.place.program ++ a.more)) in
-      let before : AreClaimsOf (l.slots ++ a.rows) (l.bytes ++ (spelling c.ways.ops ++ (c.place.program ++ a.more))) l.claims done =
+      let before : AreReadAs (l.slots ++ a.rows) (l.bytes ++ (spelling c.ways.ops ++ (c.place.program ++ a.more))) l.claims done =
       claims_before l.slots l.bytes a.rows (spelling c.ways.ops ++ (c.place.program ++ a.more)) l.claims done all in
-      let kept : AreClaimsOf after.slots after.bytes l.claims done =
-      subst (λ ss. AreClaimsOf ss after.bytes l.claims done) (sym a.slots) (subst (λ b. AreClaimsOf (l.slots ++ a.rows) b l.claims done) longer before) in
-      subst (λ rs. AreClaimsOf after.slots after.bytes rs (done ++ c ∷ [])) (sym a.claims) (claims_more after.slots after.bytes l.claims done row c kept (claim_here c l ready shell))
+      let kept : AreReadAs after.slots after.bytes l.claims done =
+      subst (λ ss. AreReadAs ss after.bytes l.claims done) (sym a.slots) (subst (λ b. AreReadAs (l.slots ++ a.rows) b l.claims done) longer before) in
+      subst (λ rs. AreReadAs after.slots after.bytes rs (done ++ c ∷ [])) (sym a.claims) (read_more after.slots after.bytes l.claims done row c kept (λ is. claim_here c l ready is))
 
-  written : (cs : List ClaimParts) (l : ListsOfClaims) (done : List ClaimParts) → AllByRecursion IsReady cs → AllByRecursion IsOpen cs → AreClaimsOf l.slots l.bytes l.claims done
-      → AreClaimsOf (with_claims cs l).slots (with_claims cs l).bytes (with_claims cs l).claims (done ++ cs)
-  written [] l done ready shell all = subst (λ ds. AreClaimsOf l.slots l.bytes l.claims ds) (sym (append-nil done)) all
-  written (c ∷ cs) l done ready shell all =
+  written : (cs : List ClaimParts) (l : ListsOfClaims) (done : List ClaimParts) → AllByRecursion IsReady cs → AreReadAs l.slots l.bytes l.claims done
+      → AreReadAs (with_claims cs l).slots (with_claims cs l).bytes (with_claims cs l).claims (done ++ cs)
+  written [] l done ready all = subst (λ ds. AreReadAs l.slots l.bytes l.claims ds) (sym (append-nil done)) all
+  written (c ∷ cs) l done ready all =
       let after = with_claims cs (with_claim c l) in
-      subst (λ ds. AreClaimsOf after.slots after.bytes after.claims ds) (append_assoc done (c ∷ []) cs)
-      (written cs (with_claim c l) (done ++ c ∷ []) ready.1 shell.1 (one_more c l done ready.0 shell.0 all))
+      subst (λ ds. AreReadAs after.slots after.bytes after.claims ds) (append_assoc done (c ∷ []) cs)
+      (written cs (with_claim c l) (done ++ c ∷ []) ready.1 (one_more c l done ready.0 all))
 
-  -- the rows of claims are read as these claims
-  pub rows_are_claims : (cs : List ClaimParts) → AllByRecursion IsReady cs → AllByRecursion IsOpen cs → AreClaimsOf (claim_lists cs).slots (claim_lists cs).bytes (claim_lists cs).claims cs
-  rows_are_claims cs ready shell = written cs no_lists [] ready shell tt
+  -- the rows of claims in open transactions are read as these claims
+  pub rows_are_read : (cs : List ClaimParts) → AllByRecursion IsReady cs → AreReadAs (claim_lists cs).slots (claim_lists cs).bytes (claim_lists cs).claims cs
+  rows_are_read cs ready = written cs no_lists [] ready tt
+
+-- where all are open, the rows are those of all claims
+pub all_are_claims : (slots : List SlotRow) (bytes : List ℕ) (rows : List ClaimRow) (cs : List ClaimParts) → AllByRecursion IsOpen cs → AreReadAs slots bytes rows cs → AreClaimsOf slots bytes rows cs
+all_are_claims slots bytes [] [] shell all = tt
+all_are_claims slots bytes [] (c ∷ cs) shell all = absurd all
+all_are_claims slots bytes (row ∷ rows) [] shell all = absurd all
+all_are_claims slots bytes (row ∷ rows) (c ∷ cs) shell all = (all.0 shell.0, all_are_claims slots bytes rows cs shell.1 all.1)

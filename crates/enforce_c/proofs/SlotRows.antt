@@ -12,8 +12,12 @@ use Rattle.enforce_c.specs.declared.statuses.Refusal.{Refusal}
 use Rattle.enforce_c.specs.declared.statuses.Refusal.TheVariants.{NotAKey, OutOfRange, NoSuchSlot, ItemTooLong}
 use Rattle.enforce_c.specs.Ranges.{has_part, part}
 use Rattle.enforce_c.specs.Claimed.{or_then, item_fault, slot_fault, slots_fault, FillsAs, FillAs}
-use Rattle.enforce_c.specs.ClaimLists.{ListsOfClaims, slot_row, item_in, with_slot, with_slots}
-use Rattle.enforce_c.proofs.Parts.{Stands, stands_here, stands_more}
+use Rattle.claim.specs.declared.parts.Shell.{Shell}
+use Rattle.claim.specs.declared.parts.Shell.TheVariants.{Open, Fixed}
+use Rattle.tx.specs.Fields.{Transaction}
+use Rattle.tx.specs.Spelling.{stripped_spelling}
+use Rattle.enforce_c.specs.ClaimLists.{ListsOfClaims, slot_row, given_row, token_in, item_in, with_fixed, with_slot, with_slots}
+use Rattle.enforce_c.proofs.Parts.{stands_here, stands_more}
 
 -- the fault of a slot's row, by that of its item
 abbrev by_item : (is_signed is_preimage is_exact : Bool) (key item : Option Refusal) → Option Refusal
@@ -101,7 +105,36 @@ faultless_here before after (Exact w) =
     faultless_item ((before ++ w.item) ++ after) (slot_row (Exact w) (length before))
     (record { there = s.there; short = ap (λ xs. nat_lt MAX_SCRIPT_ELEMENT_SIZE (length xs)) s.same ∙ le-ltb MAX_SCRIPT_ELEMENT_SIZE (length w.item) w.short })
 
--- what slots add to the lists, and that they are read as these slots
+-- what slots add to the lists
+pub record Grows (l after : ListsOfClaims) : Type 0 where
+  pub rows : List SlotRow
+  pub more : List ℕ
+  pub slots : after.slots ≡ l.slots ++ rows
+  pub bytes : after.bytes ≡ l.bytes ++ more
+  pub claims : after.claims ≡ l.claims
+
+fixed_grows : (token : Option (List ℕ)) (t : Transaction) (s : Slot) (l : ListsOfClaims) → Grows l (with_fixed token t s l)
+fixed_grows (Some token) t s l = record { rows = given_row token (length l.bytes) (length (stripped_spelling t)) ∷ []; more = stripped_spelling t; slots = refl; bytes = refl; claims = refl }
+fixed_grows None t s l = record { rows = slot_row s (length l.bytes) ∷ []; more = item_in s; slots = refl; bytes = refl; claims = refl }
+
+slot_grows : (shell : Shell) (s : Slot) (l : ListsOfClaims) → Grows l (with_slot shell s l)
+slot_grows Open s l = record { rows = slot_row s (length l.bytes) ∷ []; more = item_in s; slots = refl; bytes = refl; claims = refl }
+slot_grows (Fixed t) s l = fixed_grows (token_in s) t s l
+
+pub grows : (shell : Shell) (ss : List Slot) (l : ListsOfClaims) → Grows l (with_slots shell ss l)
+grows shell [] l = record { rows = []; more = []; slots = sym (append-nil l.slots); bytes = sym (append-nil l.bytes); claims = refl }
+grows shell (s ∷ ss) l =
+    let a = slot_grows shell s l in
+    let b = grows shell ss (with_slot shell s l) in
+    record {
+      rows = a.rows ++ b.rows;
+      more = a.more ++ b.more;
+      slots = b.slots ∙ ap (λ xs. xs ++ b.rows) a.slots ∙ append_assoc l.slots a.rows b.rows;
+      bytes = b.bytes ∙ ap (λ xs. xs ++ b.more) a.bytes ∙ append_assoc l.bytes a.more b.more;
+      claims = b.claims ∙ a.claims;
+    }
+
+-- what those of a claim in an open transaction add, and that they are read as these slots
 pub record Adds (ss : List Slot) (l after : ListsOfClaims) : Type 0 where
   pub rows : List SlotRow
   pub more : List ℕ
@@ -112,12 +145,12 @@ pub record Adds (ss : List Slot) (l after : ListsOfClaims) : Type 0 where
   pub faultless : slots_fault after.bytes rows ≡ None
   pub filled : FillAs after.bytes rows ss
 
-pub adds : (ss : List Slot) (l : ListsOfClaims) → Adds ss l (with_slots ss l)
+adds : (ss : List Slot) (l : ListsOfClaims) → Adds ss l (with_slots Open ss l)
 adds [] l = record { rows = []; more = []; slots = sym (append-nil l.slots); bytes = sym (append-nil l.bytes); claims = refl; count = refl; faultless = refl; filled = tt }
 adds (s ∷ ss) l =
-    let a = adds ss (with_slot s l) in
+    let a = adds ss (with_slot Open s l) in
     let row = slot_row s (length l.bytes) in
-    let bytes : (l.bytes ++ item_in s) ++ a.more ≡ (with_slots ss (with_slot s l)).bytes = sym a.bytes in
+    let bytes : (l.bytes ++ item_in s) ++ a.more ≡ (with_slots Open ss (with_slot Open s l)).bytes = sym a.bytes in
     record {
       rows = row ∷ a.rows;
       more = item_in s ++ a.more;
@@ -125,6 +158,9 @@ adds (s ∷ ss) l =
       bytes = a.bytes ∙ append_assoc l.bytes (item_in s) a.more;
       claims = a.claims;
       count = ap (λ n. suc n) a.count;
-      faultless = ap (λ x. or_then x (slots_fault (with_slots ss (with_slot s l)).bytes a.rows)) (subst (λ b. slot_fault b row ≡ None) bytes (faultless_here l.bytes a.more s)) ∙ a.faultless;
+      faultless = ap (λ x. or_then x (slots_fault (with_slots Open ss (with_slot Open s l)).bytes a.rows)) (subst (λ b. slot_fault b row ≡ None) bytes (faultless_here l.bytes a.more s)) ∙ a.faultless;
       filled = (subst (λ b. FillsAs b row s) bytes (fills_here l.bytes a.more s), a.filled);
     }
+
+pub adds_in : (shell : Shell) (ss : List Slot) (l : ListsOfClaims) → shell ≡ Open → Adds ss l (with_slots shell ss l)
+adds_in shell ss l is = subst (λ sh. Adds ss l (with_slots sh ss l)) (sym is) (adds ss l)

@@ -64,7 +64,7 @@ outputs_all bytes rows i outputs h whole =
 
 -- ---- claims
 
-pub claims_more : (slots : List SlotRow) (bytes : List ℕ) (rows : List ClaimRow) (claims : List ClaimParts) (row : ClaimRow) (c : ClaimParts)
+claims_more : (slots : List SlotRow) (bytes : List ℕ) (rows : List ClaimRow) (claims : List ClaimParts) (row : ClaimRow) (c : ClaimParts)
     → AreClaimsOf slots bytes rows claims → IsClaimOf row slots bytes c → AreClaimsOf slots bytes (rows ++ row ∷ []) (claims ++ c ∷ [])
 claims_more slots bytes [] [] row c all here = (here, tt)
 claims_more slots bytes [] (other ∷ claims) row c all here = absurd all

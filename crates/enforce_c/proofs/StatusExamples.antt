@@ -8,7 +8,7 @@ use Rattle.tx.specs.declared.errors.EncodeError.TheVariants.{NoMemory as EncodeM
 use Rattle.tx.specs.declared.errors.DecodeError.TheVariants as decode
 use Rattle.claim.specs.declared.errors.AcceptError.TheVariants.{NoMemory as AcceptMemory, NoSuchPath, WrongArity, Unmet, Contradiction, WrongProgram, WrongShell}
 use Rattle.filling.specs.declared.errors.SpendError.TheVariants.{NoMemory as SpendMemory, FixedTransaction, SameOutpoint, OutputsExceed, MeasuredSignature, NoPreimage}
-use Rattle.enforce_c.specs.declared.statuses.Refusal.TheVariants.{NoMemory, Parse, Check, NoSuchForm, NotAKey, NotAHeight, OutOfRange, NoSuchSlot, ItemTooLong, Accept, Field, Spend, Encode, Decode, NoSuchChannelType, NotACommitmentKey, NoSuchDirection, ExpiryTooLarge}
+use Rattle.enforce_c.specs.declared.statuses.Refusal.TheVariants.{NoMemory, Parse, Check, NoSuchForm, NotAKey, NotAHeight, OutOfRange, NoSuchSlot, ItemTooLong, Accept, Field, Spend, Encode, Decode, NoSuchChannelType, NotACommitmentKey, NoSuchDirection, ExpiryTooLarge, NoSuchClose}
 use Rattle.enforce_c.specs.Statuses.{parse_status, check_status, accept_status, spend_status, field_status, encode_status, decode_status, status_of, parse_number, check_number, number_of}
 
 parse_statuses : map parse_status (ParseMemory ∷ BadOpcode 7 ∷ Truncated 8 ∷ TooLong ∷ []) ≡ 1 ∷ 257 ∷ 258 ∷ 259 ∷ []
@@ -52,8 +52,8 @@ numbers = refl
 more_numbers : map number_of (OutOfRange ∷ NoSuchSlot ∷ ItemTooLong ∷ Accept NoSuchPath ∷ Spend NoPreimage ∷ Field OverLimit ∷ Encode NoWitness ∷ []) ≡ 0 ∷ 0 ∷ 0 ∷ 0 ∷ 0 ∷ 0 ∷ 0 ∷ []
 more_numbers = refl
 
-commitment_statuses : map status_of (NoSuchChannelType ∷ NotACommitmentKey 3 ∷ NoSuchDirection 5 ∷ ExpiryTooLarge 7 ∷ Decode decode.Trailing ∷ Decode decode.NoMemory ∷ []) ≡ 2049 ∷ 2050 ∷ 2051 ∷ 2052 ∷ 1543 ∷ 1 ∷ []
+commitment_statuses : map status_of (NoSuchChannelType ∷ NotACommitmentKey 3 ∷ NoSuchDirection 5 ∷ ExpiryTooLarge 7 ∷ NoSuchClose ∷ Decode decode.Trailing ∷ Decode decode.NoMemory ∷ []) ≡ 2049 ∷ 2050 ∷ 2051 ∷ 2052 ∷ 2053 ∷ 1543 ∷ 1 ∷ []
 commitment_statuses = refl
 
-commitment_numbers : map number_of (NoSuchChannelType ∷ NotACommitmentKey 3 ∷ NotACommitmentKey 4 ∷ NoSuchDirection 5 ∷ NoSuchDirection 50 ∷ ExpiryTooLarge 7 ∷ ExpiryTooLarge 70 ∷ Decode decode.Trailing ∷ []) ≡ 0 ∷ 3 ∷ 4 ∷ 5 ∷ 50 ∷ 7 ∷ 70 ∷ 0 ∷ []
+commitment_numbers : map number_of (NoSuchChannelType ∷ NotACommitmentKey 3 ∷ NotACommitmentKey 4 ∷ NoSuchDirection 5 ∷ NoSuchDirection 50 ∷ ExpiryTooLarge 7 ∷ ExpiryTooLarge 70 ∷ NoSuchClose ∷ Decode decode.Trailing ∷ []) ≡ 0 ∷ 3 ∷ 4 ∷ 5 ∷ 50 ∷ 7 ∷ 70 ∷ 0 ∷ 0 ∷ []
 commitment_numbers = refl

@@ -1,5 +1,5 @@
 -- The commitment that rows are of, or why there is none.
-use Rattle.std.specs.Prelude.{◌≡◌, ℕ, ◌+◌, ◌==◌, nat_lt, if◌then◌else◌, List, [], ◌∷◌, Option, Some, None, Result, Ok, Err}
+use Rattle.std.specs.Prelude.{◌≡◌, ℕ, true, false, ◌+◌, ◌==◌, nat_lt, if◌then◌else◌, List, [], ◌∷◌, Option, Some, None, Result, Ok, Err}
 use Rattle.script.specs.Token.{is_key}
 use Rattle.script.specs.declared.limits.TheConstants.{LOCKTIME_THRESHOLD}
 use Rattle.anchor_forms.specs.declared.channel_types.ChannelType.{ChannelType}
@@ -9,10 +9,13 @@ use Rattle.commit.specs.declared.fees.Direction.TheVariants.{Offered, Received}
 use Rattle.commit.specs.Keys.{KeyBytes}
 use Rattle.revoked.specs.Parts.{RevokedParts}
 use Rattle.revoked.specs.declared.outputs.RevokedHtlc.{RevokedHtlc}
+use Rattle.unilateral.specs.declared.closes.Whose.{Whose}
+use Rattle.unilateral.specs.declared.closes.Whose.TheVariants.{Ours, Theirs}
+use Rattle.unilateral.specs.declared.names.FundingKeys.{FundingKeys}
 use Rattle.enforce_c.specs.declared.commitment_rows.Commitment.{Commitment}
 use Rattle.enforce_c.specs.declared.commitment_rows.HtlcRow.{HtlcRow}
 use Rattle.enforce_c.specs.declared.statuses.Refusal.{Refusal}
-use Rattle.enforce_c.specs.declared.statuses.Refusal.TheVariants.{NoSuchChannelType, NotACommitmentKey, NoSuchDirection, ExpiryTooLarge}
+use Rattle.enforce_c.specs.declared.statuses.Refusal.TheVariants.{NoSuchChannelType, NotACommitmentKey, NoSuchDirection, ExpiryTooLarge, NoSuchClose}
 use Rattle.enforce_c.specs.Claimed.{or_then}
 
 -- the type of a channel
@@ -45,6 +48,14 @@ key_bytes_of c = record {
   remote_htlc = c.remote_htlc;
   remote = c.remote;
 }
+
+-- those of the funding output come after, if they are told
+abbrev pub funding_fault : Commitment → Option Refusal
+funding_fault c = if c.has_funding_keys then or_then (key_fault c.own_funding 5) (key_fault c.peers_funding 6) else None
+
+abbrev pub IsFundingOf : Commitment → Option FundingKeys → Type 0
+IsFundingOf c None = c.has_funding_keys ≡ false
+IsFundingOf c (Some f) = (c.has_funding_keys ≡ true) × (f.ours.bytes ≡ c.own_funding) × (f.peers.bytes ≡ c.peers_funding)
 
 -- ---- HTLCs
 
@@ -81,15 +92,25 @@ AreHtlcsOf rows hs = ⊥
 
 -- ---- the commitment
 
+-- whose commitment it is
+abbrev pub whose_of : ℕ → Result Whose Refusal
+whose_of kind =
+    if kind == 1 then Ok Ours
+    else if kind == 2 then Ok Theirs
+    else Err NoSuchClose
+
 -- the first fault of the rows, in this order: the type of the channel, each key, each HTLC
 abbrev pub commitment_fault : Commitment → List HtlcRow → Option Refusal
-commitment_fault c htlcs = or_then (fault_in (channel_type_of c.channel_type)) (or_then (keys_fault c) (htlcs_fault 0 htlcs))
+commitment_fault c htlcs =
+    or_then (fault_in (channel_type_of c.channel_type)) (or_then (keys_fault c) (or_then (funding_fault c) (htlcs_fault 0 htlcs)))
 
--- the rows are of this commitment
-pub record IsCommitmentOf (c : Commitment) (rows : List HtlcRow) (r : RevokedParts) : Type 0 where
+-- the rows are of this commitment, and these are the funding keys
+pub record IsCommitmentOf (c : Commitment) (rows : List HtlcRow) (r : RevokedParts) (funding_keys : Option FundingKeys) : Type 0 where
   pub channel_type : channel_type_of c.channel_type ≡ Ok r.channel_type
   pub keyed : keys_fault c ≡ None
   pub keys : r.keys ≡ key_bytes_of c
   pub delay : r.delay_blocks ≡ c.delay_blocks
+  pub funded : funding_fault c ≡ None
+  pub funding : IsFundingOf c funding_keys
   pub faultless : htlcs_fault 0 rows ≡ None
   pub htlcs : AreHtlcsOf rows r.htlcs

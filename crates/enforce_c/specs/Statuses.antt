@@ -15,7 +15,7 @@ use Rattle.claim.specs.declared.errors.AcceptError.TheVariants.{NoMemory as Acce
 use Rattle.filling.specs.declared.errors.SpendError.{SpendError}
 use Rattle.filling.specs.declared.errors.SpendError.TheVariants.{NoMemory as SpendMemory, FixedTransaction, SameOutpoint, OutputsExceed, MeasuredSignature, NoPreimage}
 use Rattle.enforce_c.specs.declared.statuses.Refusal.{Refusal}
-use Rattle.enforce_c.specs.declared.statuses.Refusal.TheVariants.{NoMemory, Parse, Check, NoSuchForm, NotAKey, NotAHeight, OutOfRange, NoSuchSlot, ItemTooLong, Accept, Field, Spend, Encode, Decode, NoSuchChannelType, NotACommitmentKey, NoSuchDirection, ExpiryTooLarge}
+use Rattle.enforce_c.specs.declared.statuses.Refusal.TheVariants.{NoMemory, Parse, Check, NoSuchForm, NotAKey, NotAHeight, OutOfRange, NoSuchSlot, ItemTooLong, Accept, Field, Spend, Encode, Decode, NoSuchChannelType, NotACommitmentKey, NoSuchDirection, ExpiryTooLarge, NoSuchClose}
 
 -- of a script's bytes
 abbrev pub parse_status : ParseError → ℕ
@@ -92,6 +92,7 @@ status_of NoSuchChannelType = 2049
 status_of (NotACommitmentKey number) = 2050
 status_of (NoSuchDirection index) = 2051
 status_of (ExpiryTooLarge index) = 2052
+status_of NoSuchClose = 2053
 
 -- the number that a refusal carries
 abbrev pub parse_number : ParseError → ℕ

@@ -9,7 +9,7 @@ ghost use Rattle.enforce_c.specs.Found.{left_by_found, found_refused};
 
 use crate::buffers::put;
 use crate::claim_rows::{ClaimRow, Due, SlotRow};
-use crate::commitment_rows::{FoundAnswer, FoundRow};
+use crate::commitment_rows::{FoundAnswer, FoundRow, OtherRow};
 use crate::finding::Finding;
 use crate::rows::{Answer, FactRow, PathRow};
 use crate::spend_rows::{SignatureRow, SpendAnswer};
@@ -142,7 +142,7 @@ pub(crate) fn write_found(
     claims: &mut [ClaimRow],
     found: &mut [FoundRow],
     slots: &mut [SlotRow],
-    others: &mut [u32],
+    others: &mut [OtherRow],
     bytes: &mut [u8],
     answer: &mut FoundAnswer,
 ) -> u32

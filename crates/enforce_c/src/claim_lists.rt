@@ -2,12 +2,14 @@
 
 ghost use Rattle.std.specs.Prelude.{◌≡◌, IfOk, OnOk};
 ghost use Rattle.std.specs.List.{AllByRecursion};
-ghost use Rattle.enforce_c.specs.ClaimLists.{slot_row, item_in, with_item, with_slot, with_slots, claim_row, with_claim, with_claims, claim_lists, IsReady};
+ghost use Rattle.enforce_c.specs.ClaimLists.{slot_row, given_row, token_in, with_item, with_open, with_given, with_fixed, with_slot, with_slots, claim_row, with_claim, with_claims, claim_lists, IsReady};
 
-use crate::claim_rows::{ClaimRow, SLOT_EXACT, SLOT_PREIMAGE, SLOT_SIGNATURE, SlotRow};
-use claim::{Claim, Slot};
+use crate::claim_rows::{ClaimRow, SLOT_EXACT, SLOT_GIVEN, SLOT_PREIMAGE, SLOT_SIGNATURE, SlotRow};
+use claim::{Claim, Shell, Slot};
+use sighash::Token;
 use std::alloc::{AllocError, Global};
 use std::marker::Model;
+use tx::{Tx, encode_stripped};
 
 /// Rows of claims, rows of their slots, and the bytes that both refer to. A contract sees it as the three lists.
 #[derive(Drop)]
@@ -61,6 +63,32 @@ fn slot_row(slot: &Slot, at: usize) -> SlotRow
     }
 }
 
+// The row of a signature that was given over a transaction whose bytes begin at an index.
+fn given_row(token: &Token, at: usize, bytes_length: usize) -> SlotRow
+    ensures { result ≡ given_row token.now at bytes_length }
+{
+    let (mut key, mut hash) = ([0; 33], [0; 32]);
+    key.copy_from_slice(&token.bytes()[..33]);
+    hash.copy_from_slice(&token.bytes()[33..65]);
+    SlotRow {
+        kind: SLOT_GIVEN,
+        key,
+        hash,
+        bytes_at: at,
+        bytes_length,
+    }
+}
+
+// The token that a slot holds.
+fn token_in(slot: &Slot) -> Option<Token>
+    ensures { result ≡ token_in slot.now }
+{
+    match slot {
+        Slot::Exact(item) => Token::read(item.item.bytes()),
+        _ => None,
+    }
+}
+
 // The row of a claim, whose slots and bytes begin at indices.
 fn claim_row(claim: &Claim, first_slot: usize, at: usize, program_at: usize) -> ClaimRow
     ensures { result ≡ claim_row claim.now first_slot at program_at }
@@ -91,26 +119,57 @@ impl ClaimLists {
         Ok(())
     }
 
-    // One more slot.
-    fn push_slot(&mut self, slot: &Slot) -> Result<(), AllocError>
-        ensures { OnOk result (self.new ≡ with_slot slot.now self.old) }
+    // One more slot of a claim that is of any transaction.
+    fn push_open(&mut self, slot: &Slot) -> Result<(), AllocError>
+        ensures { OnOk result (self.new ≡ with_open slot.now self.old) }
     {
         self.slots.push(slot_row(slot, self.bytes.len()))?;
         self.push_item(slot)
     }
 
+    // The signature that was given over a transaction.
+    fn push_given(&mut self, alloc: Global, tx: &Tx, token: &Token) -> Result<(), AllocError>
+        ensures { OnOk result (self.new ≡ with_given token.now tx.now self.old) }
+    {
+        let bytes = encode_stripped(alloc, tx)?;
+        self.slots
+            .push(given_row(token, self.bytes.len(), bytes.len()))?;
+        self.bytes.extend_from_slice(bytes.as_slice())?;
+        Ok(())
+    }
+
+    // One more slot of a claim that is of one transaction.
+    fn push_fixed(&mut self, alloc: Global, tx: &Tx, slot: &Slot) -> Result<(), AllocError>
+        ensures { OnOk result (self.new ≡ with_fixed (token_in slot.now) tx.now slot.now self.old) }
+    {
+        match token_in(slot) {
+            Some(token) => self.push_given(alloc, tx, &token),
+            None => self.push_open(slot),
+        }
+    }
+
+    // One more slot.
+    fn push_slot(&mut self, alloc: Global, shell: &Shell, slot: &Slot) -> Result<(), AllocError>
+        ensures { OnOk result (self.new ≡ with_slot shell.now slot.now self.old) }
+    {
+        match shell {
+            Shell::Open => self.push_open(slot),
+            Shell::Fixed(tx) => self.push_fixed(alloc, tx, slot),
+        }
+    }
+
     // The slots of a claim.
-    fn push_slots(&mut self, slots: &[Slot]) -> Result<(), AllocError>
-        ensures { OnOk result (self.new ≡ with_slots slots.now self.old) }
+    fn push_slots(&mut self, alloc: Global, shell: &Shell, slots: &[Slot]) -> Result<(), AllocError>
+        ensures { OnOk result (self.new ≡ with_slots shell.now slots.now self.old) }
     {
         for slot in slots {
-            self.push_slot(slot)?;
+            self.push_slot(alloc, shell, slot)?;
         }
         Ok(())
     }
 
     // One more claim: its script and its program, its row, and its slots.
-    fn push_claim(&mut self, claim: &Claim) -> Result<(), AllocError>
+    fn push_claim(&mut self, alloc: Global, claim: &Claim) -> Result<(), AllocError>
         ensures lists { OnOk result (self.new ≡ with_claim claim.now self.old) }
         ensures ready { IsReady claim.now }
     {
@@ -121,16 +180,16 @@ impl ClaimLists {
         self.bytes.extend_from_slice(claim.place().program.bytes())?;
         self.claims
             .push(claim_row(claim, self.slots.len(), at, program_at))?;
-        self.push_slots(claim.slots())
+        self.push_slots(alloc, claim.shell(), claim.slots())
     }
 
     // All claims.
-    fn push_claims(&mut self, claims: &[Claim]) -> Result<(), AllocError>
+    fn push_claims(&mut self, alloc: Global, claims: &[Claim]) -> Result<(), AllocError>
         ensures lists { OnOk result (self.new ≡ with_claims claims.now self.old) }
         ensures ready { OnOk result (AllByRecursion IsReady claims.now) }
     {
         for claim in claims {
-            self.push_claim(claim)?;
+            self.push_claim(alloc, claim)?;
         }
         Ok(())
     }
@@ -145,7 +204,7 @@ impl ClaimLists {
             slots: Vec::new(alloc),
             bytes: Vec::new(alloc),
         };
-        lists.push_claims(claims)?;
+        lists.push_claims(alloc, claims)?;
         Ok(lists)
     }
 }

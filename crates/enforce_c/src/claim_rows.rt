@@ -6,6 +6,8 @@ pub const SLOT_SIGNATURE: u32 = 1;
 pub const SLOT_PREIMAGE: u32 = 2;
 /// The slot is the `bytes_length` bytes from `bytes_at` on, at most 520.
 pub const SLOT_EXACT: u32 = 3;
+/// The slot is the signature of `key` over the digest `hash`, which was given over one transaction, with no witnesses the `bytes_length` bytes from `bytes_at` on. The claim is of this transaction alone, over whose digest the other signatures are too. No call reads such a slot.
+pub const SLOT_GIVEN: u32 = 4;
 
 /// How a claim fills a slot of its path. A field that the kind does not name is not read.
 #[repr(C)]
@@ -15,7 +17,7 @@ pub struct SlotRow {
     pub kind: u32,
     /// A compressed public key.
     pub key: [u8; 33],
-    /// The SHA-256 of a preimage, in the hash's own byte order.
+    /// The SHA-256 of a preimage, in the hash's own byte order; or a digest.
     pub hash: [u8; 32],
     /// Where the bytes begin among those that the call is given.
     pub bytes_at: usize,

@@ -1,18 +1,19 @@
 // Commitments, from rows that the caller gives.
 
-ghost use Rattle.std.specs.Prelude.{◌≡◌, ℕ, None, Some, MatchResult};
+ghost use Rattle.std.specs.Prelude.{◌≡◌, ℕ, true, None, Some, MatchResult};
 ghost use Rattle.commit.specs.Keys.{bytes_of};
 ghost use Rattle.enforce_c.specs.Spent.{UnlessMemory};
-ghost use Rattle.enforce_c.specs.Commitments.{channel_type_of, key_fault, keys_fault, key_bytes_of, direction_fault, IsDirection, htlc_fault, htlcs_fault, IsHtlcOf, AreHtlcsOf};
+ghost use Rattle.enforce_c.specs.Commitments.{channel_type_of, key_fault, keys_fault, key_bytes_of, funding_fault, IsFundingOf, whose_of, direction_fault, IsDirection, htlc_fault, htlcs_fault, IsHtlcOf, AreHtlcsOf};
 
 use crate::commitment_rows::{
-    CHANNEL_ANCHORS, CHANNEL_STATIC_REMOTE_KEY, Commitment, DIRECTION_OFFERED, DIRECTION_RECEIVED,
-    HtlcRow,
+    CHANNEL_ANCHORS, CHANNEL_STATIC_REMOTE_KEY, CLOSE_OWN, CLOSE_PEERS, Commitment,
+    DIRECTION_OFFERED, DIRECTION_RECEIVED, HtlcRow,
 };
 use crate::statuses::Refusal;
 use keys::Key;
 use revoked::{ChannelType, CommitmentKeys, Direction, Expiry, RevokedHtlc};
 use std::alloc::Global;
+use unilateral::{FundingKeys, Whose};
 
 /// The type of a channel.
 pub(crate) fn channel_type_of(kind: u32) -> Result<ChannelType, Refusal>
@@ -47,6 +48,40 @@ pub(crate) fn keys_of(commitment: &Commitment) -> Result<CommitmentKeys, Refusal
         remote_htlc: numbered_key(&commitment.remote_htlc, 3)?,
         remote: numbered_key(&commitment.remote, 4)?,
     })
+}
+
+// The keys of the funding output.
+fn both_funding_keys(commitment: &Commitment) -> Result<FundingKeys, Refusal>
+    requires { commitment.now.has_funding_keys ≡ true }
+    ensures { MatchResult result (λ f. IsFundingOf commitment.now (Some f) × (funding_fault commitment.now ≡ None))
+        (λ e. funding_fault commitment.now ≡ Some e) }
+{
+    Ok(FundingKeys {
+        ours: numbered_key(&commitment.own_funding, 5)?,
+        peers: numbered_key(&commitment.peers_funding, 6)?,
+    })
+}
+
+/// The keys of the funding output, if they are told.
+pub(crate) fn funding_of(commitment: &Commitment) -> Result<Option<FundingKeys>, Refusal>
+    ensures { MatchResult result (λ f. IsFundingOf commitment.now f × (funding_fault commitment.now ≡ None))
+        (λ e. funding_fault commitment.now ≡ Some e) }
+{
+    if !commitment.has_funding_keys {
+        return Ok(None);
+    }
+    Ok(Some(both_funding_keys(commitment)?))
+}
+
+/// Whose commitment it is.
+pub(crate) fn whose_of(kind: u32) -> Result<Whose, Refusal>
+    ensures { whose_of kind ≡ result }
+{
+    match kind {
+        CLOSE_OWN => Ok(Whose::Ours),
+        CLOSE_PEERS => Ok(Whose::Theirs),
+        _ => Err(Refusal::NoSuchClose),
+    }
 }
 
 // The direction of the HTLC of an index.

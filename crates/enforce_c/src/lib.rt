@@ -1,4 +1,4 @@
-//! The ways through a script, the scripts of BOLT 3, the claims that a revoked commitment lets its owner's peer make, and their unsigned spend, for programs in C, as a static library.
+//! The ways through a script, the scripts of BOLT 3, the claims that a commitment lets one make, revoked or not, and their unsigned spend, for programs in C, as a static library.
 //!
 //! Each export writes only to what it is given by a pointer that is not const, keeps no pointer, and may be called
 //! from several threads at once. No export has a `requires`: whatever bytes and lengths a caller gives, it is
@@ -6,7 +6,7 @@
 //! A buffer that is too short is left as it was, and the [`Answer`] says how long it has to be.
 //!
 //! `paths` lists the ways through a script, and `script_words` has the text of a listing. `terms` defines the scripts of BOLT 3 and
-//! `forms` their ways; `sighash` has the program of a script. `claim` accepts claims, `revoked` finds them, and `filling` makes their spend. Signatures are not among the arguments:
+//! `forms` their ways; `sighash` has the program of a script. `claim` accepts claims, `revoked` and `unilateral` find them, and `filling` makes their spend. Signatures are not among the arguments:
 //! an accepted claim can't fail with tokens, or with valid signatures where none is measured. No crate depends on this one.
 //! `docs/BINDINGS.md` has the header, and callers in C and in other languages.
 //!
@@ -24,7 +24,8 @@ ghost use Rattle.enforce_c.specs.Listed.{AnswersListing, AnswersText};
 ghost use Rattle.enforce_c.specs.FormScripts.{AnswersForm};
 ghost use Rattle.enforce_c.specs.Claimed.{AnswersClaim};
 ghost use Rattle.enforce_c.specs.Spent.{AnswersSpend, preimages_in};
-ghost use Rattle.enforce_c.specs.Found.{AnswersFound};
+ghost use Rattle.enforce_c.specs.declared.commitment_rows.Question.TheVariants.{OfClose};
+ghost use Rattle.enforce_c.specs.Found.{asked_of_revoked, AnswersFound};
 
 mod answers;
 mod buffers;
@@ -53,11 +54,15 @@ use crate::finding::found;
 use crate::forms_of_c::form_bytes;
 use crate::listing::{text_of, told};
 use crate::spending::spent;
-pub use claim_rows::{ClaimRow, Due, SLOT_EXACT, SLOT_PREIMAGE, SLOT_SIGNATURE, SlotRow};
+pub use claim_rows::{
+    ClaimRow, Due, SLOT_EXACT, SLOT_GIVEN, SLOT_PREIMAGE, SLOT_SIGNATURE, SlotRow,
+};
+use commitment_rows::Question;
 pub use commitment_rows::{
-    CHANNEL_ANCHORS, CHANNEL_STATIC_REMOTE_KEY, Commitment, DIRECTION_OFFERED, DIRECTION_RECEIVED,
-    FoundAnswer, FoundRow, HtlcRow, OUTPUT_OFFERED, OUTPUT_RECEIVED, OUTPUT_TO_LOCAL,
-    OUTPUT_TO_REMOTE,
+    CHANNEL_ANCHORS, CHANNEL_STATIC_REMOTE_KEY, CLOSE_OWN, CLOSE_PEERS, Commitment,
+    DIRECTION_OFFERED, DIRECTION_RECEIVED, FoundAnswer, FoundRow, HtlcRow, OUTPUT_OFFERED,
+    OUTPUT_OWN_ANCHOR, OUTPUT_PEERS_ANCHOR, OUTPUT_RECEIVED, OUTPUT_TO_LOCAL, OUTPUT_TO_REMOTE,
+    OUTPUT_UNKNOWN, OtherRow,
 };
 use digest::sha256;
 pub use forms_of_c::{
@@ -69,7 +74,7 @@ pub use statuses::DONE;
 use std::alloc::Global;
 
 /// What declarations mean together: it is raised whenever one changes its meaning.
-pub const ABI: u32 = 2;
+pub const ABI: u32 = 3;
 
 /// The library's `ABI`, to be compared with that of the declarations once, at the start.
 #[unsafe(no_mangle)]
@@ -198,7 +203,7 @@ pub extern "C" fn enforce_unsigned_spend(
 
 /// Finds all that a revoked commitment lets its owner's peer claim of a transaction: the commitment, one of its HTLC transactions, or any other, with witnesses or without. Writes a claim on each output whose script is
 /// one of the commitment's, in the order of the outputs, with what `enforce_unsigned_spend` takes: rows of slots, and the bytes that both refer to. Of each claim it writes which output it is on, and the first block in which the owner can take that, where a block of
-/// `confirmed_height` has the transaction. Of each other output it writes the index. The statuses of refusals are those of family 8 in this order: the type of the channel, each key, each HTLC; then those of family 6, of the first fault of the
+/// `confirmed_height` has the transaction. Of each other output it writes the index, and what it is. The statuses of refusals are those of family 8 in this order: the type of the channel, each key, each HTLC; then those of family 6, of the first fault of the
 /// transaction; and `TOO_SMALL` if one of the five buffers is too short.
 #[unsafe(no_mangle)]
 #[tactic(auto, using(crate::proofs::FoundClaims::found_lists, crate::proofs::FoundClaims::refused_found))]
@@ -211,16 +216,76 @@ pub extern "C" fn enforce_revoked(
     claims: &mut [ClaimRow],
     found_outputs: &mut [FoundRow],
     slots: &mut [SlotRow],
-    others: &mut [u32],
+    others: &mut [OtherRow],
     bytes: &mut [u8],
     answer: &mut FoundAnswer,
 ) -> u32
     ensures { AnswersFound
-        (record { commitment = commitment.now; htlcs = htlcs.now; tx = tx.now; confirmed_height = confirmed_height })
+        (asked_of_revoked commitment.now htlcs.now tx.now confirmed_height)
         (record { claims = claims.old; found = found_outputs.old; slots = slots.old; others = others.old; bytes = bytes.old })
         (record { status = result; answer = answer.new; lists = record { claims = claims.new; found = found_outputs.new; slots = slots.new; others = others.new; bytes = bytes.new } }) }
 {
-    match found(alloc, commitment, htlcs, tx, confirmed_height) {
+    match found(
+        alloc,
+        Question::OfRevoked,
+        CLOSE_PEERS,
+        commitment,
+        htlcs,
+        0,
+        &[],
+        tx,
+        confirmed_height,
+    ) {
+        Ok(finding) => write_found(
+            &finding,
+            claims,
+            found_outputs,
+            slots,
+            others,
+            bytes,
+            answer,
+        ),
+        Err(refusal) => refuse_found(&refusal, answer),
+    }
+}
+
+/// Finds all that a commitment which is not revoked lets one claim of a transaction, where it closed the channel: of that commitment, one's own HTLC transaction, or any other, with witnesses or without. `whose` says whose commitment it is. `feerate_per_kw` is its feerate,
+/// by which one's own HTLC transactions pay. Writes what `enforce_revoked` does: a claim for each way to take an output, in the order of the outputs, from which block on, and the first block in which the other side can take it; and each other output. An HTLC of one's own
+/// commitment is claimed by its HTLC transaction, in a channel without anchors: a slot of the kind `SLOT_GIVEN` has it, and the digest that its two signatures are over; `enforce_unsigned_spend` does not read such a claim. The statuses of refusals are `NO_SUCH_CLOSE`, and then those of `enforce_revoked`.
+#[unsafe(no_mangle)]
+#[tactic(auto, using(crate::proofs::FoundClaims::found_lists, crate::proofs::FoundClaims::refused_found))]
+pub extern "C" fn enforce_close(
+    alloc: Global,
+    whose: u32,
+    commitment: &Commitment,
+    htlcs: &[HtlcRow],
+    feerate_per_kw: u32,
+    preimages: &[PreimageRow],
+    tx: &[u8],
+    confirmed_height: u32,
+    claims: &mut [ClaimRow],
+    found_outputs: &mut [FoundRow],
+    slots: &mut [SlotRow],
+    others: &mut [OtherRow],
+    bytes: &mut [u8],
+    answer: &mut FoundAnswer,
+) -> u32
+    ensures { AnswersFound
+        (record { question = OfClose; whose = whose; commitment = commitment.now; htlcs = htlcs.now; feerate_per_kw = feerate_per_kw; preimages = preimages_in preimages.now; tx = tx.now; confirmed_height = confirmed_height })
+        (record { claims = claims.old; found = found_outputs.old; slots = slots.old; others = others.old; bytes = bytes.old })
+        (record { status = result; answer = answer.new; lists = record { claims = claims.new; found = found_outputs.new; slots = slots.new; others = others.new; bytes = bytes.new } }) }
+{
+    match found(
+        alloc,
+        Question::OfClose,
+        whose,
+        commitment,
+        htlcs,
+        feerate_per_kw,
+        preimages,
+        tx,
+        confirmed_height,
+    ) {
         Ok(finding) => write_found(
             &finding,
             claims,

@@ -61,8 +61,8 @@ fn outputs_of(alloc: Global, bytes: &[u8], rows: &[OutputRow]) -> Result<Vec<TxO
     Ok(outputs)
 }
 
-// The preimages of rows.
-fn preimages_of(alloc: Global, rows: &[PreimageRow]) -> Result<Vec<[u8; 32]>, AllocError>
+/// The preimages of rows. The only error is that memory ran out.
+pub(crate) fn preimages_of(alloc: Global, rows: &[PreimageRow]) -> Result<Vec<[u8; 32]>, AllocError>
     ensures { IfOk result (λ v. v.items ≡ preimages_in rows.now) }
 {
     let mut preimages = Vec::new(alloc);

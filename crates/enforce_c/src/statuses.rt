@@ -91,6 +91,8 @@ pub const NOT_A_COMMITMENT_KEY: u32 = 0x802;
 pub const NO_SUCH_DIRECTION: u32 = 0x803;
 /// The expiry of an HTLC is 500,000,000 or more, which is a time and not a height; the answer has the index of the HTLC.
 pub const EXPIRY_TOO_LARGE: u32 = 0x804;
+/// It is neither one's own commitment nor the peer's.
+pub const NO_SUCH_CLOSE: u32 = 0x805;
 
 /// Why a call gives nothing.
 #[derive(Drop)]
@@ -116,6 +118,7 @@ pub enum Refusal {
     NoSuchDirection(usize),
     /// Which HTLC it is of.
     ExpiryTooLarge(usize),
+    NoSuchClose,
 }
 
 // The status of a refused claim.
@@ -243,6 +246,7 @@ impl Refusal {
             Refusal::NotACommitmentKey(_) => NOT_A_COMMITMENT_KEY,
             Refusal::NoSuchDirection(_) => NO_SUCH_DIRECTION,
             Refusal::ExpiryTooLarge(_) => EXPIRY_TOO_LARGE,
+            Refusal::NoSuchClose => NO_SUCH_CLOSE,
         }
     }
 

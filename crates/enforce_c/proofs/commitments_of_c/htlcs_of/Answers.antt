@@ -1,5 +1,4 @@
-use Rattle.std.proofs.Common.{refl, sym, subst}
-use Rattle.enforce_c.specs.Commitments.{AreHtlcsOf}
+use Rattle.std.proofs.Common.{refl}
 use Rattle.enforce_c.proofs.Commitments.{htlcs_next, faultless_next}
 use Rattle.enforce_c.proofs.commitments_of_c.htlcs_of.Goals as goal
 

@@ -4,4 +4,4 @@ use Rattle.enforce_c.specs.ClaimLists.{with_slots}
 use Rattle.enforce_c.proofs.claim_lists.ClaimLists.push_slots.Given as goal
 
 abbrev pub invariant-loop-slot : goal.invariant-loop-slot
-invariant-loop-slot l = with_slots (drop l.slot-index l.slots) l.self ≡ with_slots l.slots l.initial.self
+invariant-loop-slot l = with_slots l.shell (drop l.slot-index l.slots) l.self ≡ with_slots l.shell l.slots l.initial.self
