@@ -14,7 +14,7 @@
 
    answers             the answers. Each call is made again with buffers of just their lengths, and with each of them one shorter; each claim also with rows that name what is not there
    answers --threads   the answers, made by four threads at once as well, which must be the same
-   answers --refuse    the answers, after each allocation of each call was refused once (with refusing.c)
+   answers --refuse    the answers, after each allocation of each call was refused once, of one in 32 of those that find claims (with refusing.c)
 
    The last line of standard error counts the calls that were made besides. Status 1 where one of them answers otherwise. */
 #include <enforce.h>
@@ -25,6 +25,8 @@
 #include <string.h>
 
 enum { PATHS = 64, FACTS = 4096, BYTES = 65536, SIGNATURES = 64, THREADS = 4, FILL = 0x5a };
+/* Of the calls that find claims, which list the scripts of BOLT 3 each time, one in so many has its allocations refused. */
+enum { REFUSED_ONE_IN = 32 };
 enum { CLAIMS = 8, SLOTS = 64, OUTPUTS = 8, PREIMAGES = 8, HTLCS = 16, FOUND = 16 };
 /* The buffers of a call: paths or claims, rows of facts, of signatures or of outputs, bytes, slots, and the other outputs. */
 enum { AT_PATHS, AT_ROWS, AT_BYTES, AT_SLOTS, AT_OTHERS, BUFFERS };
@@ -67,7 +69,7 @@ typedef struct {
     char **lines;
     size_t count;
     text told;
-    long short_calls, refused, wrong;
+    long short_calls, refused, wrong, finding;
     bool refuses;
 } work;
 
@@ -542,7 +544,7 @@ static void tell(work *w, const request *r, state *s, state *other) {
         put_hex(to, program, sizeof program), put(to, "\n");
         return;
     }
-    if (w->refuses) refuse_each(w, r, other);
+    if (w->refuses && (!finds(r) || w->finding++ % REFUSED_ONE_IN == 0)) refuse_each(w, r, other);
     call(r, s, most(r));
     if (s->status != ENFORCE_DONE) {
         put_status(to, s);

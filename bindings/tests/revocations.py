@@ -72,7 +72,7 @@ def answer(row, height=HEIGHT):
 
 
 def row_with(row, htlcs):
-    return revoked.Row(row.values, row.tx, row.txid, row.outputs, htlcs)
+    return revoked.Row(row.values, row.tx, row.txid, row.outputs, htlcs, row.channel_type)
 
 
 def refused(row):
@@ -107,7 +107,7 @@ def wanted_answers():
     """Each line that callers read, with what they must print."""
     rows = list(revoked.rows())
     found = {line_of(row): answer(row) for row in rows}
-    largest = max((row for row in rows if row.values == revoked.OWN), key=lambda row: len(row.outputs))
+    largest = max((row for row in rows if row.values == revoked.OWN and row.channel_type == row.values["type"]), key=lambda row: len(row.outputs))
     edge = row_with(largest, [*largest.htlcs[:-1], (*largest.htlcs[-1][:2], 499_999_999)])
     for row in (largest, edge, rows[0]):
         found.update({line_of(row, height): answer(row, height) for height in (0, LAST)})
