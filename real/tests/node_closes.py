@@ -6,6 +6,7 @@ import os
 import subprocess
 import urllib.parse
 from collections.abc import Sequence
+from dataclasses import asdict
 from typing import Any
 
 from real.lib import commitment, judge_input
@@ -25,10 +26,11 @@ from real.tests.node_channels import (
     second_stage,
     secret_of,
     sign_coin,
-    to_local_script,
 )
 
 DELAY, CHANGES, COIN_SAT, DESTINATION = 30, 10, 30_000, b"\x00\x14" + b"\xc7" * 20
+# the feerate of HTLC transactions without anchors
+FEERATE = 1_000
 BASE58 = "123456789ABCDEFGHJKLMNPQRSTUVWXYZabcdefghijkmnopqrstuvwxyz"
 # coinbases can be spent after a hundred blocks
 MATURITY = 101
@@ -46,6 +48,30 @@ def run_tool(words: Sequence[str], given: str) -> str:
     if ran.returncode not in (0, LEFT):
         raise Refused(f"{' '.join(words)}: status {ran.returncode}: {ran.stdout[-200:]} {ran.stderr[-200:]}")
     return ran.stdout
+
+
+def htlcs_of(party: Party) -> list[dict[str, Any]]:
+    """The HTLCs of a channel, as the programs read them."""
+    return [
+        {
+            "direction": "offered" if it.is_offered else "received",
+            "hash": it.payment_hash.hex(),
+            "expiry_height": it.expiry_height,
+        }
+        for it, _ in party.htlcs
+    ]
+
+
+def wanted_of_close(party: Party, whose: str) -> tuple[list[str], list[str]]:
+    """Which outputs of a commitment have claims, and the names of the others (BOLTs 3 and 5)."""
+    htlcs = ["offered" if it.is_offered else "received" for it, _ in party.htlcs]
+    mine, other = ("to_local", "to_remote") if whose == CLOSED[0] else ("to_remote", "to_local")
+    if not party.is_anchored:
+        return sorted([mine, *htlcs]), [other]
+    anchors = ["own_anchor", "peer_anchor"]
+    if whose == CLOSED[0]:
+        return [mine], sorted([other, *anchors, *htlcs])
+    return sorted(htlcs), sorted([mine, other, *anchors])
 
 
 class Closes:
@@ -92,16 +118,18 @@ class Closes:
         self.coins = [Coin(outpoint_of(made, len(parties) + at), COIN_SAT, private) for at in range(8)]
 
     def party(self, name: str, kind: str) -> Party:
-        """A channel with HTLCs both ways, which expire soon."""
-        height = self.node.height()
+        """A channel with HTLCs both ways."""
         htlcs = []
         for at in range(4):
             preimage = sha256(f"preimage {at} of {name}".encode())
-            htlcs.append((Htlc(at % 2 == 0, sha256(preimage), height + 60 + 2 * at), preimage))
+            htlcs.append((Htlc(at % 2 == 0, sha256(preimage), 0), preimage))
         return Party(name, kind, DELAY, htlcs)
 
     def close(self, party: Party) -> Transaction:
-        """Broadcasts the commitment of a channel."""
+        """Broadcasts the commitment of a channel, whose HTLCs expire soon."""
+        height = self.node.height()
+        for at, (it, _) in enumerate(party.htlcs):
+            it.expiry_height = height + 60 + 2 * at
         made = commitment_of(self.curve, party, self.fundings[party.name])
         self.node.send(made.bytes())
         return made
@@ -113,14 +141,7 @@ class Closes:
             "transaction": seen.bytes().hex(),
             "secret": party.secret.hex(),
             "delay_blocks": party.delay_blocks,
-            "htlcs": [
-                {
-                    "direction": "offered" if it.is_offered else "received",
-                    "hash": it.payment_hash.hex(),
-                    "expiry_height": it.expiry_height,
-                }
-                for it, _ in party.htlcs
-            ],
+            "htlcs": htlcs_of(party),
             "bases": {name: it.hex() for name, it in party.bases(self.curve).items()},
             "funding_keys": [it.hex() for it in party.funding_keys(self.curve)],
             "destination": DESTINATION.hex(),
@@ -227,49 +248,34 @@ class Closes:
             found = self.penalties(party, stage, self.node.height(), [])
             self.give_penalties(f"{party.name}, HTLC {at}", found, stage, ["to_local"], 1)
 
-    def claim(self, script: bytes, path: int, slots: list[list[str]], seen: Transaction) -> dict[str, Any] | None:
-        """A claim on the output of a script, as `spend` takes it; None where there is no such output."""
-        is_key_hash = script[:3] == b"\x76\xa9\x14" and len(script) == 25
-        program = b"\x00\x14" + script[3:23] if is_key_hash else commitment.program_of(script)
-        index = next((at for at, it in enumerate(seen.outputs) if it.program == program), None)
-        if index is None:
-            return None
+    def close_request(self, party: Party, seen: Transaction, whose: str) -> dict[str, Any]:
+        """What `spend close` is asked of a transaction in the newest block."""
+        keys, funding = party.keys(self.curve), party.funding_keys(self.curve)
         return {
-            "explorer": f"{seen.txid()}:{index}",
-            "path": path,
-            "program": program.hex(),
-            "script": script.hex(),
-            "shell": None,
-            "slots": slots,
-            "value": seen.outputs[index].value,
+            "channel_type": party.channel_type,
+            "whose": "own" if whose == CLOSED[0] else "peer",
+            "keys": {name: it.hex() for name, it in asdict(keys).items()},
+            "delay_blocks": party.delay_blocks,
+            "feerate_per_kw": FEERATE,
+            "funding_keys": {name: it.hex() for name, it in zip(("own", "peer"), funding)},
+            "htlcs": htlcs_of(party),
+            "preimages": [it.hex() for _, it in party.htlcs],
+            "transaction": seen.bytes().hex(),
+            "confirmed_height": self.node.height(),
         }
 
-    def claims_of_close(
-        self, party: Party, seen: Transaction, whose: str
-    ) -> list[tuple[str, dict[str, Any], int, bytes]]:
-        """What an unrevoked commitment lets one claim: its name, the claim, how many blocks after the commitment or at
-        which height it can be mined, and the key that signs.
-        """
-        keys, found = party.keys(self.curve), []
-        if whose == CLOSED[0]:
-            script = to_local_script(keys.revocation, party.delay_blocks, keys.delayed)
-            claim = self.claim(script, 1, [["exact", ""], ["sig", keys.delayed.hex()]], seen)
-            private = party.private_at_point(self.curve, "owner_delayed")
-            return [("to_local", claim, self.node.height() + party.delay_blocks, private)] if claim else []
-        remote = b"\x76\xa9\x14" + hash160(keys.remote) + b"\x88\xac"
-        slots = [["exact", keys.remote.hex()], ["sig", keys.remote.hex()]]
-        claim = self.claim(remote, 0, slots, seen)
-        if claim:
-            found.append(("to_remote", claim, 0, party.privates["payment"]))
-        private, sig = party.private_at_point(self.curve, "htlc"), ["sig", keys.remote_htlc.hex()]
-        for at, (htlc, preimage) in enumerate(party.htlcs):
-            script = htlc_script(keys, htlc, party.is_anchored)
-            first = ["preimage", htlc.payment_hash.hex()] if htlc.is_offered else ["exact", ""]
-            claim = self.claim(script, 2, [first, sig], seen)
-            least = 0 if htlc.is_offered else htlc.expiry_height + 1
-            if claim:
-                found.append((f"HTLC {at}", claim, least, private))
-        return found
+    def claims_of_close(self, party: Party, seen: Transaction, whose: str) -> tuple[list[dict[str, Any]], list[str]]:
+        """What `spend close` lets one claim of a transaction, and the names of the other outputs."""
+        found = json.loads(run_tool(["spend", "close"], json.dumps(self.close_request(party, seen, whose))))
+        return found["claims"], sorted(it["name"] for it in found["others"])
+
+    def keys_of(self, party: Party, whose: str) -> dict[str, bytes]:
+        """One's own private keys at a commitment, by their public keys."""
+        names = ("owner_delayed", "owner_htlc") if whose == CLOSED[0] else ("htlc",)
+        found = [party.private_at_point(self.curve, it) for it in names]
+        if whose != CLOSED[0]:
+            found.append(party.privates["payment"])
+        return {self.curve.public_key(it).hex(): it for it in found}
 
     def spend(self, party: Party, claim: dict[str, Any], private: bytes) -> bytes:
         """What `spend`, real/psbt and real/sign make of a claim."""
@@ -283,27 +289,56 @@ class Closes:
         signed = run_tool(["real/sign"], run_tool(["real/psbt", "make"], plan) + private.hex() + "\n")
         return bytes.fromhex(run_tool(["real/psbt", "finish"], plan + signed).split("\n")[0])
 
+    def htlc_transaction(self, party: Party, claim: dict[str, Any], private: bytes) -> bytes:
+        """One's own HTLC transaction: both sides sign the digest that the claim's token has."""
+        top, _, token, last = (bytes.fromhex(given) for _, given in claim["slots"])
+        preimages = {it.payment_hash: preimage for it, preimage in party.htlcs}
+        peer = party.private_at_point(self.curve, "htlc")
+        self.check(token[:33] == self.curve.public_key(peer), f"{party.name}: the key of the peer's token")
+        peers, own = (self.curve.sign(it, token[33:65]) + token[65:] for it in (peer, private))
+        made = read_transaction(bytes.fromhex(claim["shell"]), marked=False)
+        made.inputs[0].witness = [last, peers, own, preimages.get(top, top), bytes.fromhex(claim["script"])]
+        return made.bytes()
+
+    def give_claim(self, party: Party, told: dict[str, Any], whose: str) -> Transaction:
+        """A claim is refused in the block before its first one, and taken then: what was mined."""
+        claim, first, last = told["output"], told["from_height"], told["deadline_height"]
+        private = self.keys_of(party, whose)[next(given for kind, given in claim["slots"] if kind == "sig")]
+        raw = (self.htlc_transaction if claim["shell"] else self.spend)(party, claim, private)
+        where = f"{party.name}, {told['kind']} {claim['outpoint'][-2:]}"
+        # the next block is the one before the first that may have it
+        self.node.mine(max(0, first - self.node.height() - 2), DESTINATION)
+        if first > self.node.height() + 1:
+            refusal = self.node.refusal(raw) or ""
+            self.check("final" in refusal, f"{where}: a block too early: {refusal or 'the node takes it'}")
+            self.refused += "final" in refusal
+            self.node.mine(1, DESTINATION)
+        self.give(where, raw, [Output(claim["value"], bytes.fromhex(claim["program"]))])
+        self.node.mine(1, DESTINATION)
+        made, height = read_transaction(raw), self.node.height()
+        self.check(self.node.block_of(made.txid()) == height, f"{where}: not mined")
+        self.check(last is None or height < last or last <= first, f"{where}: mined in {height}, and not before {last}")
+        return made
+
     def close_unrevoked(self, kind: str, whose: str) -> None:
-        """A commitment that is not revoked: each claim is refused in the block before its first one, and taken then."""
+        """A commitment that is not revoked: all that `spend close` lets one claim of it is taken, and then the outputs
+        of one's own HTLC transactions.
+        """
         party = self.parties[f"{kind}, {whose}"]
         seen = self.close(party)
         self.node.mine(1, DESTINATION)
-        claims = self.claims_of_close(party, seen, whose)
-        least = 1 if whose == CLOSED[0] else len(party.htlcs)
-        self.check(len(claims) >= least, f"{party.name}: {len(claims)} claims")
-        for name, claim, first, private in sorted(claims, key=lambda it: it[2]):
-            raw, where = self.spend(party, claim, private), f"{party.name}, {name}"
-            spent = [Output(claim["value"], bytes.fromhex(claim["program"]))]
-            # the next block is the one before the first that may have it
-            self.node.mine(max(0, first - self.node.height() - 2), DESTINATION)
-            if first > self.node.height() + 1:
-                refusal = self.node.refusal(raw) or ""
-                self.check("final" in refusal, f"{where}: a block too early: {refusal or 'the node takes it'}")
-                self.refused += "final" in refusal
-                self.node.mine(1, DESTINATION)
-            self.give(where, raw, spent)
-            self.node.mine(1, DESTINATION)
-            self.check(self.node.block_of(read_transaction(raw).txid()) == self.node.height(), f"{where}: not mined")
+        due, names = self.claims_of_close(party, seen, whose)
+        kinds, named = wanted_of_close(party, whose)
+        self.check(sorted(it["kind"] for it in due) == kinds, f"{party.name}: claims {due}")
+        self.check(names == named, f"{party.name}: others {names}")
+        while due:
+            due.sort(key=lambda it: it["from_height"])
+            told = due.pop(0)
+            made = self.give_claim(party, told, whose)
+            if told["output"]["shell"]:
+                found, names = self.claims_of_close(party, made, whose)
+                self.check([it["kind"] for it in found] == ["to_local"] and not names, f"{party.name}: {found}")
+                due += found
 
     def combine(self) -> None:
         """A funding output is spent by two signers, one after the other: what real/psbt makes, combines and finalizes

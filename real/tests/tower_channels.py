@@ -53,6 +53,7 @@ class Tally:
 
     def __init__(self, is_quiet: bool = False) -> None:
         self.channels = self.outputs = self.second = self.little = self.changes = self.named = self.differ = 0
+        self.closes = self.claims = self.others = 0
         self.seen, self.is_quiet = set(), is_quiet
 
     def check(self, holds: bool, what: str) -> None:
@@ -71,27 +72,38 @@ class Tally:
             f"{self.outputs} outputs ({self.second} of HTLC transactions, {self.little} too little to be passed on)"
         )
         print(
-            f"towers: {self.channels} channels, {outputs}, {self.changes} changes by which {self.named} outputs no"
-            f" longer match, {self.differ} differ"
+            f"towers: {self.channels} channels, half of them with anchors, {outputs}, {self.changes} changes by which"
+            f" {self.named} outputs no longer match"
+        )
+        print(
+            f"closes: {self.closes} transactions of commitments that are not revoked, {self.claims} claims,"
+            f" {self.others} other outputs, {self.differ} differ"
         )
         return int(self.differ > 0)
+
+
+def htlcs_of(channel: Channel) -> list[dict[str, Any]]:
+    """The HTLCs of a channel, as the programs read them."""
+    return [
+        {
+            "direction": "received" if it.is_received else "offered",
+            "hash": it.payment_hash.hex(),
+            "expiry_height": it.expiry_height,
+        }
+        for it in channel.htlcs
+    ]
 
 
 def state_of(channel: Channel, raw: str) -> dict[str, Any]:
     """What a tower stores of a channel's revoked state, with the transaction that it sees."""
     confirmed_height = channel.confirmed_height()
     return {
+        "channel_type": "anchors" if channel.is_anchored else "static_remotekey",
+        "funding_keys": [it.public.hex() for it in channels.funding_keys(channel)],
         "transaction": raw,
         "secret": channel.secret.hex(),
         "delay_blocks": channel.delay_blocks,
-        "htlcs": [
-            {
-                "direction": "received" if it.is_received else "offered",
-                "hash": it.payment_hash.hex(),
-                "expiry_height": it.expiry_height,
-            }
-            for it in channel.htlcs
-        ],
+        "htlcs": htlcs_of(channel),
         "bases": {name: channels.public_key(it).hex() for name, it in channel.privates.items()},
         "destination": DESTINATION.hex(),
         "feerate_per_kw": FEERATES_PER_KW[channel.number % len(FEERATES_PER_KW)],
@@ -183,18 +195,31 @@ def faults_of(answer: dict[str, Any], transaction: PartialTransaction, at: int, 
     return [name for name, it in faults.items() if it]
 
 
+def names_of(channel: Channel, transaction: PartialTransaction) -> dict[str, list[int]]:
+    """The outputs of a channel with anchors that are named and not taken."""
+    found: dict[str, list[int]] = {}
+    programs = channels.named_programs(channel)
+    for at, it in enumerate(transaction.outputs()):
+        if it.scriptpubkey in programs:
+            found.setdefault(programs[it.scriptpubkey], []).append(at)
+    return found
+
+
 def compare(
     tally: Tally,
     name: str,
-    known: dict[bytes, Known],
+    channel: Channel,
     transaction: PartialTransaction,
     answered: tuple[list[dict[str, Any]], int],
 ) -> tuple[list[dict[str, Any]], list[int]]:
     """Each output whose program Electrum knows is taken as Electrum has it, and each other one is named. The answers,
-    and the outputs that are named.
+    and the outputs that match nothing.
     """
     (*answers, last), status = answered
-    outputs = transaction.outputs()
+    outputs, known, named = transaction.outputs(), channels.outputs_by_program(channel), names_of(channel, transaction)
+    apart = [it["outputs"][0] for it in answers if it["answer"] == penalties.NOT_HERE]
+    tally.check(apart == named.get("to_remote", []), f"{name}: to_remote is named first: {apart}")
+    answers = [it for it in answers if it["answer"] != penalties.NOT_HERE]
     own = [at for at, it in enumerate(outputs) if it.scriptpubkey in known]
     others = [at for at, it in enumerate(outputs) if it.scriptpubkey not in known]
     order = sorted(own, key=lambda it: urgency(known[outputs[it].scriptpubkey], outputs[it].value))
@@ -205,7 +230,9 @@ def compare(
         "too_little": little,
         "no_key": [],
         "others": others,
+        **({"named": named} if channel.is_anchored else {}),
     }
+    others = [at for at in others if not any(at in it for it in named.values())]
     tally.check(last == wanted, f"{name}: {last}, and not {wanted}")
     tally.check(status == (LEFT if others else 0), f"{name}: status {status}")
     tally.check(len(answers) == len(own), f"{name}: {len(answers)} answers")
@@ -231,9 +258,10 @@ def spoiled_answers(answer: dict[str, Any], known: Any) -> Iterator[Any]:
     yield "signature", {**answer, "transaction": str(later), "txid": later.txid()}
 
 
-def check_itself(tally: Tally, answered: Any, transaction: Any, known: Any) -> None:
+def check_itself(tally: Tally, answered: Any, transaction: Any, channel: Channel) -> None:
     """The comparison finds each thing that is wrong, so that it can fail."""
     (*answers, last), status = answered
+    known = channels.outputs_by_program(channel)
     answer = next(it for it in answers if it["answer"] == "taken")
     at = answer["outputs"][0]
     for name, it in spoiled_answers(answer, known[transaction.outputs()[at].scriptpubkey]):
@@ -250,7 +278,7 @@ def check_itself(tally: Tally, answered: Any, transaction: Any, known: Any) -> N
     )
     for it in rows:
         quiet = Tally(is_quiet=True)
-        compare(quiet, "", known, transaction, it)
+        compare(quiet, "", channel, transaction, it)
         tally.check(quiet.differ, "the comparison itself")
 
 
@@ -295,7 +323,7 @@ def watch_changes(
         _, others = compare(
             tally,
             f"{name}, another {part}",
-            channels.outputs_by_program(changed),
+            changed,
             transaction,
             by_call(changed, raw, curve, trace),
         )
@@ -320,22 +348,18 @@ def check_number(tally: Tally, name: str, channel: Channel, raw: str) -> None:
     )
 
 
-def watch(tally: Tally, number: int, curve: AnyCurve, trace: Trace) -> None:
+def watch(tally: Tally, channel: Channel, curve: AnyCurve, trace: Trace) -> None:
     """All that is asked of one channel: its commitment by the program, and with each part changed; its number; each of
     its HTLC transactions, and the first with each part changed.
     """
-    channel = channels.drawn_channel(number)
-    commitment, known, name = (
-        channels.commitment_of(channel),
-        channels.outputs_by_program(channel),
-        f"channel {number}",
-    )
+    number, commitment = channel.number, channels.commitment_of(channel)
+    name = f"channel {number}{' with anchors' * channel.is_anchored}"
     raw = hex_of(commitment, number)
     tally.channels += 1
     answered = by_program(channel, raw)
-    answers, others = compare(tally, name, known, commitment, answered)
-    if number == COMPARED_TWICE:
-        check_itself(tally, answered, commitment, known)
+    answers, others = compare(tally, name, channel, commitment, answered)
+    if number == COMPARED_TWICE and not channel.is_anchored:
+        check_itself(tally, answered, commitment, channel)
     tally.check(not others, f"{name}: Electrum does not know its own outputs {others}")
     tally.add(answers, False)
     check_number(tally, name, channel, raw)
@@ -344,7 +368,7 @@ def watch(tally: Tally, number: int, curve: AnyCurve, trace: Trace) -> None:
         second, where = channels.second_stage_of(channel, commitment, it), f"{name}, HTLC transaction {place}"
         raw = hex_of(second, number)
         answers, others = compare(
-            tally, where, known, second, by_call(channel, raw, curve, trace) if place else by_program(channel, raw)
+            tally, where, channel, second, by_call(channel, raw, curve, trace) if place else by_program(channel, raw)
         )
         tally.check(not others, f"{where}: Electrum does not know its output")
         tally.add(answers, True)
