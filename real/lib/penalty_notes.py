@@ -100,7 +100,8 @@ def hash_notes(state: State, found: list[dict[str, Any]]) -> Iterator[str]:
     kinds = {at: kind for it in found[:-1] for at, kind in zip(it["outputs"], it["kinds"])}
     for given in sorted({it.payment_hash for it in state.htlcs if it.is_offered}):
         count = sum(it.is_offered and it.payment_hash == given for it in state.htlcs)
-        places = sorted(at for at, it in scripts.items() if kinds[at] == "offered" and ripemd160(given) in it)
+        paid = ripemd160(given)
+        places = sorted(at for at, it in scripts.items() if kinds[at] == "offered" and paid in it)
         if len(places) > count:
             yield (
                 f"outputs {', '.join(map(str, places))} are offered HTLCs of one hash, and htlcs has {count} of it: an"
