@@ -460,6 +460,7 @@ def penalties(
     point = curve.public_key(state.secret)
     keys = commitment.keys_of(curve, state.bases, point, is_legacy)
     signing, unused = commitment.private_keys_of(curve, state.bases, privates, state.secret, point, is_legacy)
+    trace.start()
     table = known_outputs(state, keys, spend or Spend())
     takes, others = split_outputs(state, table)
     named = names_of(state, keys, table, others)

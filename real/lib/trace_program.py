@@ -166,6 +166,10 @@ class Trace:
             self.read_listing()
         return [self.listed[it] for it in scripts]
 
+    def start(self) -> None:
+        """Starts the judge, which gets ready while something else is asked."""
+        self.judging = self.judging or Lines(self.program, ["witness", "--lines"], self.note)
+
     def witness(self, transaction: Transaction, spent: Sequence[Output]) -> list[dict[str, Any]]:
         """What becomes of each input of a transaction whose witnesses have tokens."""
         outputs = "".join(f";{it.value} {it.program.hex()}" for it in spent)
@@ -173,7 +177,8 @@ class Trace:
         if self.judging and self.judging.left < len(text):
             self.judging.end()
             self.judging = None
-        self.judging = self.judging or Lines(self.program, ["witness", "--lines"], self.note)
+        self.start()
+        assert self.judging is not None
         self.judging.ask(text)
         found = [self.judging.answer()]
         if "input" not in found[0]:
