@@ -66,7 +66,7 @@ fn tells_what_is_due(rt: HostRuntime) {
     let mut chain = Index::new(rt.alloc()).expect(&rt, "memory");
     let mut known = funded(&rt, rt.alloc(), &mut chain);
     close(&rt, rt.alloc(), &mut chain, &known);
-    let mut sights = Sights::new(rt.alloc());
+    let mut sights = Sights::new(rt.alloc()).expect(&rt, "memory");
     let opened = sights.open(known.terms.funding).is_ok();
     let counted = counts(rt.alloc(), &mut sights, chain.blocks(), &known, &[0, 1, 1]);
     let learnt = known.preimages.extend(&[PREIMAGE]).is_ok();

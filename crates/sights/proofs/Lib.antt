@@ -3,5 +3,6 @@ mod Looked
 mod Reading
 mod Followed
 mod Claimed
-mod Staying
+pub mod Staying
+mod Marked
 mod SightsExamples

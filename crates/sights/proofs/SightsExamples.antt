@@ -4,7 +4,7 @@ use Rattle.tx.specs.declared.input.OutPoint.{OutPoint}
 use Rattle.tx.specs.Fields.{Transaction}
 use Rattle.tx.specs.Spelling.{transaction_id}
 use Rattle.terms.specs.declared.htlcs.Htlc.{Htlc}
-use Rattle.chain.specs.Blocks.{empty_block}
+use Rattle.chain.specs.Blocks.{Contents as Block, empty_block, is_named}
 use Rattle.claim.specs.Claims.{ClaimParts, sequence_of, lock_time_of}
 use Rattle.commit.specs.declared.fees.Direction.TheVariants.{Offered, Received}
 use Rattle.commit.specs.declared.outputs.OutputKind.{OutputKind}
@@ -18,7 +18,8 @@ use Rattle.sights.specs.declared.sighted.Stage.TheVariants.{Close, SecondStage, 
 use Rattle.sights.specs.declared.sighted.Sighted.{Sighted}
 use Rattle.sights.specs.Sights.{stage_after, stage_by_all, read_block, sights_in, up_to, made_at, was_taken}
 use Rattle.sights.specs.Deadlines.{takes_back, ends_on_htlc, ends_at, deadline_of}
-use Rattle.sights.specs.Telling.{fills_at}
+use Rattle.sights.specs.Telling.{fills_at, close_of}
+use Rattle.sights.proofs.Followed.{sights_follow}
 
 -- ---- what is followed
 
@@ -71,6 +72,32 @@ module _ (close : transaction_id (takes (spot 1 0 ∷ []) 3) ≡ 2 ∷ []) (stag
   -- a block's height is the number of those below it
   at_its_height : sights_in fundings (empty_block ∷ record { transactions = takes (spot 1 0 ∷ []) 3 ∷ []; granted = [] } ∷ empty_block ∷ []) ≡ closed
   at_its_height = refl
+
+  -- the chain of a close, with an empty block below it and one above
+  abbrev chain : List Block
+  chain = empty_block ∷ record { transactions = takes (spot 1 0 ∷ []) 3 ∷ []; granted = [] } ∷ empty_block ∷ []
+
+  -- one more channel opens whose funding output no block takes (`sights_follow`)
+  opens : sights_in (spot 8 0 ∷ spot 1 0 ∷ []) chain ≡ sights_in (spot 1 0 ∷ []) chain
+  opens = sights_follow.opening (spot 1 0 ∷ []) (spot 8 0) chain refl
+
+  -- where one takes it, the close is not among what was read
+  opens_late : (is_named chain (spot 1 0) ≡ true) × (sights_in (spot 8 0 ∷ []) chain ≡ []) × (sights_in (spot 1 0 ∷ spot 8 0 ∷ []) chain ≡ closed)
+  opens_late = (refl, refl, refl)
+
+  -- the blocks above height 1 are taken off, and those above 0
+  goes_back : up_to 1 (sights_in fundings chain) ≡ closed
+  goes_back = sights_follow.disconnect fundings (empty_block ∷ []) (record { transactions = takes (spot 1 0 ∷ []) 3 ∷ []; granted = [] }) (empty_block ∷ [])
+
+  goes_further : up_to 0 (sights_in fundings chain) ≡ []
+  goes_further = refl
+
+  -- what closed a channel is found while it stands
+  close_stands : (close_of (spot 1 0) (sights_in fundings chain) ≡ Some (sight 1 Close (takes (spot 1 0 ∷ []) 3))) × (close_of (spot 8 0) (sights_in fundings chain) ≡ None)
+  close_stands = (refl, refl)
+
+  close_is_off : close_of (spot 1 0) (up_to 0 (sights_in fundings chain)) ≡ None
+  close_is_off = refl
 
   -- a close that takes another output too is one still
   closes_beside : stage_by_all fundings [] (takes (spot 9 0 ∷ spot 1 0 ∷ []) 1).inputs ≡ Some Close

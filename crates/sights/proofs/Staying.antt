@@ -40,7 +40,7 @@ same_as : (x y : Option Sighted) (s : Sighted) → x ≡ Some s → option_or x 
 same_as None y s e = absurd (none-some s e)
 same_as (Some z) y s e = e
 
-sighted_later : (id : List ℕ) (old ss : List Sighted) → IsBelow old ss → (s : Sighted) → sighted_as id old ≡ Some s → sighted_as id ss ≡ Some s
+pub sighted_later : (id : List ℕ) (old ss : List Sighted) → IsBelow old ss → (s : Sighted) → sighted_as id old ≡ Some s → sighted_as id ss ≡ Some s
 sighted_later id old ss itself s e = e
 sighted_later id old xs (onto {s} {ss} b) found e = same_as (sighted_as id ss) (if bytes_eq (transaction_id s.tx) id then Some s else None) found (sighted_later id old ss b found e)
 
@@ -84,7 +84,7 @@ each_claimed : (told : List Told) → map (λ x. claimed_by x.claim) told ≡ ma
 each_claimed [] = refl
 each_claimed (x ∷ xs) = ap (λ ys. claimed_by x.claim ∷ ys) (each_claimed xs)
 
-claims_by : (ss : List Sighted) (known : Known) (s : Sighted) (told : List Told) → close_of known.terms.funding ss ≡ Some s → IsTold ss known told → map (λ x. claimed_by x.claim) told ≡ due_of known (verdict_of known s.tx)
+pub claims_by : (ss : List Sighted) (known : Known) (s : Sighted) (told : List Told) → close_of known.terms.funding ss ≡ Some s → IsTold ss known told → map (λ x. claimed_by x.claim) told ≡ due_of known (verdict_of known s.tx)
 claims_by ss known s told at is =
     let by = subst (λ (x : Option Sighted). IsToldIf ss known x told) at is in
     each_claimed told ∙ exact (due_of known (verdict_of known s.tx)) (map (λ x. x.claim) told) by.claims

@@ -25,6 +25,7 @@
 mod deadlines;
 mod fundings;
 pub mod laws;
+mod marks;
 mod origins;
 mod records;
 mod sighted;

@@ -4,6 +4,7 @@ ghost use Rattle.std.specs.Prelude.{◌≡◌};
 ghost use Rattle.sights.specs.Sights.{stage_after, stage_of_several};
 
 use crate::fundings::Fundings;
+use crate::marks::Marks;
 use crate::records::Records;
 use crate::sighted::{Sighted, Stage};
 use crate::telling::{Told, close_in, tell};
@@ -19,14 +20,18 @@ use watch::verdict;
 pub struct Sights {
     fundings: Fundings,
     records: Records,
+    marks: Marks,
 }
 
 impl Model for Sights {
     ghost use Rattle.sights.specs.Sights.{Reading};
+    ghost use Rattle.sights.specs.Marks.{AreMarked};
 
     ghost Value = { Reading };
 
     ghost view = { λ s. record { fundings = s.fundings; sighted = s.records } };
+
+    ghost invariant = { λ s. AreMarked s.marks.first.items s.marks.second.items s.fundings s.records };
 }
 
 // The stage of what takes an output of a transaction of this stage by its one input.
@@ -55,19 +60,21 @@ fn stage_of_several(closes: bool, follows: bool) -> Option<Stage>
 }
 
 impl Sights {
-    ghost use Rattle.std.specs.Prelude.{◌≡◌, [], ◌∷◌, reverse, IfOk, OnOk, OnErr};
+    ghost use Rattle.std.specs.Prelude.{◌≡◌, [], ◌∷◌, reverse, option_map, IfOk, OnOk, OnErr};
     ghost use Rattle.std.specs.List.{list_any};
     ghost use Rattle.sights.specs.Sights.{stage_by, is_close, is_there, stage_by_all, read_one, read_block, up_to, made_at};
-    ghost use Rattle.sights.specs.Telling.{IsTold};
+    ghost use Rattle.sights.specs.Telling.{close_of, IsTold};
 
-    /// Nothing read, for no channel. Does not allocate.
-    pub fn new(alloc: Global) -> Sights
-        ensures { result ≡ record { fundings = []; sighted = [] } }
+    /// Nothing read, for no channel. The only error is that memory ran out.
+    #[tactic(auto, using(crate::proofs::Marked::nothing_marked))]
+    pub fn new(alloc: Global) -> Result<Sights, AllocError>
+        ensures { IfOk result (λ s. s ≡ record { fundings = []; sighted = [] }) }
     {
-        Sights {
+        Ok(Sights {
+            marks: Marks::new(alloc)?,
             fundings: Fundings::new(alloc),
             records: Records::new(alloc),
-        }
+        })
     }
 
     /// Reads for one more channel from now on, by its funding output, which no block that was read may take (`laws::sights_follow`). The only error is that memory ran out, which leaves the sights as they were.
@@ -76,6 +83,7 @@ impl Sights {
             ≡ record self.old { fundings = funding ∷ self.old.fundings }) }
         ensures err { OnErr result (self.new ≡ self.old) }
     {
+        self.marks.mark(&funding.txid);
         self.fundings.push(funding)
     }
 
@@ -83,6 +91,9 @@ impl Sights {
     fn stage_by(&self, input: &TxIn) -> Option<Stage>
         ensures { result ≡ stage_by self.now.fundings self.now.sighted input.now }
     {
+        if !self.marks.has(&input.outpoint.txid) {
+            return None;
+        }
         if self.fundings.has(&input.outpoint) {
             return Some(Stage::Close);
         }
@@ -134,7 +145,10 @@ impl Sights {
         ensures err { OnErr result (self.new ≡ self.old) }
     {
         match self.stage_by_all(confirmed.tx().inputs()) {
-            Some(stage) => self.records.push(height, stage, confirmed),
+            Some(stage) => {
+                self.marks.mark(confirmed.id());
+                self.records.push(height, stage, confirmed)
+            }
             None => Ok(()),
         }
     }
@@ -175,6 +189,13 @@ impl Sights {
         ensures { result ≡ made_at outpoint.now self.now.sighted }
     {
         self.records.made_at(outpoint)
+    }
+
+    /// The transaction that takes a funding output; `None` where none was read.
+    pub fn close(&self, funding: &OutPoint) -> Option<&Sighted>
+        ensures { option_map (λ s. s.now) result ≡ close_of funding.now self.now.sighted }
+    {
+        close_in(funding, self.records.values())
     }
 
     /// What is told of a channel by what is known of it: each claim that is due by the transaction that closed it, in order, and nothing where none was read. The only error is that memory ran out.

@@ -1,6 +1,7 @@
-use Rattle.std.proofs.Common.{length, refl, ap, ◌∙◌, arith}
+use Rattle.std.proofs.Common.{length, refl, sym, ap, ◌∙◌, subst, arith}
 use Rattle.sights.specs.Sights.{Reading}
-use Rattle.sights.proofs.Reading.{itself, read_next, next_below, gone_back}
+use Rattle.sights.proofs.Reading.{IsBelow, itself, read_next, next_below, gone_back}
+use Rattle.sights.proofs.Marked.{fewer, oldest_below}
 use Rattle.sights.proofs.sights.Sights.block.Goals as goal
 
 pub loop-confirmed-init : goal.loop-confirmed-init
@@ -18,3 +19,9 @@ returns-in-Err-clause-err c =
     gone_back c.args.self.now c.loop-confirmed.self c.self-in-loop-confirmed.inside.fundings c.self-in-loop-confirmed.inside.records c.keep.new.self c.len-count.result
     (c.self-in-loop-confirmed.view_is ∙ c.in-Err.ensures.err) (ap (λ (r : Reading). r.fundings) c.loop-confirmed.invariant.read) c.loop-confirmed.invariant.below
     (c.len-count.ensures ∙ ap (λ (r : Reading). length r.sighted) c.self.view_is) c.keep.ensures
+
+pub invariant_of-self : goal.invariant_of-self
+invariant_of-self c =
+    let old = c.self-in-loop-confirmed.inside in
+    fewer old.marks.first.items old.marks.second.items old.fundings c.keep.new.self old.records
+    (subst (λ xs. IsBelow xs old.records) (sym c.keep.ensures) (oldest_below c.len-count.result old.records)) c.self-in-loop-confirmed.invariant
