@@ -416,21 +416,30 @@ def rounds_ends():
     }
     claims = {name: [it.value for it in k.outputs if name == "revoked" or it.kind != "ToLocal"] for name, k in ends.items()}
     claims["own"] = [it.value for it in ends["own"].outputs if it.kind == "ToLocal"] + [tx.outputs[0][0] for tx in ends["own"].stages.values()]
-    return {**{f"{name}_claims": sorted(it) for name, it in claims.items()}, **{f"{name}_begins": [k.tx.txid()[0]] for name, k in ends.items()}}
+    return {**{f"{name}_claims": sorted(it) for name, it in claims.items()}, **{f"{name}_begins": [k.tx.txid()[0]] for name, k in ends.items()}, **rounds_own(channel, ends["own"])}
+
+
+def rounds_own(channel, own):
+    """The node's own commitment: its id, the first bytes of the other ids on its chain, and the second bytes of the keys in the witnesses there."""
+    stages = {own.outputs[at].htlc.byte: tx.txid()[0] for at, tx in own.stages.items()}
+    firsts = {"ours": stages[7], "theirs": stages[8], "more": stages[9], "grant": Channel(0, 0x10, 0x20).grant[0], "opens": channel.grant[0], "own_id": own.tx.txid()[0], "revocation": hash160(own.keys["revocation"])[0]}
+    seconds = {"remote": own.keys["remote_htlc"], "local": own.keys["local_htlc"], "revocation": own.keys["revocation"], "funding": channel.bases["A"]["funding"]}
+    return {"own_id": list(own.tx.txid()), **{f"{name}_begins": [n] for name, n in firsts.items()}, **{f"{name}_second": [it[1]] for name, it in seconds.items()}}
 
 
 def rounds_facts():
     """The same as the facts say it."""
-    found = {}
-    for file, form in (("RoundsWorth", r"^(\w+_claims) : .* ≡ ([\d +]+)$"), ("RoundsChains", r"^((?!grant|opens)\w+_begins) : .* ≡ (0x[0-9a-f]{2})$")):
+    found, byte = {}, r"^(?:pub )?(\w+_(?:begins|second)) : get_or .* ≡ (0x[0-9a-f]{2})$"
+    forms = [("RoundsWorth", r"^(\w+_claims) : .* ≡ ([\d +]+)$")] + [(f"Rounds{it}", byte) for it in ("Chains", "Releases", "Stages", "Own")]
+    for file, form in forms:
         with open(f"{TOP}/crates/book_laws/proofs/{file}.antt", encoding="utf-8") as it:
             found.update({name: sorted(int(n, 0) for n in row.split(" + ")) for name, row in re.findall(form, it.read(), re.M)})
-    return found
+    return {**found, "own_id": file_tables("RoundsChains", f"{TOP}/crates/book_laws/proofs")["own_id"]}
 
 
-def file_tables(file):
+def file_tables(file, folder=PROOFS):
     """The tables that stand in a file, by their names."""
-    with open(f"{PROOFS}/{file}.antt", encoding="utf-8") as it:
+    with open(f"{folder}/{file}.antt", encoding="utf-8") as it:
         text = it.read()
     numbers = r"((?:0x[0-9a-f]+\s*∷\s*)+\[\])"
     found = {name: row for name, row in re.findall(rf"^abbrev (?:pub )?(\w+) : List ℕ\n\1 =\s*{numbers}\n", text, re.M)}

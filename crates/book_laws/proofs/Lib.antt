@@ -16,4 +16,7 @@ pub mod RoundsExamples
 mod RoundsWorth
 pub mod RoundsTokens
 pub mod RoundsChains
-mod RoundsEnds
+pub mod RoundsReleases
+pub mod RoundsStages
+pub mod RoundsEnds
+mod RoundsOwn

@@ -21,7 +21,7 @@ use Rattle.chain.specs.Checks.{coin_refusal, input_refusal, transaction_refusal}
 use Rattle.chain.specs.Checked.{is_checked}
 use Rattle.terms.specs.Numbers.{mask_of}
 use Rattle.terms.specs.Scripts.{number_push}
-use Rattle.commit.specs.Commitments.{Contents, commitment_of, tx_output, transaction_of}
+use Rattle.commit.specs.Commitments.{Contents, commitment_of, tx_output, transaction_of, id_of}
 use Rattle.commit.specs.Keys.{keys_of}
 use Rattle.commit.specs.Order.{output_cmp, in_order}
 use Rattle.commit.specs.Outputs.{to_local_script, to_remote_script, htlc_script, outputs_of}
@@ -45,7 +45,7 @@ use Rattle.safety.proofs.Handed.{commitment_signable}
 use Rattle.safety.proofs.Newest.{unrefused}
 use Rattle.script.specs.Spelling.{spelling}
 use Rattle.terms.specs.Scripts.{funding}
-use Rattle.book_laws.proofs.RoundsExamples.{seed, signed_3, bases, their_bases, opens_input, opens, funding_out, terms, offered, revoked_0, offered_more, received_3}
+use Rattle.book_laws.proofs.RoundsExamples.{seed, signed_3, bases, their_bases, opens_input, opens, opens_length, funding_out, terms, offered, revoked_0, offered_more, received_3, same}
 
 -- ---- the transactions and their blocks
 
@@ -70,17 +70,14 @@ closed_by k = block (closing k ∷ []) ∷ until_1
 
 -- ---- the ids differ, by their first bytes
 
-differ : (xs ys : List ℕ) (m n : ℕ) → get_or xs 0 0 ≡ m → get_or ys 0 0 ≡ n → m ≢ n → bytes_eq xs ys ≡ false
+pub differ : (xs ys : List ℕ) (m n : ℕ) → get_or xs 0 0 ≡ m → get_or ys 0 0 ≡ n → m ≢ n → bytes_eq xs ys ≡ false
 differ xs ys m n e f other = false_from_ne_true (bytes_eq xs ys) (λ t. other (sym e ∙ ap (λ bs. get_or bs 0 0) ((bytes_eq-Decides xs ys).0 t) ∙ f))
 
-pub same : (bytes : List ℕ) → bytes_eq bytes bytes ≡ true
-same bytes = (bytes_eq-Decides bytes bytes).1 refl
-
-grant_begins : get_or (grant_id 0) 0 0 ≡ 0x0f
+pub grant_begins : get_or (grant_id 0) 0 0 ≡ 0x0f
 unfolding sha256 digest_bytes hash_after compress rounds schedule first_words number grant_id
 grant_begins = refl
 
-opens_begins : get_or (transaction_id opens) 0 0 ≡ 0x2c
+pub opens_begins : get_or (transaction_id opens) 0 0 ≡ 0x2c
 unfolding sha256 digest_bytes hash_after compress rounds schedule first_words number compact_size bytes_with_length outpoint input output body stripped_spelling transaction_id script_hash_program point_of seed_secret grant_id
 opens_begins = refl
 
@@ -134,10 +131,6 @@ module _ (spend : CommitmentsSpend) (k : CommitmentState) (new : bytes_eq (trans
 
 -- ---- the limits of transactions, and the grant
 
-pub opens_length : length (transaction_id opens) ≡ 32
-unfolding transaction_id
-opens_length = length-sha256 _
-
 grant_length : length (grant_id 0) ≡ 32
 unfolding grant_id
 grant_length = length-sha256 _
@@ -159,7 +152,7 @@ opens_fits = record {
 }
 
 -- tokens and the funding script are short
-token_fits : (key : Key) (digest : List ℕ) → length digest ≡ 32 → IsBounded (token_of key.bytes digest)
+pub token_fits : (key : Key) (digest : List ℕ) → length digest ≡ 32 → IsBounded (token_of key.bytes digest)
 token_fits key digest e = let l = token-length key.bytes digest e in let m = key-length key.bytes key.form in omega (arith, l, m)
 
 digest_length : (c : Contents) → length (commitment_digest terms c) ≡ 32
@@ -248,28 +241,38 @@ next_alone = differ (transaction_id (closing next)) (grant_id 0) 0xf6 0x0f next_
 abbrev pub own : CommitmentState
 own = own_next signed_3
 
-abbrev own_secret : List ℕ
+abbrev pub own_secret : List ℕ
 own_secret = 0x86 ∷ 0xab ∷ 0x32 ∷ 0x7f ∷ 0xde ∷ 0xfe ∷ 0x07 ∷ 0xf3 ∷ 0x6f ∷ 0xa3 ∷ 0xf2 ∷ 0xc0 ∷ 0xbf ∷ 0xad ∷ 0xf9 ∷ 0x26 ∷ 0xf2 ∷ 0x98 ∷ 0x59 ∷ 0x4c ∷ 0x4d ∷ 0x38 ∷ 0x63 ∷ 0x0f ∷ 0xe5 ∷ 0x7f ∷ 0x0f ∷ 0x72 ∷ 0x1e ∷ 0x39 ∷ 0x4d ∷ 0x3a ∷ []
 
-own_secret_is : secret_at seed 3 ≡ own_secret
+pub own_secret_is : secret_at seed 3 ≡ own_secret
 unfolding sha256 digest_bytes hash_after compress rounds schedule first_words seed_secret flipped derived_secret index_of secret_at
 own_secret_is = refl
 
-closing_own : (transaction_of (commitment_of terms own.view A 3 (point_of own_secret))) ≡ transaction_of (contents_of terms own)
+closing_own : transaction_of (commitment_of terms own.view A 3 (point_of own_secret)) ≡ transaction_of (contents_of terms own)
 closing_own = ap (λ (s : List ℕ). transaction_of (commitment_of terms own.view A 3 (point_of s))) (sym own_secret_is)
 
--- its id without its witness, by that secret
-own_begins_by : get_or (transaction_id (transaction_of (commitment_of terms own.view A 3 (point_of own_secret)))) 0 0 ≡ 0x11
-unfolding sha256 digest_bytes hash_after compress rounds schedule first_words ripemd160 left_words right_words left_rotations right_rotations left_constants right_constants block_words left_line right_line blocks ripemd_compress ripemd_hash_after ripemd_digest_bytes digits minimal_bytes_of number compact_size bytes_with_length outpoint input output body stripped_spelling transaction_id key_hash_program script_hash_program point_of derived_key revocation_key seed_secret mask_of number_push grant_id keys_of output_cmp in_order to_local_script to_remote_script htlc_script outputs_of commitment_of transaction_of
-own_begins_by = refl
+-- its id, by that secret
+abbrev pub own_id : List ℕ
+own_id = 0x11 ∷ 0x10 ∷ 0x08 ∷ 0xe6 ∷ 0x38 ∷ 0x06 ∷ 0x4f ∷ 0x15 ∷ 0x0a ∷ 0xce ∷ 0x8c ∷ 0xad ∷ 0x78 ∷ 0xce ∷ 0xe1 ∷ 0xa1 ∷ 0xc5 ∷ 0x47 ∷ 0xac ∷ 0x61 ∷ 0x3c ∷ 0xb4 ∷ 0x75 ∷ 0xe3 ∷ 0x81 ∷ 0x7d ∷ 0xb7 ∷ 0x56 ∷ 0xa2 ∷ 0x9d ∷ 0xdc ∷ 0xda ∷ []
 
-unsigned_id : (t : Transaction) (items : List (List ℕ)) (i : TxIn) → t.inputs ≡ i ∷ [] → transaction_id (transaction_with_witness t 0 items) ≡ transaction_id t
+own_id_by : transaction_id (transaction_of (commitment_of terms own.view A 3 (point_of own_secret))) ≡ own_id
+unfolding sha256 digest_bytes hash_after compress rounds schedule first_words ripemd160 left_words right_words left_rotations right_rotations left_constants right_constants block_words left_line right_line blocks ripemd_compress ripemd_hash_after ripemd_digest_bytes digits minimal_bytes_of number compact_size bytes_with_length outpoint input output body stripped_spelling transaction_id key_hash_program script_hash_program point_of derived_key revocation_key seed_secret mask_of number_push grant_id keys_of output_cmp in_order to_local_script to_remote_script htlc_script outputs_of commitment_of transaction_of
+own_id_by = refl
+
+pub own_id_is : id_of (contents_of terms own) ≡ own_id
+own_id_is = ap (λ (t : Transaction). transaction_id t) (sym closing_own) ∙ own_id_by
+
+-- a witness changes no id
+pub unsigned_id : (t : Transaction) (items : List (List ℕ)) (i : TxIn) → t.inputs ≡ i ∷ [] → transaction_id (transaction_with_witness t 0 items) ≡ transaction_id t
 unfolding transaction_id stripped_spelling body input
 unsigned_id t items i e = rw e refl
 
-own_begins : get_or (transaction_id (closing own)) 0 0 ≡ 0x11
+pub own_closing_id : transaction_id (closing own) ≡ id_of (contents_of terms own)
 unfolding transaction_of
-own_begins = ap (λ (id : List ℕ). get_or id 0 0) (unsigned_id (transaction_of (contents_of terms own)) (funding_witness terms (contents_of terms own)) _ refl) ∙ ap (λ (t : Transaction). get_or (transaction_id t) 0 0) (sym closing_own) ∙ own_begins_by
+own_closing_id = unsigned_id (transaction_of (contents_of terms own)) (funding_witness terms (contents_of terms own)) _ refl
+
+pub own_begins : get_or (transaction_id (closing own)) 0 0 ≡ 0x11
+own_begins = ap (λ (id : List ℕ). get_or id 0 0) (own_closing_id ∙ own_id_is)
 
 own_less : nat_le (paid_out (map tx_output (contents_of terms own).outputs)) 100000 ≡ true
 unfolding commitment_of outputs_of in_order output_cmp

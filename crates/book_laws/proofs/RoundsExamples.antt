@@ -269,17 +269,13 @@ history =
     ∷ entry 2 (Stepping 0 (Peer (CommitmentSigned tokens_3)))
     ∷ []
 
--- at the end the node closes the channel with its commitment 3
-abbrev pub closed_history : List Entry
-closed_history = history ++ entry 1 (Close 0) ∷ []
-
 abbrev pub book : Option ℕ → ChannelBook
 book closed = record { state = received_3; kept = 0 ∷ 1 ∷ []; closed = closed }
 
-pub there : (replay history ≡ book None ∷ []) × (replay closed_history ≡ book (Some 3) ∷ [])
-there = (refl, refl)
+pub there : replay history ≡ book None ∷ []
+there = refl
 
-same : (bytes : List ℕ) → bytes_eq bytes bytes ≡ true
+pub same : (bytes : List ℕ) → bytes_eq bytes bytes ≡ true
 same bytes = (bytes_eq-Decides bytes bytes).1 refl
 
 -- the second secret leads to the first
@@ -301,12 +297,9 @@ taken law = rw (
   second_set law,
 ) refl
 
-opens_length : length (transaction_id opens) ≡ 32
+pub opens_length : length (transaction_id opens) ≡ 32
 unfolding transaction_id
 opens_length = length-sha256 _
-
-pub taken_too : PenaltySetsAreExact → all_accepted peer_tokens closed_history ≡ true
-taken_too law = taken law
 
 -- yes: IsCareful
 pub careful : AcceptedMeans → PenaltySetsAreExact → IsCareful history 0 (book None)
@@ -314,16 +307,6 @@ careful law sets = record {
   called = (law.accepted_exactly peer_tokens history).1 (taken sets);
   there = refl;
   cares = (tt, ((λ e. lit< tt), (tt, (tt, (tt, (tt, (tt, (tt, (tt, (tt, (tt, ((λ e. lit< tt), (tt, (tt, (tt, tt)))))))))))))));
-  due = tt;
-  funding = record { txid = opens_length; index = lit< tt };
-}
-
--- yes: IsCareful
-pub careful_too : AcceptedMeans → PenaltySetsAreExact → IsCareful closed_history 0 (book (Some 3))
-careful_too law sets = record {
-  called = (law.accepted_exactly peer_tokens closed_history).1 (taken_too sets);
-  there = refl;
-  cares = (tt, ((λ e. lit< tt), (tt, (tt, (tt, (tt, (tt, (tt, (tt, (tt, (tt, ((λ e. lit< tt), (tt, (tt, (tt, (tt, tt))))))))))))))));
   due = tt;
   funding = record { txid = opens_length; index = lit< tt };
 }

@@ -1,10 +1,13 @@
--- The tokens on a chain that one commitment closed: of the node's keys, only one that it gave out stands there. The node's keys begin with 2 and the peer's funding key with 3, so no hash is computed.
-use Rattle.std.proofs.Common.{◌≡◌, ℕ, ◌==◌, ◌||◌, Bool, true, false, not, List, [], ◌∷◌, refl, sym, ap, ◌∙◌}
+-- The tokens on a chain that one commitment closed: of the node's keys, only those that it gave out stand there. The node's keys begin with 2 and the peer's funding key with 3; any other key is told by its second byte.
+use Rattle.std.proofs.Common.{◌≡◌, ◌≢◌, ℕ, ◌==◌, ◌||◌, ◌&&◌, Bool, true, false, not, List, [], ◌∷◌, ◌++◌, get_or, refl, sym, ap, ◌∙◌, arith}
 use Rattle.std.specs.List.{list_all}
 use Rattle.std.specs.Str.{bytes_eq}
-use Rattle.std.proofs.lemmas.Bool.{true≢false, and_parts, or_right, false_from_ne_true}
+use Rattle.std.proofs.Math.ListN.{get_or-append}
+use Rattle.std.proofs.lemmas.Bool.{true≢false, and_parts, or_right, false_from_ne_true, eq-eqb}
 use Rattle.std.proofs.lemmas.Slice.Eq.{bytes_eq-Decides}
 use Rattle.script.specs.Token.{token_of}
+use Rattle.keys.specs.declared.compressed.Key.{Key}
+use Rattle.claim.proofs.TokenForms.{key-length}
 use Rattle.tx.specs.declared.input.TxIn.{TxIn}
 use Rattle.tx.specs.Fields.{Transaction, same_outpoint}
 use Rattle.safety.specs.Premises.{LockedOutput, spend, if_named, each_spend, has_item, shows_given}
@@ -64,3 +67,55 @@ whatever_is_named test [] t input holds = refl
 whatever_is_named test (w ∷ ws) t input holds =
     both (if_named (same_outpoint input.outpoint w.place.outpoint) (test input.witness) w t input) (each_spend test ws t input)
     (named_or_not (same_outpoint input.outpoint w.place.outpoint) (test input.witness) w t input holds) (whatever_is_named test ws t input holds)
+
+-- ---- keys that differ in their second byte
+
+pub second_of : (key : Key) (d : List ℕ) → get_or (token_of key.bytes d) 1 0 ≡ get_or key.bytes 1 0
+unfolding token_of
+second_of key d = let l = key-length key.bytes key.form in get_or-append key.bytes (d ++ 1 ∷ []) 0 1 (omega (arith, l))
+
+-- their tokens differ, whatever they are over
+pub other_key : (a b : Key) (m n : ℕ) → get_or a.bytes 1 0 ≡ m → get_or b.bytes 1 0 ≡ n → m ≢ n → (d e : List ℕ) → bytes_eq (token_of a.bytes d) (token_of b.bytes e) ≡ false
+other_key a b m n f g apart d e =
+    false_from_ne_true (bytes_eq (token_of a.bytes d) (token_of b.bytes e))
+    (λ t. apart (sym f ∙ sym (second_of a d) ∙ ap (λ (bs : List ℕ). get_or bs 1 0) ((bytes_eq-Decides (token_of a.bytes d) (token_of b.bytes e)).0 t) ∙ second_of b e ∙ g))
+
+-- whether bytes begin with 2 and another byte than this one
+abbrev pub has_other_second : ℕ → List ℕ → Bool
+has_other_second n [] = false
+has_other_second n (b ∷ []) = false
+has_other_second n (b ∷ s ∷ bs) = b == 2 && not (s == n)
+
+begins_so : (n : ℕ) (key : List ℕ) → has_other_second n key ≡ true → begins_two key ≡ true
+begins_so n [] e = e
+begins_so n (b ∷ []) e = absurd (true≢false (sym e))
+begins_so n (b ∷ s ∷ bs) e = (and_parts (b == 2) (not (s == n)) e).0
+
+other_second : (item : List ℕ) (n : ℕ) → get_or item 1 0 ≡ n → (key d : List ℕ) → has_other_second n key ≡ true → bytes_eq item (token_of key d) ≡ false
+unfolding token_of
+other_second item n is [] d e = absurd (true≢false (sym e))
+other_second item n is (b ∷ []) d e = absurd (true≢false (sym e))
+other_second item n is (b ∷ s ∷ bs) d e =
+    false_from_ne_true (bytes_eq item (token_of (b ∷ s ∷ bs) d))
+    (λ t.
+    let same : n ≡ s = sym is ∙ ap (λ (xs : List ℕ). get_or xs 1 0) ((bytes_eq-Decides item (token_of (b ∷ s ∷ bs) d)).0 t) in
+    true≢false (sym (and_parts (b == 2) (not (s == n)) e).1 ∙ ap not (eq-eqb s n (sym same))))
+
+-- of an HTLC transaction, with a token that was given and the peer's, whose key has this second byte
+stage_one : (given : List (List ℕ)) (theirs mine item script : List ℕ) (n : ℕ) → get_or theirs 1 0 ≡ n → begins_two item ≡ false → begins_two script ≡ false → has_item given mine ≡ true
+    → (key d : List ℕ) → has_other_second n key ≡ true → (not (has_item ([] ∷ theirs ∷ mine ∷ item ∷ script ∷ []) (token_of key d)) || has_item given (token_of key d)) ≡ true
+stage_one given theirs mine item script n is unlike none there key d other = by (bytes_eq mine (token_of key d)) refl
+  where
+    by : (t : Bool) → bytes_eq mine (token_of key d) ≡ t → (not (has_item ([] ∷ theirs ∷ mine ∷ item ∷ script ∷ []) (token_of key d)) || has_item given (token_of key d)) ≡ true
+    by true e = or_right (not (has_item ([] ∷ theirs ∷ mine ∷ item ∷ script ∷ []) (token_of key d))) (has_item given (token_of key d)) (ap (has_item given) (sym ((bytes_eq-Decides mine (token_of key d)).0 e)) ∙ there)
+    by false e =
+        let two = begins_so n key other in
+        rw (other_item [] key d refl two, other_second theirs n is key d other, e, other_item item key d unlike two, other_item script key d none two) refl
+
+pub stage_given : (given keys : List (List ℕ)) (theirs mine item script d : List ℕ) (n : ℕ) → get_or theirs 1 0 ≡ n → begins_two item ≡ false → begins_two script ≡ false → has_item given mine ≡ true
+    → list_all (has_other_second n) keys ≡ true → shows_given given keys ([] ∷ theirs ∷ mine ∷ item ∷ script ∷ []) d ≡ true
+stage_given given [] theirs mine item script d n is unlike none there other = refl
+stage_given given (key ∷ keys) theirs mine item script d n is unlike none there other =
+    let parts = and_parts (has_other_second n key) (list_all (has_other_second n) keys) other in
+    both (not (has_item ([] ∷ theirs ∷ mine ∷ item ∷ script ∷ []) (token_of key d)) || has_item given (token_of key d)) (shows_given given keys ([] ∷ theirs ∷ mine ∷ item ∷ script ∷ []) d)
+    (stage_one given theirs mine item script n is unlike none there key d parts.0) (stage_given given keys theirs mine item script d n is unlike none there parts.1)
