@@ -11,6 +11,7 @@ use Rattle.tx.specs.declared.input.TxIn.{TxIn}
 use Rattle.tx.specs.Fields.{Transaction}
 use Rattle.chain.specs.Blocks.{Contents as Block, Coin, coin_at}
 use Rattle.terms.specs.declared.sides.Side.{Side}
+use Rattle.terms.specs.declared.agreement.Terms.{Terms}
 use Rattle.terms.specs.Agreement.{party}
 use Rattle.commit.specs.declared.fees.Direction.TheVariants.{Offered, Received}
 use Rattle.commit.specs.declared.outputs.HtlcOutput.{HtlcOutput}
@@ -24,11 +25,11 @@ use Rattle.safety.specs.Signing.{Signed}
 use Rattle.safety.specs.Spending.{ItemCollides}
 use Rattle.safety.specs.Whereabouts.{IsNamedBy, IsCoinOf}
 use Rattle.safety.specs.Holdings.{Holding, terms_in, peer_in}
-use Rattle.safety.specs.Breaks.{IsSpendOn, IsHashOfItem, Breaks, by_ids, by_keys, by_script, by_key, by_digest, by_preimage}
+use Rattle.safety.specs.Breaks.{IsSpendOn, IsPaymentHash, IsHashOfItem, Breaks, by_ids, by_keys, by_script, by_key, by_digest, by_preimage}
 use Rattle.safety.specs.Resolutions.{WasReleased, Resolution, unspent, ours, lost, broken, ShowsPreimage, IsOnHtlc, IsPaidOrLate, paid, late}
 use Rattle.safety.proofs.Lists.{contains_none}
 use Rattle.safety.proofs.Places.{contains_one}
-use Rattle.balance_laws.specs.OwnBreaks.{IsOwnNewest, IsHashedForHtlcKey, IsOwnPaymentHash, OwnBreaks, by_breaks, by_htlc_keys, by_revocation_key, by_own_preimage}
+use Rattle.balance_laws.specs.OwnBreaks.{IsOwnNewest, IsHashedForHtlcKey, IsForOwn, OwnBreaks, by_breaks, by_htlc_keys, by_revocation_key, by_own_preimage}
 use Rattle.balance_laws.specs.Own.{KeepsOwnRules}
 use Rattle.balance_laws.specs.Times.{IsTakenBelow, DelayIsKept, ExpiryIsKept, IsPaid}
 
@@ -47,13 +48,13 @@ module _ (hs : List Holding) (h : Holding) (k m : CommitmentState) (mine : h.sta
   first_is_older : k ≢ m → IsOwnNewest hs h k → ⊥
   first_is_older n o = n (same_Some k m (sym o.recorded ∙ at_number))
 
-  -- yes: IsHashedForHtlcKey
-  with_htlc_base : Contains hs h → (side : Side) → IsHashedForHtlcKey hs (codes "derive" ++ (party side (terms_in h)).bases.htlc.bytes ++ m.point.bytes)
-  with_htlc_base i side = record { holding = h; commitment = m; newest = second_is_newest i; side = side; is = refl }
+  -- yes: IsForOwn, IsHashedForHtlcKey
+  with_htlc_base : Contains hs h → (side : Side) → IsForOwn IsHashedForHtlcKey hs (codes "derive" ++ (party side (terms_in h)).bases.htlc.bytes ++ m.point.bytes)
+  with_htlc_base i side = record { holding = h; commitment = m; newest = second_is_newest i; is = (side, refl) }
 
-  -- yes: IsOwnPaymentHash
-  hash_of_one : Contains hs h → (x : HtlcOutput) → Contains (htlcs_of (contents_of (terms_in h) m)) x → IsOwnPaymentHash hs x.htlc.hash
-  hash_of_one i x j = record { holding = h; commitment = m; newest = second_is_newest i; htlc = x; among = j; is = refl }
+  -- yes: IsForOwn
+  hash_of_one : Contains hs h → (x : HtlcOutput) → Contains (htlcs_of (contents_of (terms_in h) m)) x → IsForOwn IsPaymentHash hs x.htlc.hash
+  hash_of_one i x j = record { holding = h; commitment = m; newest = second_is_newest i; is = (x, j, refl) }
 
   -- its one HTLC, of the node's one channel
   module _ (one : hs ≡ h ∷ []) (x : HtlcOutput) (only : htlcs_of (contents_of (terms_in h) m) ≡ x ∷ []) where
@@ -64,12 +65,12 @@ module _ (hs : List Holding) (h : Holding) (k m : CommitmentState) (mine : h.sta
         ap (λ (f : Holding). htlcs_of (contents_of (terms_in f) c)) e ∙ ap (λ (d : CommitmentState). htlcs_of (contents_of (terms_in h) d)) same ∙ only in
         contains_one x y (subst (λ (ys : List HtlcOutput). Contains ys y) all i)
 
-    -- no: IsOwnPaymentHash
-    another_hash : (hash : List ℕ) → hash ≢ x.htlc.hash → IsOwnPaymentHash hs hash → ⊥
+    -- no: IsForOwn
+    another_hash : (hash : List ℕ) → hash ≢ x.htlc.hash → IsForOwn IsPaymentHash hs hash → ⊥
     another_hash hash n p =
         let e : p.holding ≡ h = contains_one h p.holding (subst (λ (gs : List Holding). Contains gs p.holding) one p.newest.held) in
-        let is = is_only p.holding e p.commitment p.newest.recorded p.htlc p.among in
-        n (p.is ∙ ap (λ (y : HtlcOutput). y.htlc.hash) is)
+        let is = is_only p.holding e p.commitment p.newest.recorded p.is.0 p.is.1 in
+        n (p.is.2 ∙ ap (λ (y : HtlcOutput). y.htlc.hash) is)
 
 -- no: IsOwnNewest
 of_no_channel : (h : Holding) (k : CommitmentState) → IsOwnNewest [] h k → ⊥
@@ -81,11 +82,11 @@ first_byte (b ∷ bs) = b
 
 -- what is hashed for a revocation key begins with another tag
 -- no: IsHashedForHtlcKey
-with_another_tag : (hs : List Holding) (rest : List ℕ) → IsHashedForHtlcKey hs (codes "revoke" ++ rest) → ⊥
-with_another_tag hs rest k = let f : 0x72 ≡ 0x64 = ap first_byte k.is in omega (arith, f)
+with_another_tag : (terms : Terms) (k : CommitmentState) (rest : List ℕ) → IsHashedForHtlcKey terms k (codes "revoke" ++ rest) → ⊥
+with_another_tag terms k rest s = let f : 0x72 ≡ 0x64 = ap first_byte s.1 in omega (arith, f)
 
--- no: IsOwnPaymentHash
-hash_of_none : (hash : List ℕ) → IsOwnPaymentHash [] hash → ⊥
+-- no: IsForOwn
+hash_of_none : (hash : List ℕ) → IsForOwn IsPaymentHash [] hash → ⊥
 hash_of_none hash p = of_no_channel p.holding p.commitment p.newest
 
 -- ---- what is broken
@@ -95,7 +96,7 @@ of_peers : (hs : List Holding) (blocks : List Block) → Breaks hs blocks → Ow
 of_peers hs blocks z = by_breaks z
 
 -- yes: OwnBreaks
-of_htlc_keys : (hs : List Holding) (blocks : List Block) (a b : List ℕ) → IsHashedForHtlcKey hs a → IsHashedForHtlcKey hs b → Collide sha256 a b → OwnBreaks hs blocks
+of_htlc_keys : (hs : List Holding) (blocks : List Block) (a b : List ℕ) → IsForOwn IsHashedForHtlcKey hs a → IsForOwn IsHashedForHtlcKey hs b → Collide sha256 a b → OwnBreaks hs blocks
 of_htlc_keys hs blocks a b i j c = by_htlc_keys (record { first = a; second = b; of_first = i; of_second = j; collide = c })
 
 nothing_spent : (blocks : List Block) (s : Signed) → IsSpendOn [] blocks s → ⊥
@@ -122,14 +123,14 @@ module _ (hs : List Holding) (blocks : List Block) where
   item_for_revocation_key s on h k n c = by_revocation_key s on h k n c
 
   -- yes: OwnBreaks
-  hash_for_payment_hash : (s : Signed) → IsSpendOn hs blocks s → (item hash : List ℕ) → Contains s.input.witness item → IsOwnPaymentHash hs hash → Collide ripemd160 (sha256 item) hash → OwnBreaks hs blocks
+  hash_for_payment_hash : (s : Signed) → IsSpendOn hs blocks s → (item hash : List ℕ) → Contains s.input.witness item → IsForOwn IsPaymentHash hs hash → Collide ripemd160 (sha256 item) hash → OwnBreaks hs blocks
   hash_for_payment_hash s on item hash i p c = by_own_preimage s on (record { first = sha256 item; second = hash; of_first = (item, i, refl); of_second = p; collide = c })
 
   -- a witness shows the revocation key itself, and the very preimage; both HTLC keys are one
   -- no: OwnBreaks
-  the_strings_are_one : (Breaks hs blocks → ⊥) → ((a b : List ℕ) → IsHashedForHtlcKey hs a → IsHashedForHtlcKey hs b → a ≡ b)
+  the_strings_are_one : (Breaks hs blocks → ⊥) → ((a b : List ℕ) → IsForOwn IsHashedForHtlcKey hs a → IsForOwn IsHashedForHtlcKey hs b → a ≡ b)
       → ((s : Signed) → IsSpendOn hs blocks s → (h : Holding) (k : CommitmentState) → IsOwnNewest hs h k → (item : List ℕ) → Contains s.input.witness item → item ≡ (contents_of (terms_in h) k).keys.revocation)
-      → ((s : Signed) → IsSpendOn hs blocks s → (a b : List ℕ) → IsHashOfItem s.input.witness a → IsOwnPaymentHash hs b → a ≡ b) → OwnBreaks hs blocks → ⊥
+      → ((s : Signed) → IsSpendOn hs blocks s → (a b : List ℕ) → IsHashOfItem s.input.witness a → IsForOwn IsPaymentHash hs b → a ≡ b) → OwnBreaks hs blocks → ⊥
   the_strings_are_one whole keys items hashes (by_breaks z) = whole z
   the_strings_are_one whole keys items hashes (by_htlc_keys c) = c.collide.0 (keys c.first c.second c.of_first c.of_second)
   the_strings_are_one whole keys items hashes (by_revocation_key s on h k n c) = c.collide.0 (items s on h k n c.first c.of_first ∙ sym c.of_second)

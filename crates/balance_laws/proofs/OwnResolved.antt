@@ -188,7 +188,7 @@ in_htlc hs blocks s x output a coin is = settled blocks (Resolved hs blocks (con
           first = sha256 p.preimage;
           second = x.htlc.hash;
           of_first = (p.preimage, p.given, refl);
-          of_second = record { holding = s.holding; commitment = s.commitment; newest = record { held = s.held; recorded = s.there }; htlc = x; among = a.among; is = refl };
+          of_second = record { holding = s.holding; commitment = s.commitment; newest = record { held = s.held; recorded = s.there }; is = (x, a.among, refl) };
           collide = (λ d. false≢true (sym e ∙ (bytes_eq-Decides (sha256 p.preimage) x.htlc.hash).1 d), p.hashed);
         }))
 

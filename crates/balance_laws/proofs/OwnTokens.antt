@@ -175,7 +175,7 @@ one_key hs blocks s e =
     by_htlc_keys (record {
       first = hashed_for terms k k.owner;
       second = hashed_for terms k (other k.owner);
-      of_first = record { holding = s.holding; commitment = k; newest = record { held = s.held; recorded = s.there }; side = k.owner; is = refl };
-      of_second = record { holding = s.holding; commitment = k; newest = record { held = s.held; recorded = s.there }; side = other k.owner; is = refl };
+      of_first = record { holding = s.holding; commitment = k; newest = record { held = s.held; recorded = s.there }; is = (k.owner, refl) };
+      of_second = record { holding = s.holding; commitment = k; newest = record { held = s.held; recorded = s.there }; is = (other k.owner, refl) };
       collide = ((λ d. apart (same_bases terms k k.owner (other k.owner) d)), one_hash terms k e);
     })

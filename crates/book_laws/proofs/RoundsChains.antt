@@ -45,7 +45,7 @@ use Rattle.safety.proofs.Handed.{commitment_signable}
 use Rattle.safety.proofs.Newest.{unrefused}
 use Rattle.script.specs.Spelling.{spelling}
 use Rattle.terms.specs.Scripts.{funding}
-use Rattle.book_laws.proofs.RoundsExamples.{seed, signed_3, bases, their_bases, opens_input, opens, opens_length, funding_out, terms, offered, revoked_0, offered_more, received_3, same}
+use Rattle.book_laws.proofs.RoundsExamples.{seed, signed_3, bases, their_bases, opens_input, opens, funding_out, terms, offered, revoked_0, offered_more, received_3, same}
 
 -- ---- the transactions and their blocks
 

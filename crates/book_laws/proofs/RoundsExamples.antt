@@ -1,5 +1,5 @@
 -- A history that calls leave, of two rounds with HTLCs of both sides, whose penalties are kept, and that meets all that is asked of one.
-use Rattle.std.proofs.Common.{◌≡◌, ℕ, Option, None, ◌++◌, false, ◌^◌, ◌-◌, true, List, [], ◌∷◌, replicate, length, Some, refl, lit≤, lit<}
+use Rattle.std.proofs.Common.{◌≡◌, ℕ, Option, None, ◌++◌, false, ◌^◌, ◌-◌, true, List, [], ◌∷◌, replicate, length, refl, lit≤, lit<}
 use Rattle.std.specs.Prelude.{IsTrue, codes}
 use Rattle.std.specs.Int.Count.{count_trailing_zeros}
 use Rattle.std.specs.Str.{bytes_eq}
@@ -45,7 +45,7 @@ use Rattle.channel.specs.Tokens.{peer_tokens}
 use Rattle.channel.proofs.Samples.{key}
 use Rattle.book.specs.declared.calls.Opening.{Opening}
 use Rattle.book.specs.declared.calls.Step.TheVariants.{Own, Peer}
-use Rattle.book.specs.declared.calls.Call.TheVariants.{Open, Step as Stepping, Sign, Revoke, Keep, Close}
+use Rattle.book.specs.declared.calls.Call.TheVariants.{Open, Step as Stepping, Sign, Revoke, Keep}
 use Rattle.book.specs.declared.calls.Entry.{Entry}
 use Rattle.book.specs.Accepted.{all_accepted, AcceptedMeans}
 use Rattle.book.specs.Books.{ChannelBook, replay}

@@ -131,7 +131,10 @@ given = map token_bytes (given_by mine)
 abbrev stage_token : HtlcOutput → GivenToken
 stage_token h = key_token (claim_signed (release h) (stage_claim h)) local_key
 
-token_is : (token_bytes (stage_token theirs) ≡ token_of local_key.bytes (htlc_digest c theirs)) × (token_bytes (stage_token more) ≡ token_of local_key.bytes (htlc_digest c more)) × (token_bytes (stage_token ours) ≡ token_of local_key.bytes (htlc_digest c ours))
+abbrev IsOver : HtlcOutput → Type 0
+IsOver h = token_bytes (stage_token h) ≡ token_of local_key.bytes (htlc_digest c h)
+
+token_is : IsOver theirs × IsOver more × IsOver ours
 unfolding htlc_digest htlc_tx_of htlc_script
 token_is = (refl, refl, refl)
 

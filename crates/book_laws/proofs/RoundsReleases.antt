@@ -91,7 +91,10 @@ stage_claim h =
     claim_with (second_stage_on c h (place_of h))
     (slot_for h.direction h.htlc ∷ Sig local_key ∷ Exact (record { item = token_of remote_key.bytes (htlc_digest c h); short = token_short h }) ∷ Exact (record { item = []; short = lit≤ tt }) ∷ [])
 
-claimed : (claimed_by (stage_claim ours) ≡ second_stage_on c ours (place_of ours)) × (claimed_by (stage_claim theirs) ≡ second_stage_on c theirs (place_of theirs)) × (claimed_by (stage_claim more) ≡ second_stage_on c more (place_of more))
+abbrev IsStage : HtlcOutput → Type 0
+IsStage h = claimed_by (stage_claim h) ≡ second_stage_on c h (place_of h)
+
+claimed : IsStage ours × IsStage theirs × IsStage more
 unfolding commitment_of keys_of
 claimed = (refl, refl, refl)
 
@@ -190,7 +193,7 @@ due_is : owners_due preimages c
 unfolding owners_due claims_by commitment_of outputs_of in_order output_cmp keys_of
 due_is = rw (none_revokes_ours, none_revokes_theirs, none_revokes_more, knows_theirs, knows_more) refl
 
-recorded : (h : HtlcOutput) → claimed_by (stage_claim h) ≡ second_stage_on c h (place_of h) → Contains (owners_due preimages c) (second_stage_on c h (place_of h)) → IsOnRecorded closed (stage_claim h)
+recorded : (h : HtlcOutput) → IsStage h → Contains (owners_due preimages c) (second_stage_on c h (place_of h)) → IsOnRecorded closed (stage_claim h)
 recorded h e among = on_own 3 own refl preimages (subst (λ (o : Claimable). Contains (owners_due preimages c) o) (sym e) among)
 
 among : (o : Claimable) → Contains (second_stage_on c more (place_of more) ∷ delayed_second_stage c more ∷ second_stage_on c ours (place_of ours) ∷ delayed_second_stage c ours

@@ -160,11 +160,14 @@ paid_by blocks i coin there =
     let v : value_at blocks i.outpoint ≡ coin.output.value = ap (λ (o : Option Coin). unwrap_or (option_map (λ (x : Coin). x.output.value) o) 0) there in
     sum_by-cons (λ (x : TxIn). value_at blocks x.outpoint) i [] ∙ ap (λ (n : ℕ). n + 0) v ∙ omega arith
 
+abbrev PaysLess : HtlcOutput → Type 0
+PaysLess h = nat_le (paid_out (htlc_tx_output c h ∷ [])) (output_of c h).value ≡ true
+
 -- the k-th HTLC, by the item that its branch takes
 module _ (spend : HtlcTxsSpend) (h : HtlcOutput) (item : List ℕ) (k : ℕ) (preimages : List (List ℕ)) (long : All (λ (p : List ℕ). length p ≡ 32) preimages) (kth : slice_get (htlcs_of c) k ≡ Some h)
     (branch : branch_item preimages h.direction h.htlc ≡ Some item) (apart : bytes_eq (hash160 item) (hash160 c.keys.revocation) ≡ false) (early : h.htlc.expiry_height < 500000000)
     (blocks : List Block) (there : coin_at blocks (outpoint_of c h) ≡ Some (coin_of h)) (new : has_id blocks (transaction_id (stage h item)) ≡ false)
-    (after : 2 ≤ height_of blocks) (reached : lock_time_of h.direction h.htlc < height_of blocks) (less : nat_le (paid_out (htlc_tx_output c h ∷ [])) (output_of c h).value ≡ true) where
+    (after : 2 ≤ height_of blocks) (reached : lock_time_of h.direction h.htlc < height_of blocks) (less : PaysLess h) where
   signed_is : signed_htlc_of c k preimages ≡ Some (stage h item)
   signed_is = ap (option_and_then (λ (x : HtlcOutput). option_map (signed_htlc_tx_with c x) (branch_item preimages x.direction x.htlc))) kth ∙ ap (option_map (signed_htlc_tx_with c h)) branch
 
@@ -191,7 +194,7 @@ apart_by : (item : List ℕ) → bytes_eq (hash160 (revocation_key their_bases.r
 unfolding commitment_of keys_of
 apart_by item e = turned (hash160 (revocation_key their_bases.revocation.bytes (point_at seed 3).bytes)) (hash160 item) e
 
-less_are : (nat_le (paid_out (htlc_tx_output c theirs ∷ [])) (output_of c theirs).value ≡ true) × (nat_le (paid_out (htlc_tx_output c more ∷ [])) (output_of c more).value ≡ true) × (nat_le (paid_out (htlc_tx_output c ours ∷ [])) (output_of c ours).value ≡ true)
+less_are : PaysLess theirs × PaysLess more × PaysLess ours
 unfolding commitment_of
 less_are = (refl, refl, refl)
 

@@ -35,7 +35,7 @@ use Rattle.safety.specs.Standing.{StandsAt}
 use Rattle.safety.specs.Whereabouts.{IsOnChain}
 use Rattle.safety.specs.Holdings.{Holding, terms_in}
 use Rattle.safety.specs.Premises.{LockedOutput, locks_by, each_input, each_spend, shows_none, newest_revocation, none_revokes}
-use Rattle.safety.specs.Breaks.{IsSpendOn, Breaks}
+use Rattle.safety.specs.Breaks.{IsSpendOn, IsPaymentHash, Breaks}
 use Rattle.safety.specs.Resolutions.{WasReleased, Resolution, unspent, ours, lost, broken, IsPaidOrLate, paid, late}
 use Rattle.safety.proofs.Slots.{contains_first}
 use Rattle.safety.proofs.Lists.{none_some, contains_map, any_holds, both}
@@ -43,7 +43,7 @@ use Rattle.safety.proofs.Tests.{flat_in, all_hold, or_then, on_input, on_spend}
 use Rattle.safety.proofs.Standing.{block_in, spent_is}
 use Rattle.safety.proofs.Passed.{last_cases}
 use Rattle.safety.proofs.Worked.{at_each}
-use Rattle.balance_laws.specs.OwnBreaks.{IsOwnNewest, IsHashedForHtlcKey, IsOwnPaymentHash, OwnBreaks, by_breaks, by_htlc_keys, by_revocation_key, by_own_preimage}
+use Rattle.balance_laws.specs.OwnBreaks.{IsOwnNewest, IsHashedForHtlcKey, IsForOwn, OwnBreaks, by_breaks, by_htlc_keys, by_revocation_key, by_own_preimage}
 use Rattle.balance_laws.specs.Times.{IsTakenBelow}
 use Rattle.chain_examples.proofs.Marks.{NoneCollide}
 use Rattle.chain_examples.proofs.Spends.{Naming, naming, digest_over, namings, is_naming, shows, each_shows, items_of}
@@ -105,11 +105,11 @@ of_side : (h : Holding) (k : CommitmentState) (side : Side) → Contains (key_st
 of_side h k A = (0, omega arith, refl)
 of_side h k B = (1, omega arith, refl)
 
-key_string : (hs : List Holding) (bytes : List ℕ) → IsHashedForHtlcKey hs bytes → Contains (htlc_keys_by hs) bytes
+key_string : (hs : List Holding) (bytes : List ℕ) → IsForOwn IsHashedForHtlcKey hs bytes → Contains (htlc_keys_by hs) bytes
 key_string hs bytes p =
     flat_in (λ (h : Holding). flat_map (key_strings h) (newest_of h)) hs p.holding bytes p.newest.held
     (flat_in (key_strings p.holding) (newest_of p.holding) p.commitment bytes (is_newest p.holding p.commitment p.newest.recorded)
-    (subst (λ (x : List ℕ). Contains (key_strings p.holding p.commitment) x) (sym p.is) (of_side p.holding p.commitment p.side)))
+    (subst (λ (x : List ℕ). Contains (key_strings p.holding p.commitment) x) (sym p.is.1) (of_side p.holding p.commitment p.is.0)))
 
 abbrev pub revocations_by : List Holding → List (List ℕ)
 revocations_by hs = flat_map (λ h. map (λ k. (contents_of (terms_in h) k).keys.revocation) (newest_of h)) hs
@@ -122,13 +122,13 @@ revocation_in hs h k n =
 abbrev pub own_hashes_by : List Holding → List (List ℕ)
 own_hashes_by hs = flat_map (λ h. flat_map (λ k. map (λ x. x.htlc.hash) (htlcs_of (contents_of (terms_in h) k))) (newest_of h)) hs
 
-own_hash : (hs : List Holding) (hash : List ℕ) → IsOwnPaymentHash hs hash → Contains (own_hashes_by hs) hash
+own_hash : (hs : List Holding) (hash : List ℕ) → IsForOwn IsPaymentHash hs hash → Contains (own_hashes_by hs) hash
 own_hash hs hash p =
     flat_in (λ (h : Holding). flat_map (λ (k : CommitmentState). map (λ (x : HtlcOutput). x.htlc.hash) (htlcs_of (contents_of (terms_in h) k))) (newest_of h)) hs p.holding hash p.newest.held
     (flat_in (λ (k : CommitmentState). map (λ (x : HtlcOutput). x.htlc.hash) (htlcs_of (contents_of (terms_in p.holding) k))) (newest_of p.holding) p.commitment hash
     (is_newest p.holding p.commitment p.newest.recorded)
-    (subst (λ (h : List ℕ). Contains (map (λ (x : HtlcOutput). x.htlc.hash) (htlcs_of (contents_of (terms_in p.holding) p.commitment))) h) (sym p.is)
-    (contains_map (λ (x : HtlcOutput). x.htlc.hash) (htlcs_of (contents_of (terms_in p.holding) p.commitment)) p.htlc p.among)))
+    (subst (λ (h : List ℕ). Contains (map (λ (x : HtlcOutput). x.htlc.hash) (htlcs_of (contents_of (terms_in p.holding) p.commitment))) h) (sym p.is.2)
+    (contains_map (λ (x : HtlcOutput). x.htlc.hash) (htlcs_of (contents_of (terms_in p.holding) p.commitment)) p.is.0 p.is.1)))
 
 -- ---- nothing is broken
 

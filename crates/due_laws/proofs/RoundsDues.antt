@@ -22,7 +22,7 @@ use Rattle.channel.specs.States.{first_of, own_next, peers_next}
 use Rattle.channel.specs.Tokens.{contents_of, peer_tokens}
 use Rattle.worth_laws.specs.Counted.{known_by}
 use Rattle.worth_laws.specs.Least.{MayClose, revoked as may_revoked, newest as may_newest, next as may_next, own as may_own, counted_by}
-use Rattle.safety.specs.Holdings.{Holding, terms_in}
+use Rattle.safety.specs.Holdings.{Holding}
 use Rattle.safety.proofs.Lists.{none_some}
 use Rattle.book.specs.Accepted.{AcceptedMeans}
 use Rattle.book.specs.Books.{is_kept}
