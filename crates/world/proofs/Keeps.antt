@@ -5,21 +5,21 @@ use Rattle.claim.specs.Claims.{ClaimParts}
 use Rattle.penalty.specs.Claimable.{claimable_of}
 use Rattle.penalty.specs.Sets.{AreClaimsOn}
 use Rattle.penalty.specs.declared.states.RevokedState.{RevokedState}
-use Rattle.channel.specs.declared.messages.Message.{Message}
 use Rattle.book.specs.declared.calls.Call.TheVariants as calls
 use Rattle.book.specs.declared.errors.KeepError.{KeepError}
 use Rattle.book.specs.declared.errors.KeepError.TheVariants as keeps
 use Rattle.book.specs.Penalties.{is_penalty_set}
 use Rattle.book.specs.Books.{ChannelBook, is_kept}
 use Rattle.book.specs.Replies.{kept, asked, unless, if_so}
-use Rattle.book.specs.Calling.{IsKeepRefusal}
+use Rattle.book.specs.Calling.{IsCall, IsKeepRefusal}
 use Rattle.book.specs.Revoked.{early_keep_refusal, IsRevokedIn}
 use Rattle.world.specs.declared.errors.EventError.{EventError}
 use Rattle.world.specs.declared.errors.EventError.TheVariants.{Keep}
 use Rattle.world.specs.Worlds.{Node, channel_of}
-use Rattle.world.specs.Refusing.{by_keep, refusal_in, IsRefusal, IsAnswered}
+use Rattle.world.specs.declared.limits.TheConstants.{SEAT}
+use Rattle.world.specs.Refusing.{by_keep, refusal_in, IsRefusal}
 use Rattle.world.specs.Keeping.{keep_refusal, IsSetFor, IsKept}
-use Rattle.world.proofs.Answering.{refused}
+use Rattle.world.proofs.Answering.{refused, is_answered, is_undone}
 
 -- ---- the set
 
@@ -62,12 +62,14 @@ unrefused : (o : Option ChannelBook) (ch : ChannelBook) (number : ℕ) → o ≡
 unrefused o ch number there revoked unkept = rw (there, revoked, unkept) refl
 
 -- a side whose book keeps the set, and one whose book refuses
-pub is_kept_by : (n new : Node) (channel number : ℕ) (claims : List ClaimParts) (m : Option Message) → IsSetFor n channel number claims → IsAnswered (calls.Keep channel number claims) (Ok m) n new
-    → (keep_refusal number (channel_of n channel) ≡ None) × IsKept n channel number new
-is_kept_by n new channel number claims m set is =
+pub is_kept_by : (n new : Node) (channel number : ℕ) (claims : List ClaimParts) → IsSetFor n channel number claims → IsCall (kept (Ok tt)) n.history new.history SEAT (calls.Keep channel number claims)
+    → new ≡ record n { history = new.history } → (keep_refusal number (channel_of n channel) ≡ None) × IsKept n channel number new
+is_kept_by n new channel number claims set book rest =
+    let is = is_answered n new (calls.Keep channel number claims) (kept (Ok tt)) None book rest refl refl in
     (unrefused _ set.ch number set.there set.revoked set.unkept, record { claims = claims; set = set; answer = answered _ set.ch number claims set.there set.revoked set.unkept set.set; after = is.2 })
 
-pub unkept_by : (n new : Node) (channel number : ℕ) (claims : List ClaimParts) (e : EventError) → IsSetFor n channel number claims → IsAnswered (calls.Keep channel number claims) (Err e) n new
-    → IsRefusal (keep_refusal number (channel_of n channel)) e × (new ≡ n)
-unkept_by n new channel number claims e set is =
+pub unkept_by : (n new : Node) (channel number : ℕ) (claims : List ClaimParts) (refusal : KeepError) (e : EventError) → IsSetFor n channel number claims → e ≡ by_keep refusal
+    → IsCall (kept (Err refusal)) n.history new.history SEAT (calls.Keep channel number claims) → new ≡ record n { history = new.history } → IsRefusal (keep_refusal number (channel_of n channel)) e × (new ≡ n)
+unkept_by n new channel number claims refusal e set by book rest =
+    let is = is_undone n new (calls.Keep channel number claims) (kept (Err refusal)) e refl book rest refl (ap Some (sym by)) in
     (subst (λ (o : Option EventError). IsRefusal o e) (ap refusal_in (answered _ set.ch number claims set.there set.revoked set.unkept set.set) ∙ sym (unrefused _ set.ch number set.there set.revoked set.unkept)) is.0, is.1)

@@ -99,10 +99,7 @@ fn oldest(me: &Node, channel: u64) -> Result<Call, EventError>
     }
     let line = &me.lines[index];
     match line.inbox.front() {
-        Some(message) => match call_of(channel, message) {
-            Ok(call) => Ok(call),
-            Err(_) => Err(EventError::NoMemory),
-        },
+        Some(message) => Ok(call_of(channel, message)?),
         None => Err(EventError::NoMessage),
     }
 }

@@ -9,31 +9,25 @@ ghost use Rattle.world.specs.Keeping.{keep_refusal, IsSetFor, IsKept};
 
 use crate::errors::EventError;
 use crate::nodes::Node;
-use book::{Book, Call};
-use claim::Claim;
-use lists::List;
-use penalty::RevokedState;
-use side::set_of;
+use book::Book;
+use penalty::{PenaltySet, RevokedState, penalties};
 use std::alloc::{AllocError, Global};
 
 // Builds the penalty set of a revoked commitment by the patterns that a book's channels share. The only error is that memory ran out.
-fn set_by(alloc: Global, book: &Book, state: &RevokedState) -> Result<List<Claim>, AllocError>
-    ensures { IfOk result (AreClaimsOn (claimable_of state.now)) }
+fn set_by(alloc: Global, book: &Book, state: &RevokedState) -> Result<PenaltySet, AllocError>
+    ensures { IfOk result (λ set. AreClaimsOn (claimable_of state.now) set.claims) }
 {
     let patterns = book.patterns()?;
-    set_of(alloc, patterns.get(), state)
+    penalties(alloc, patterns.get(), state)
 }
 
-// The claims that a side is to keep for the peer's commitment of a number. Refused, in this order, with `NoSuchChannel`, `NotRevoked` and `AlreadyKept`.
-fn set_for(alloc: Global, me: &Node, channel: u64, number: u64) -> Result<List<Claim>, EventError>
-    ensures { MatchResult result (IsSetFor me.now channel number)
+// The set that a side is to keep for the peer's commitment of a number. Refused, in this order, with `NoSuchChannel`, `NotRevoked` and `AlreadyKept`.
+fn set_for(alloc: Global, me: &Node, channel: u64, number: u64) -> Result<PenaltySet, EventError>
+    ensures { MatchResult result (λ set. IsSetFor me.now channel number set.claims)
         (IsRefusal (keep_refusal number (channel_of me.now channel))) }
 {
     match me.book.revoked(channel, number) {
-        Ok(state) => match set_by(alloc, &me.book, &state) {
-            Ok(claims) => Ok(claims),
-            Err(_) => Err(EventError::NoMemory),
-        },
+        Ok(state) => Ok(set_by(alloc, &me.book, &state)?),
         Err(error) => Err(EventError::of_keep(error)),
     }
 }
@@ -51,13 +45,9 @@ pub(crate) fn keep(
         MatchResult result (λ _. (first ≡ None) × IsKept me.old channel number me.new)
         (λ e. IsRefusal first e × (me.new ≡ me.old)) }
 {
-    let claims = set_for(alloc, me, channel, number)?;
-    match me.answer(Call::Keep {
-        channel,
-        number,
-        claims,
-    }) {
-        Ok(_no_message) => Ok(()),
-        Err(error) => Err(error),
+    let set = set_for(alloc, me, channel, number)?;
+    match me.keep_set(channel, number, set) {
+        Ok(()) => Ok(()),
+        Err(error) => Err(EventError::of_keep(error)),
     }
 }

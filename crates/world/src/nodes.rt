@@ -2,9 +2,10 @@
 
 use crate::errors::EventError;
 use crate::limits::SEAT;
-use book::errors::{OpenError, ReleaseError};
+use book::errors::{KeepError, OpenError, ReleaseError};
 use book::{Batch, Book, Call, FilledTwice, Opening, Reply, message_of};
 use channel::Message;
+use penalty::PenaltySet;
 use side::DueClaim;
 use std::alloc::Global;
 use std::collections::VecDeque;
@@ -55,10 +56,10 @@ impl Model for Node {
 
 impl Node {
     ghost use Rattle.std.specs.Prelude.{◌≡◌, true, [], IfOk};
-    ghost use Rattle.book.specs.declared.calls.Call.TheVariants.{Release as Releasing};
+    ghost use Rattle.book.specs.declared.calls.Call.TheVariants.{Keep as Keeping, Release as Releasing};
     ghost use Rattle.book.specs.Calling.{IsCall, filled_once};
     ghost use Rattle.book.specs.Dispatch.{reply_form};
-    ghost use Rattle.book.specs.Replies.{released};
+    ghost use Rattle.book.specs.Replies.{kept, released};
     ghost use Rattle.world.specs.Worlds.{IsNode, opens_none};
     ghost use Rattle.world.specs.Beginning.{IsOpened};
     ghost use Rattle.world.specs.Refusing.{IsAnswered};
@@ -104,10 +105,7 @@ impl Node {
     pub(crate) fn open(&mut self, alloc: Global, opening: Opening) -> Result<(), OpenError>
         ensures { IsOpened opening result self.old self.new }
     {
-        match self.lines.reserve(1) {
-            Ok(()) => {}
-            Err(_) => return Err(OpenError::NoMemory),
-        }
+        self.lines.reserve(1)?;
         self.book.open(SEAT, opening)?;
         let line = Line {
             inbox: VecDeque::new(alloc),
@@ -127,6 +125,23 @@ impl Node {
         // By this call the proof knows that the claims in the history were accepted.
         let _ = self.book.entries();
         reply
+    }
+
+    /// Keeps a penalty set in the side's book, refused as the book refuses. A refusal leaves the side as it was.
+    pub(crate) fn keep_set(
+        &mut self,
+        channel: u64,
+        number: u64,
+        set: PenaltySet,
+    ) -> Result<(), KeepError>
+        ensures book { IsCall (kept result) self.old.history self.new.history SEAT
+            (Keeping channel number set.claims) }
+        ensures rest { self.new ≡ record self.old { history = self.new.history } }
+    {
+        let kept = self.book.keep_set(SEAT, channel, number, set);
+        // By this call the proof knows that the claims in the history were accepted.
+        let _ = self.book.entries();
+        kept
     }
 
     /// Fills the claims of a batch by the side's book, and hands out the transaction twice. A refusal leaves the side as it was.
