@@ -26,3 +26,4 @@ mod OwnStageExamples
 mod OwnStageOutcomes
 mod OwnWorthExamples
 mod OwnShareExamples
+mod DeadlineExamples

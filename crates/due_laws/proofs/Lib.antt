@@ -12,3 +12,6 @@ mod WorkedExamples
 mod WorkedPassing
 mod BookExamples
 mod RoundsDues
+mod Telling
+mod Coins
+mod TellingExamples

@@ -6,3 +6,5 @@ pub mod Filling
 pub mod Recorded
 pub mod Passing
 pub mod Books
+pub mod Telling
+pub mod Coins

@@ -1,10 +1,12 @@
 //! Laws over the definitions alone.
 
 ghost use Rattle.due_laws.specs.Books.{BookDuesAreRecorded, BooksHaveDues};
+ghost use Rattle.due_laws.specs.Coins.{SightsAreCoins};
 ghost use Rattle.due_laws.specs.Counting.{DuesAreCounted};
 ghost use Rattle.due_laws.specs.Filling.{DuesAreFillable};
 ghost use Rattle.due_laws.specs.Passing.{FillingsPass};
 ghost use Rattle.due_laws.specs.Recorded.{DuesAreRecorded};
+ghost use Rattle.due_laws.specs.Telling.{CountedAreTold};
 ghost use Rattle.due_laws.specs.Verdicts.{ClosersAreJudged};
 
 use book::laws::what_channels_have;
@@ -13,7 +15,7 @@ use channel::laws::{sides_are_sound, what_is_signed};
 use claim::laws::accepted_claims_spend;
 use filling::laws::fillings_fit;
 use penalty::laws::peer_can_fill;
-use safety::laws::due_places;
+use safety::laws::{coins_have_heights, due_places, inputs_have_passed};
 use watch::laws::revoked_are_found;
 use worth_laws::laws::counted_are_worth;
 
@@ -75,4 +77,19 @@ pub fn book_dues_are_recorded()
     what_is_signed();
     sides_are_sound();
     due_places();
+}
+
+/// Nothing that a node counts on stands after a close without being told. Where what is due is in hand and a commitment closed the channel, each output that the node counts on is among the claims that are told, whichever HTLC
+/// transactions stand.
+pub fn counted_are_told()
+    ensures { CountedAreTold }
+{}
+
+/// What `sights` read of an output is what the chain says of its coin, on a chain that passed its tests. The output is one of a close or of a second stage. It was made at the height of its coin, and was taken
+/// exactly if the coin is spent. The ids of the chain's grants must differ from one another and from those of its transactions.
+pub fn sights_are_coins()
+    ensures { SightsAreCoins }
+{
+    inputs_have_passed();
+    coins_have_heights();
 }

@@ -3,7 +3,9 @@ use Rattle.std.proofs.Common.{◌≡◌, ℕ, zero, suc, ◌+◌, true, false, L
 use Rattle.std.specs.Prelude.{slice_get}
 use Rattle.std.specs.List.{Contains, find, list_any}
 use Rattle.std.proofs.lemmas.List.Elements.{Contains-append_left, Contains-append_right}
+use Rattle.std.proofs.lemmas.List.{length-reverse}
 use Rattle.std.proofs.lemmas.Option.{slice_get_past}
+use Rattle.std.proofs.lemmas.Grind.{reverse_onto}
 use Rattle.tx.specs.declared.input.OutPoint.{OutPoint}
 use Rattle.tx.specs.declared.input.TxIn.{TxIn}
 use Rattle.tx.specs.Parts.{Output}
@@ -14,8 +16,9 @@ use Rattle.chain.specs.Checked.{is_checked}
 use Rattle.chain.specs.Conserving.{GrantsAreApart}
 use Rattle.chain.proofs.Apart.{Differ, are_apart}
 use Rattle.chain.proofs.Noting.{same_is, itself, swapped}
-use Rattle.safety.specs.Standing.{StandsAt}
+use Rattle.safety.specs.Standing.{StandsAt, CoinsHaveHeights}
 use Rattle.safety.proofs.Slots.{contains_cases, contains_later, contains_reverse}
+use Rattle.safety.proofs.Passed.{last_cases}
 use Rattle.safety.proofs.Lists.{none_some, some_is, contains_none, contained, at_reversed, any_found, none_holds}
 
 -- the block of a transaction is one of the chain's
@@ -76,22 +79,23 @@ by_transactions height (x ∷ xs) t c i own =
     (λ (j : Contains xs t). Contains-append_left (created_by_all height xs) (created_by height x) c (by_transactions height xs t c j own))
     (contains_cases x xs t i)
 
-abbrev IsCreatedIn : List Block → List ℕ → ℕ → Output → Type 0
-IsCreatedIn blocks id index o = (height : ℕ) × Contains (created_of blocks) (creation id index o height)
-
-by_blocks : (blocks : List Block) (b : Block) (t : Transaction) (index : ℕ) (o : Output) → Contains blocks b → Contains b.transactions t → slice_get t.outputs index ≡ Some o → IsCreatedIn blocks (transaction_id t) index o
-by_blocks [] b t index o i j e = absurd (contains_none b i)
-by_blocks (x ∷ older) b t index o i j e =
+by_blocks : (blocks : List Block) (height : ℕ) (b : Block) (t : Transaction) (index : ℕ) (o : Output) → slice_get (reverse blocks) height ≡ Some b → Contains b.transactions t → slice_get t.outputs index ≡ Some o
+    → Contains (created_of blocks) (creation (transaction_id t) index o height)
+by_blocks [] height b t index o i j e = absurd (none_some b (sym (slice_get_past [] height (omega arith)) ∙ i))
+by_blocks (x ∷ older) height b t index o i j e =
     let h = length older in
     let created = created_by_all h x.transactions in
     let granted = granted_at h (grants_in older) x.granted in
-    ⊎_elim {C = IsCreatedIn (x ∷ older) (transaction_id t) index o}
-    (λ (s : x ≡ b).
     let c = creation (transaction_id t) index o h in
-    let within : Contains x.transactions t = subst (λ (y : Block). Contains y.transactions t) (sym s) j in
-    (h, Contains-append_right (created_of older) (created ++ granted) c (Contains-append_left created granted c (by_transactions h x.transactions t c within (by_transaction h t index o e)))))
-    (λ (k : Contains older b). let r = by_blocks older b t index o k j e in (r.0, Contains-append_left (created_of older) (created ++ granted) (creation (transaction_id t) index o r.0) r.1))
-    (contains_cases x older b i)
+    let there : slice_get (reverse older ++ x ∷ []) height ≡ Some b = ap (λ xs. slice_get xs height) (sym (reverse_onto older x [])) ∙ i in
+    ⊎_elim {C = Contains (created_of (x ∷ older)) (creation (transaction_id t) index o height)}
+    (λ (k : slice_get (reverse older) height ≡ Some b). Contains-append_left (created_of older) (created ++ granted) (creation (transaction_id t) index o height) (by_blocks older height b t index o k j e))
+    (λ (s : (height ≡ length (reverse older)) × (x ≡ b)).
+    let at : h ≡ height = omega (arith, s.0, length-reverse older) in
+    let within : Contains x.transactions t = subst (λ (y : Block). Contains y.transactions t) (sym s.1) j in
+    subst (λ n. Contains (created_of (x ∷ older)) (creation (transaction_id t) index o n)) at
+    (Contains-append_right (created_of older) (created ++ granted) c (Contains-append_left created granted c (by_transactions h x.transactions t c within (by_transaction h t index o e)))))
+    (last_cases (reverse older) x b height there)
 
 -- whoever is there is found, where none stands at the outpoint of another
 found_one : (list : List Creation) (c : Creation) → Differ list → Contains list c → find (λ d. same_outpoint d.outpoint c.outpoint) list ≡ Some c
@@ -109,6 +113,13 @@ found_one (x ∷ xs) c apart i =
 abbrev coin_from : List Block → OutPoint → Creation → Coin
 coin_from blocks o c = record { output = c.output; height = c.height; spent = is_named blocks o }
 
+pub coins_have_heights : CoinsHaveHeights
+coins_have_heights blocks checked grants height t s o id output e =
+    let c = creation (transaction_id t) o.index output height in
+    let same : (record { txid = transaction_id t; index = o.index }) ≡ o = ap (λ (i : List ℕ). let p : OutPoint = record { txid = i; index = o.index } in p) id in
+    subst (λ (p : OutPoint). coin_at blocks p ≡ Some (coin_from blocks p c)) same
+    (ap (option_map (coin_from blocks c.outpoint)) (found_one (created_of blocks) c (are_apart blocks checked grants) (by_blocks blocks height s.block t o.index output s.there s.within e)))
+
 -- the coin of an output
 pub record IsThere (blocks : List Block) (o : OutPoint) (output : Output) : Type 0 where
   pub coin : Coin
@@ -118,13 +129,8 @@ pub record IsThere (blocks : List Block) (o : OutPoint) (output : Output) : Type
 pub coin_there : (blocks : List Block) → is_checked blocks ≡ true → GrantsAreApart blocks → (height : ℕ) (t : Transaction) → StandsAt blocks height t → (index : ℕ) (o : Output) → slice_get t.outputs index ≡ Some o
     → IsThere blocks (record { txid = transaction_id t; index = index }) o
 coin_there blocks checked grants height t s index o e =
-    let c = by_blocks blocks s.block t index o (block_in blocks height t s) s.within e in
     let point : OutPoint = record { txid = transaction_id t; index = index } in
-    record {
-      coin = coin_from blocks point (creation (transaction_id t) index o c.0);
-      at = ap (option_map (coin_from blocks point)) (found_one (created_of blocks) (creation (transaction_id t) index o c.0) (are_apart blocks checked grants) c.1);
-      is = refl;
-    }
+    record { coin = coin_from blocks point (creation (transaction_id t) index o height); at = coins_have_heights blocks checked grants height t s point refl o e; is = refl }
 
 -- a coin is spent where an input names it
 pub spent_is : (blocks : List Block) (o : OutPoint) (coin : Coin) → coin_at blocks o ≡ Some coin → coin.spent ≡ is_named blocks o

@@ -8,7 +8,7 @@ ghost use Rattle.safety.specs.Satisfying.{FundingSatisfied, ToLocalSatisfied, Ke
 ghost use Rattle.safety.specs.Signing.{OneDigest, OneToken};
 ghost use Rattle.safety.specs.Spending.{WhoCanSpend, WhoSpends};
 ghost use Rattle.safety.specs.Owning.{OnlyPeerSigns};
-ghost use Rattle.safety.specs.Standing.{HavePassed};
+ghost use Rattle.safety.specs.Standing.{HavePassed, CoinsHaveHeights};
 ghost use Rattle.safety.specs.Taking.{OnlyAsSigned};
 ghost use Rattle.safety.specs.Fates.{SignedWithCommitment, NothingEscapes, NothingEscapesAbove, NothingEscapesOnChains};
 ghost use Rattle.safety.specs.Whereabouts.{NothingIsLost};
@@ -93,6 +93,11 @@ pub fn only_the_peer_signs()
 /// Each input on a chain that passed its tests names a coin of that chain. It passed the test of that coin, in a block of that height and before the coin was spent.
 pub fn inputs_have_passed()
     ensures { HavePassed }
+{}
+
+/// The coin at each output of a transaction on such a chain is that output, of the height of the transaction's block. The ids of the chain's grants must differ from one another and from those of its transactions.
+pub fn coins_have_heights()
+    ensures { CoinsHaveHeights }
 {}
 
 /// Suppose that each token of the peer's keys in a witness is over what the peer signed. Then an input that passes the chain's test is one that the peer signed,
