@@ -1,7 +1,4 @@
-"""The keys of a revoked commitment, and what its other outputs are in a channel with anchors (BOLT 3, "Key Derivation"
-and "Commitment Transaction Outputs"). Tested, not proved.
-"""
-from collections.abc import Iterator
+"""The keys of a revoked commitment (BOLT 3, "Key Derivation"). Tested, not proved."""
 from dataclasses import dataclass
 
 from real.lib import derivation
@@ -10,9 +7,8 @@ from real.lib.errors import Refused
 from real.lib.transaction import sha256
 
 LOCKTIME_THRESHOLD = 500_000_000
-# types of channels (BOLT 9, without `option_`), and the value of an anchor
+# types of channels (BOLT 9, without `option_`)
 STATIC_REMOTEKEY, ANCHORS = CHANNEL_TYPES = ("static_remotekey", "anchors")
-ANCHOR_SAT = 330
 
 
 @dataclass
@@ -35,21 +31,8 @@ class Keys:
     remote: bytes
 
 
-def push(item: bytes) -> bytes:
-    return bytes([len(item)]) + item
-
-
 def program_of(script: bytes) -> bytes:
     return b"\x00\x20" + sha256(script)
-
-
-def named_outputs(keys: Keys, funding_keys: list[bytes]) -> Iterator[tuple[bytes, str, int | None]]:
-    """What an output is that is not taken from a channel with anchors, by its program, and the value that it has to
-    have; None where it may have any.
-    """
-    yield program_of(push(keys.remote) + b"\xad\x51\xb2"), "to_remote", None
-    for key in funding_keys:
-        yield program_of(push(key) + b"\xac\x73\x64\x60\xb2\x68"), "anchor", ANCHOR_SAT
 
 
 def keys_of(curve: AnyCurve, bases: dict[str, bytes], point: bytes, is_legacy: bool) -> Keys:

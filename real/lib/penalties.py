@@ -75,6 +75,8 @@ class State:
     confirmed_height: int | None
 
 
+# what is named and not taken; the keys of anchors may be told in any order
+NAMED = {"to_remote": "to_remote", "own_anchor": "anchor", "peer_anchor": "anchor"}
 # what is known of an output whose program is another
 NOTHING = Known("", b"", b"", [], b"", None)
 
@@ -213,13 +215,15 @@ def least_deadline(found: Iterable[int | None]) -> int | None:
     return min((it for it in found if it is not None), default=None)
 
 
-def known_outputs(state: State, keys: Keys, spend: Spend) -> dict[bytes, Known]:
-    """The outputs of the transaction that are the commitment's, by the proved rule."""
+def known_outputs(state: State, keys: Keys, spend: Spend) -> tuple[dict[bytes, Known], dict[int, str]]:
+    """The outputs of the transaction that are the commitment's, and the names of the others, by the proved rule."""
+    funding = [it.hex() for it in state.funding_keys]
     return spend.revoked(
         {
             "channel_type": state.channel_type,
             "keys": {name: key.hex() for name, key in asdict(keys).items()},
             "delay_blocks": state.delay_blocks,
+            "funding_keys": dict(zip(("own", "peer"), funding)) if funding else None,
             "htlcs": [
                 {
                     "direction": "offered" if it.is_offered else "received",
@@ -256,20 +260,19 @@ def is_htlc_transaction(state: State, table: dict[bytes, Known]) -> bool:
     return is_delayed and not commitment_number.has_form(state.transaction)
 
 
-def names_of(state: State, keys: Keys, table: dict[bytes, Known], others: list[int]) -> dict[str, Any]:
+def names_of(
+    state: State, table: dict[bytes, Known], names: dict[int, str], others: list[int]
+) -> dict[str, dict[str, list[int]]]:
     """What other outputs of a channel with anchors are, which are not taken here: to_remote and the anchors, and what
     its owner added to an HTLC transaction, all of whose own outputs have one script.
     """
     if state.channel_type != commitment.ANCHORS:
         return {}
     found: dict[str, list[int]] = {}
-    outputs = commitment.named_outputs(keys, state.funding_keys)
-    named: dict[bytes, tuple[str | None, int | None]] = {program: (kind, value) for program, kind, value in outputs}
-    added = ("added" if is_htlc_transaction(state, table) else None), None
+    added = {"unknown": "added"} if is_htlc_transaction(state, table) else {}
     for index in others:
-        output = state.transaction.outputs[index]
-        kind, value = named.get(output.program, added)
-        if kind is not None and value in (None, output.value):
+        kind = {**NAMED, **added}.get(names[index])
+        if kind is not None:
             found.setdefault(kind, []).append(index)
     return {"named": found}
 
@@ -461,9 +464,9 @@ def penalties(
     keys = commitment.keys_of(curve, state.bases, point, is_legacy)
     signing, unused = commitment.private_keys_of(curve, state.bases, privates, state.secret, point, is_legacy)
     trace.start()
-    table = known_outputs(state, keys, spend or Spend())
+    table, names = known_outputs(state, keys, spend or Spend())
     takes, others = split_outputs(state, table)
-    named = names_of(state, keys, table, others)
+    named = names_of(state, table, names, others)
     yield from not_here(state, keys, named)
     ordered = batches(takes, state, signing, is_one)
     # the judge lists all scripts by one call, the most urgent first

@@ -88,27 +88,6 @@ def lock_notes(state: State, found: list[dict[str, Any]]) -> Iterator[str]:
         yield f"the lock time is {lock}, and no offered HTLC in htlcs has this expiry_height"
 
 
-def hash_notes(state: State, found: list[dict[str, Any]]) -> Iterator[str]:
-    """Of outputs of offered HTLCs that are more than the backup has of one hash: their scripts are equal, so they are
-    found by those that it has.
-    """
-    scripts = {}
-    for it in found[:-1]:
-        if it["answer"] == penalties.TAKEN:
-            inputs = read_transaction(bytes.fromhex(it["transaction"])).inputs
-            scripts.update({at: given.witness[-1] for at, given in zip(it["outputs"], inputs)})
-    kinds = {at: kind for it in found[:-1] for at, kind in zip(it["outputs"], it["kinds"])}
-    for given in sorted({it.payment_hash for it in state.htlcs if it.is_offered}):
-        count = sum(it.is_offered and it.payment_hash == given for it in state.htlcs)
-        paid = ripemd160(given)
-        places = sorted(at for at, it in scripts.items() if kinds[at] == "offered" and paid in it)
-        if len(places) > count:
-            yield (
-                f"outputs {', '.join(map(str, places))} are offered HTLCs of one hash, and htlcs has {count} of it: an"
-                " expiry that is left out may be before the deadline"
-            )
-
-
 def spent_notes(state: State) -> Iterator[str]:
     """Of the outputs that are told to be gone, with their values, so that they can be compared."""
     for at in state.spent:
@@ -137,7 +116,6 @@ def notes_of(state: State, found: list[dict[str, Any]]) -> Iterator[str]:
             " penalty worthless: make it of the transaction that a block has"
         )
     yield from lock_notes(state, found)
-    yield from hash_notes(state, found)
     yield from spent_notes(state)
     if state.feerate_per_kw < RELAYED_FEERATE:
         yield (

@@ -46,8 +46,10 @@ class Spend:
     def __init__(self, program: str = os.path.join(TOP, "spend"), notes: TextIO = sys.stderr) -> None:
         self.program, self.notes = program, notes
 
-    def revoked(self, asked: dict[str, Any]) -> dict[bytes, Known]:
-        """The outputs of a transaction that are a revoked commitment's, by their programs."""
+    def revoked(self, asked: dict[str, Any]) -> tuple[dict[bytes, Known], dict[int, str]]:
+        """The outputs of a transaction that are a revoked commitment's, by their programs, and the names of the others
+        by their indices.
+        """
         try:
             ran = subprocess.run(
                 [self.program, "revoked"], input=json.dumps(asked).encode(), capture_output=True, timeout=SECONDS
@@ -67,4 +69,4 @@ class Spend:
         table: dict[bytes, Known] = {}
         for it in map(known_of, found["claims"]):
             table.setdefault(it.program, it)
-        return table
+        return table, {it["index"]: it["name"] for it in found["others"]}

@@ -15,6 +15,8 @@ from electrum.transaction import PartialTransaction
 from real.tests import channels
 from real.tests.channels import Channel, Htlc
 from real.tests.checks import spender
+from real.tests.close_requests import HTLC
+from real.tests.revoked_requests import REMOTE
 from real.tests.tower_channels import SECONDS, Tally, changed_htlc, changed_parts, htlcs_of
 
 OWN, PEER = "own", "peer"
@@ -137,7 +139,8 @@ def claims_of_htlc(case: Case, transaction: PartialTransaction, at: int, htlc: H
 
 def other(case: Case, at: int, name: str) -> dict[str, Any]:
     """What is said of an output without a claim."""
-    return {"index": at, "name": name}
+    reasons = (HTLC if case.whose == OWN else REMOTE) if case.channel.is_anchored else {}
+    return {"index": at, "name": name, **({"reason": reasons[name]} if name in reasons else {})}
 
 
 def other_names(case: Case) -> dict[bytes, str]:

@@ -6,10 +6,16 @@ from typing import Any
 
 from real.lib.transaction import read_transaction, sha256, shown_id
 from real.tests import revoked_requests
+from real.tests.revoked_requests import REMOTE, anchor_names, others
 from real.tests.revoked_states import FUNDING_KEYS, SHARED, SHARED_HTLCS, htlc, with_anchors, with_outputs
 from real.tests.spend_requests import line, without
 
 CONFIRMED, DELAY = 502, 144
+# why no claim is on one's own HTLCs of a channel with anchors
+HTLC = dict.fromkeys(
+    ("offered", "received"),
+    "its HTLC transaction pays no fee, so it needs an input of your own, which no claim has",
+)
 Output = tuple[str, int, str, str, int | None]
 
 
@@ -18,7 +24,6 @@ def request(told: dict[str, Any], case: dict[str, Any], whose: str, **changes: A
     asked = {
         **revoked_requests.request(told, case),
         "feerate_per_kw": case["feerate_per_kw"],
-        "funding_keys": None,
         "preimages": [it["preimage"] for it in told["htlcs"]],
         "whose": whose,
         "confirmed_height": CONFIRMED,
@@ -79,10 +84,6 @@ def delayed(told: dict[str, Any], txid: str, at: int, output: Output) -> Any:
     return element("to_local", (CONFIRMED + DELAY, None), placed(txid, at, output, 1, None, slots))
 
 
-def others(*named: tuple[int, str]) -> list[dict[str, Any]]:
-    return [{"index": index, "name": name} for index, name in named]
-
-
 def outputs_of(case: dict[str, Any]) -> list[Output]:
     return [
         (
@@ -121,7 +122,7 @@ def answers(told: dict[str, Any]) -> Iterator[tuple[dict[str, Any], dict[str, An
                 asked = request(told, case, whose)
                 answer = {
                     "claims": [left[at] for at in sorted(left)],
-                    "others": others(*(it for it in named if it[0] not in left)),
+                    "others": others(it for it in named if it[0] not in left),
                 }
                 yield asked if preimages is None else {**asked, "preimages": preimages}, answer
         for it in case["htlc_transactions"]:
@@ -130,7 +131,7 @@ def answers(told: dict[str, Any]) -> Iterator[tuple[dict[str, Any], dict[str, An
             second = shown_id(bytes.fromhex(found.txid()))
             asked = request(told, case, "own", transaction=it["unsigned_tx_no_witness"], htlcs=[], preimages=[])
             yield asked, {"claims": [delayed(told, second, 0, output)], "others": []}
-            yield {**asked, "whose": "peer"}, {"claims": [], "others": others((0, "to_local"))}
+            yield {**asked, "whose": "peer"}, {"claims": [], "others": others([(0, "to_local")])}
     yield from anchored(told, told["cases"][1])
 
 
@@ -149,8 +150,7 @@ def anchored(
     numbers = {it["cltv_expiry"]: it["payment_hash"] for it in told["htlcs"]}
     hashes = {at: numbers[it[4]] for at, it in enumerate(outputs) if it[4] is not None}
     ours, theirs = (told["terms"]["keys"][it] for it in FUNDING_KEYS)
-    anchors = {ours: "own_anchor", theirs: "peer_anchor"}
-    names = [anchors[it[3][2:68]] if it[0] == "anchor" else it[0] for it in outputs]
+    names = anchor_names(told, outputs)
     changes = {"transaction": transaction, "channel_type": "anchors"}
     told_keys = {"own": ours, "peer": theirs}
     for whose in ("own", "peer"):
@@ -166,7 +166,7 @@ def anchored(
                 for at, name in enumerate(names)
                 if at not in claims
             ]
-            answer = {"claims": [claims[at] for at in sorted(claims)], "others": others(*named)}
+            answer = {"claims": [claims[at] for at in sorted(claims)], "others": others(named, HTLC if whose == "own" else REMOTE)}
             yield request(told, case, whose, **changes, funding_keys=keys), answer
 
 
@@ -198,6 +198,14 @@ def shared(told: dict[str, Any]) -> Iterator[tuple[dict[str, Any], list[int]]]:
         expiries = list(dict.fromkeys(it["expiry_height"] for it in htlcs[1:]))
         asked = request(told, case, "own", transaction=with_outputs(case, SHARED), htlcs=htlcs)
         yield asked, [0, *expiries, *expiries]
+
+
+def unlisted(told: dict[str, Any]) -> Iterator[tuple[dict[str, Any], list[str]]]:
+    """The same two outputs of one hash as `spend revoked` is asked about, and the note."""
+    for asked, notes in revoked_requests.unlisted(told):
+        whole = request(told, told["cases"][1], "own", transaction=asked["transaction"], htlcs=asked["htlcs"])
+        yield whole, notes
+        yield {**whole, "whose": "peer"}, notes
 
 
 def faults(told: dict[str, Any]) -> Iterator[tuple[str, str, int, str]]:

@@ -5,7 +5,7 @@ from collections.abc import Iterator
 from typing import Any
 
 from real.lib.transaction import read_transaction, sha256, shown_id
-from real.tests.revoked_states import SHARED, SHARED_HTLCS, htlc, with_anchors, with_outputs
+from real.tests.revoked_states import FUNDING_KEYS, SHARED, SHARED_HTLCS, htlc, with_anchors, with_outputs
 from real.tests.spend_requests import line, without
 
 KEYS = {
@@ -16,6 +16,12 @@ KEYS = {
     "remote": "remote_payment_basepoint",
 }
 CONFIRMED = 502
+# why no claim is on to_remote of a channel with anchors
+REMOTE = {
+    "to_remote": (
+        "its script has CHECKSIGVERIFY, which no claim has: a wallet takes it by wsh(and_v(v:pk(KEY),older(1)))"
+    )
+}
 
 
 def request(told: dict[str, Any], case: dict[str, Any], **changes: Any) -> dict[str, Any]:
@@ -24,11 +30,20 @@ def request(told: dict[str, Any], case: dict[str, Any], **changes: Any) -> dict[
         "channel_type": "static_remotekey",
         "keys": {name: told["terms"]["keys"][it] for name, it in KEYS.items()},
         "delay_blocks": told["terms"]["local_delay"],
+        "funding_keys": None,
         "htlcs": [htlc(told, it) for it in case["htlcs_given"]],
         "transaction": case["unsigned_tx_no_witness"],
         "confirmed_height": CONFIRMED,
     }
     return {**asked, **changes}
+
+
+def others(named: Any, reasons: dict[str, str] | None = None) -> list[dict[str, Any]]:
+    """What is said of outputs without a claim, by their indices and names."""
+    why = reasons or {}
+    return [
+        {"index": index, "name": name, **({"reason": why[name]} if name in why else {})} for index, name in named
+    ]
 
 
 def owner_height(kind: str, expiry: int | None, waits: int, confirmed: int = CONFIRMED) -> int | None:
@@ -69,7 +84,8 @@ def answers(told: dict[str, Any]) -> Iterator[tuple[dict[str, Any], dict[str, An
         yield request(told, case), {"claims": claims, "others": []}
         local = [at for at, it in enumerate(outputs) if it[0] == "to_local"]
         left = [it for at, it in enumerate(claims) if at not in local]
-        yield request(told, case, delay_blocks=145), {"claims": left, "others": local}
+        unknown = others((at, "unknown") for at in local)
+        yield request(told, case, delay_blocks=145), {"claims": left, "others": unknown}
         for it in case["htlc_transactions"]:
             made = read_transaction(bytes.fromhex(it["unsigned_tx_no_witness"]))
             script = next(each[3] for each in outputs if each[0] == "to_local")
@@ -77,11 +93,20 @@ def answers(told: dict[str, Any]) -> Iterator[tuple[dict[str, Any], dict[str, An
             txid = shown_id(bytes.fromhex(made.txid()))
             asked = request(told, case, transaction=it["unsigned_tx_no_witness"], htlcs=[])
             yield asked, {"claims": [claim(told, txid, 0, output, 0)], "others": []}
-    yield anchored(told, told["cases"][1])
+    yield from anchored(told, told["cases"][1])
 
 
-def anchored(told: dict[str, Any], case: dict[str, Any]) -> tuple[dict[str, Any], dict[str, Any]]:
-    """The outputs of a case as they are with anchors: to_remote and the anchors are among the others."""
+def anchor_names(told: dict[str, Any], outputs: list[tuple[str, int, str, str, int | None]]) -> list[str]:
+    """The names of outputs, where anchors have the keys of Appendix C's funding output."""
+    ours, theirs = (told["terms"]["keys"][it] for it in FUNDING_KEYS)
+    anchors = {ours: "own_anchor", theirs: "peer_anchor"}
+    return [anchors[it[3][2:68]] if it[0] == "anchor" else it[0] for it in outputs]
+
+
+def anchored(told: dict[str, Any], case: dict[str, Any]) -> Iterator[tuple[dict[str, Any], dict[str, Any]]]:
+    """The outputs of a case as they are with anchors: to_remote and the anchors are among the others, and have names.
+    Anchors have them where the funding keys are told.
+    """
     outputs = [
         (kind, value, "0020" + sha256(bytes.fromhex(script)).hex(), script, expiry)
         for kind, value, script, expiry in with_anchors(told, case)
@@ -89,11 +114,13 @@ def anchored(told: dict[str, Any], case: dict[str, Any]) -> tuple[dict[str, Any]
     transaction = with_outputs(case, [(value, program) for _, value, program, _, _ in outputs])
     txid = shown_id(bytes.fromhex(read_transaction(bytes.fromhex(transaction), marked=False).txid()))
     mine = [at for at, it in enumerate(outputs) if it[0] not in ("anchor", "to_remote")]
-    answer = {
-        "claims": [claim(told, txid, at, outputs[at], 1) for at in mine],
-        "others": [at for at in range(len(outputs)) if at not in mine],
-    }
-    return request(told, case, transaction=transaction, channel_type="anchors"), answer
+    claims = [claim(told, txid, at, outputs[at], 1) for at in mine]
+    left = [(at, name) for at, name in enumerate(anchor_names(told, outputs)) if at not in mine]
+    ours, theirs = (told["terms"]["keys"][it] for it in FUNDING_KEYS)
+    asked = request(told, case, transaction=transaction, channel_type="anchors")
+    yield {**asked, "funding_keys": {"own": ours, "peer": theirs}}, {"claims": claims, "others": others(left, REMOTE)}
+    left = [(at, "unknown" if name.endswith("anchor") else name) for at, name in left]
+    yield asked, {"claims": claims, "others": others(left, REMOTE)}
 
 
 def shared(told: dict[str, Any]) -> Iterator[tuple[dict[str, Any], list[int | None]]]:
@@ -104,6 +131,19 @@ def shared(told: dict[str, Any]) -> Iterator[tuple[dict[str, Any], list[int | No
         least = min(it["expiry_height"] for it in htlcs[1:])
         asked = request(told, case, transaction=with_outputs(case, SHARED), htlcs=htlcs, confirmed_height=500)
         yield asked, [500, least + 1, least + 1, None, 644]
+
+
+def unlisted(told: dict[str, Any]) -> Iterator[tuple[dict[str, Any], list[str]]]:
+    """Two outputs of offered HTLCs of one hash, of which the request has both, or one; and the note."""
+    case, numbers = told["cases"][1], SHARED_HTLCS
+    asked = request(told, case, transaction=with_outputs(case, SHARED))
+    for count in (2, 1):
+        htlcs = [htlc(told, it) for it in (1, *numbers[:count])]
+        note = (
+            f"2 outputs are offered HTLCs of hash {htlcs[1]['hash']}, and htlcs has 1 of it: an expiry that is left out"
+            " may be before the heights that are told"
+        )
+        yield {**asked, "htlcs": htlcs}, [note] * (count == 1)
 
 
 def without_delay(told: dict[str, Any]) -> dict[str, Any]:
@@ -129,11 +169,13 @@ def faults(told: dict[str, Any]) -> Iterator[tuple[str, str, int, str]]:
     raw = "transaction: wanted: a transaction in hexadecimal, with or without its witnesses (BIP 144)"
     blocks = "delay_blocks: wanted: a number of blocks, as an integer of at most 16 bits without quotes"
     height = "confirmed_height: wanted: a height, as an integer of at most 32 bits without quotes"
+    funding = "funding_keys: wanted: an object of own and peer, each a compressed key in hexadecimal, or null"
     for members, note in (
         ({"channel_type": "anchor"}, "channel_type: wanted: static_remotekey or anchors, in quotes"),
         ({"confirmed_height": None}, height),
         ({"confirmed_height": 1 << 32}, height),
         ({"delay_blocks": 65_536}, blocks),
+        ({"funding_keys": [keys["remote"], keys["remote"]]}, funding),
         ({"keys": without(keys, "remote")}, key),
         ({"keys": {**keys, "payment": keys["remote"]}}, key),
         ({"keys": {**keys, "delayed": "04" + keys["delayed"][2:]}}, key),

@@ -189,7 +189,8 @@ def with_outputs(case: dict[str, Any], outputs: Any) -> str:
 def state_and_table(given: dict[str, Any], curve: AnyCurve) -> tuple[State, dict[bytes, Known]]:
     """A state, and what is known of its outputs."""
     found = penalties.read_state(json.dumps(given))
-    return found, penalties.known_outputs(found, keys_at(found, curve), spender())
+    table, _ = penalties.known_outputs(found, keys_at(found, curve), spender())
+    return found, table
 
 
 def with_anchors(told: dict[str, Any], case: dict[str, Any]) -> list[tuple[str, int, str, int | None]]:
@@ -254,8 +255,8 @@ def keys_at(found: State, curve: AnyCurve) -> Keys:
 
 
 def output_names(given: dict[str, Any], curve: AnyCurve, others: list[int]) -> dict[str, dict[str, list[int]]]:
-    found, table = state_and_table(given, curve)
-    return penalties.names_of(found, keys_at(found, curve), table, others)
+    found = penalties.read_state(json.dumps(given))
+    return penalties.names_of(found, *penalties.known_outputs(found, keys_at(found, curve), spender()), others)
 
 
 def notes_of(given: dict[str, Any], curve: AnyCurve, trace: Trace) -> list[str]:

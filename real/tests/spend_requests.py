@@ -19,17 +19,16 @@ CASE = "commitment tx with seven outputs"
 MAX_MONEY = 2_100_000_000_000_000
 PAID = (
     "destination: a program that is paid is P2PKH, P2SH, or a witness program of version 0 with 20 or 32 bytes, or of"
-    " versions 1 to 16 with 3 to 40"
+    " version 1 with 32"
 )
-# BOLT 3, "Dust Limits": the hash of a key and of a script, before version 0 and in it, and the longest program of a
-# later version. Taproot's is as long as the hash of a script
+# BOLT 3, "Dust Limits": the hash of a key and of a script, before version 0 and in it. Taproot's is as long as the hash
+# of a script
 DUST = (
     ("76a914" + "11" * 20 + "88ac", 546),
     ("a914" + "11" * 20 + "87", 540),
     ("0014" + "11" * 20, 294),
     ("0020" + "11" * 32, 330),
     ("5120" + "11" * 32, 330),
-    ("6028" + "11" * 40, 354),
 )
 
 
@@ -81,7 +80,7 @@ def requests(
     yield request(told, [by_preimage, after_timeout], [2], 253), [0, 0], 501
     yield request(told, [to_remote], [], 1000), [0], 0
     yield request(told, [delayed, to_remote, by_both], [0], 5000), [144, 0, 0], 0
-    yield request(told, [after_timeout, by_both], [0, 1, 2], 0), [0, 0], 501
+    yield request(told, [after_timeout, by_both], [0, 1, 2], 500), [0, 0], 501
 
 
 def witness_of(it: dict[str, Any], preimages: dict[str, str]) -> list[str | None]:
@@ -200,7 +199,8 @@ def bounds(told: dict[str, Any]) -> Iterator[tuple[dict[str, Any], list[int], in
     """
     asked, _, _ = next(requests(told))
     late = asked["outputs"][1]
-    whole = {**asked, "outputs": [{**late, "value": MAX_MONEY - 1}, keyed_claim(told, "", 1)], "feerate_per_kw": 0}
+    whole = {**asked, "outputs": [{**late, "value": MAX_MONEY - 1}, keyed_claim(told, "", 1)]}
+    whole = {**whole, "feerate_per_kw": 0, "least_feerate_per_kw": 0}
     yield whole, [0, 0], 501, [whole["outputs"][0], keyed_claim(told, "", 2)], "ValueTooLarge", 8
     for destination, dust in DUST:
         paying = {**asked, "outputs": [late], "preimages": [], "destination": destination, "feerate_per_kw": 1000}
@@ -237,15 +237,23 @@ def givens(told: dict[str, Any]) -> Iterator[tuple[dict[str, Any], tuple[str, in
             f" most_feerate_per_kw raises the limit of {limit}"
         )
         yield {**paying, **most, "feerate_per_kw": limit + 1}, ("TooHighFeerate", 14), [over]
+    for least, limit in (({}, 253), ({"least_feerate_per_kw": 25}, 25), ({"least_feerate_per_kw": 300}, 300)):
+        low = [
+            "the feerate_per_kw is below 253, the least that nodes before Bitcoin Core 29.1 pass on by default; later"
+            " ones pass on nothing below 25"
+        ]
+        yield {**paying, **least, "feerate_per_kw": limit}, None, low * (limit < 253)
+        under = (
+            "by default nodes pass on nothing below 253 satoshis for 1,000 units of weight, or from Bitcoin Core 29.1"
+            f" on below 25; least_feerate_per_kw lowers the limit of {limit}"
+        )
+        yield {**paying, **least, "feerate_per_kw": limit - 1}, ("TooLowFeerate", 15), [under]
+    both = {"least_feerate_per_kw": 301, "most_feerate_per_kw": 299}
+    over = (
+        "300 satoshis for 1,000 units of weight are 1 for a virtual byte; most_feerate_per_kw raises the limit of 299"
+    )
+    yield {**paying, **both, "feerate_per_kw": 300}, ("TooHighFeerate", 14), [over]
     for feerate, notes in (
-        (253, []),
-        (
-            252,
-            [
-                "the feerate_per_kw is below 253, the least that nodes before Bitcoin Core 29.1 pass on by default;"
-                " later ones pass on nothing below 25"
-            ],
-        ),
         (2_499, []),
         (
             2_500,
@@ -264,13 +272,15 @@ def givens(told: dict[str, Any]) -> Iterator[tuple[dict[str, Any], tuple[str, in
         yield {**paying, "outputs": [{**late, "value": value}], "feerate_per_kw": 1000}, None, notes
     key = told["terms"]["keys"]["remote_htlcpubkey"]
     curve = "5120" + "12" * 32
-    known = [*ORIGINS, "0014" + "00" * 19 + "01", "0014" + "ff" * 19 + "fe", "0020" + sha256(bytes(2)).hex(), "5115" + "00" * 21, "5120" + POINT_H[:-2] + "c1"]
-    for destination in ("5103" + "11" * 3, "6003" + "11" * 3, "5220" + "11" * 32, curve, *known, *(it for it, _ in DUST)):
+    known = [*ORIGINS, "0014" + "00" * 19 + "01", "0014" + "ff" * 19 + "fe", "0020" + sha256(bytes(2)).hex(), "5120" + POINT_H[:-2] + "c1"]
+    for destination in (curve, *known, *(it for it, _ in DUST)):
         yield {**paying, "destination": destination}, None, destination_notes(destination)
     # without the preimage RIPEMD-160 of its hash stands in the script
     pushed = "0014" + ripemd160(bytes.fromhex(preimage_slot(told, 1)[1])).hex()
     again = "destination: what it pays to is a push of the script of outputs[0]: anyone can spend from it, or nobody"
     yield {**paying, "destination": pushed}, None, [again]
+    for destination in OPEN:
+        yield {**paying, "destination": destination}, ("BadDestination", 13), destination_notes(destination)
     cut = [it[:-2] for it, _ in DUST] + [
         "0014" + "11" * 19,
         "0015" + "11" * 21,
@@ -278,7 +288,6 @@ def givens(told: dict[str, Any]) -> Iterator[tuple[dict[str, Any], tuple[str, in
         "0021" + "11" * 33,
     ]
     other = [
-        "5102" + "11" * 2,
         "6029" + "11" * 41,
         "5020" + "11" * 32,
         "6120" + "11" * 32,
@@ -296,6 +305,12 @@ def givens(told: dict[str, Any]) -> Iterator[tuple[dict[str, Any], tuple[str, in
     yield poor, ("Dust", 10), [dust_note(wanted_plan(told, poor, [0], 501)["fee"], 400, 3 * (9 + 148))]
 
 
+# programs without a rule: of version 1 with another length than taproot's, one of them pay to anchor, and of versions 2 and
+# 16, from the shortest to the longest
+OPEN = [
+    *("51024e73", "5103" + "11" * 3, "5115" + "00" * 21, "511f" + "11" * 31, "5121" + "11" * 33, "5128" + "11" * 40),
+    *("5220" + "11" * 32, "6002" + "11" * 2, "6003" + "11" * 3, "6028" + "11" * 40),
+]
 # the x coordinates of the point G (SEC 2, 2.4.1) and of the point H (BIP 341)
 POINT_G = "79be667ef9dcbbac55a06295ce870b07029bfcdb2dce28d959f2815b16f81798"
 POINT_H = "50929b74c1a04954b78b4b6035e97a5e078a5a0f28ec96d547bfee9ace803ac0"

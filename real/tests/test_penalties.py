@@ -513,8 +513,8 @@ class PenaltiesTest(CurveCase):
             self.check(told == wanted, f"anchors at {height}, in {confirmed_height}: {told}, and not {wanted}")
 
     def check_other_type(self, case: dict[str, Any], outputs: list[tuple[str, int, str, int | None]]) -> None:
-        """A commitment that is told as of the other type: its HTLCs match nothing, and are named. So are anchors with
-        another value, and without their keys.
+        """A commitment that is told as of the other type: its HTLCs match nothing, and are named. So are anchors without
+        their keys, and with the keys in either order.
         """
         local, htlcs, rest = (
             places_of(outputs, "to_local"),
@@ -550,14 +550,11 @@ class PenaltiesTest(CurveCase):
             others=rest,
             named={"to_remote": places_of(outputs, "to_remote")},
         )
-        richer = [("anchor", 331, *outputs[0][2:]), *outputs[1:]]
-        found = penalties.split_outputs(
-            *state_and_table(anchored_state(self.told, case, self.curve, richer), self.curve)
-        )
-        names = output_names(anchored_state(self.told, case, self.curve, richer), self.curve, found[1])
+        turned = {**given, "funding_keys": given["funding_keys"][::-1]}
+        names = output_names(turned, self.curve, rest)
         self.check(
-            names == {"named": {"anchor": [1], "to_remote": places_of(outputs, "to_remote")}},
-            f"an anchor of 331 satoshis: {names}",
+            names == {"named": {"anchor": [0, 1], "to_remote": places_of(outputs, "to_remote")}},
+            f"anchors whose keys are told in the other order: {names}",
         )
         second = case["htlc_transactions"][0]
         self.check_last_line(
@@ -742,25 +739,9 @@ class PenaltiesTest(CurveCase):
             told = list(penalty_notes.lock_notes(penalties.read_state(json.dumps(asked)), found))
             self.check(told == wanted, f"notes on a lock time: {told}")
 
-    def test_hash_notes(self) -> None:
-        """An offered HTLC that is found by another one's hash, and outputs that are told to be spent."""
-        good = state(self.told, self.case, self.curve)
-        it = next(it for it in self.case["outputs"] if it["kind"] == "offered")
-        twice = {**good, "transaction": with_outputs(self.case, [(5_000, it["script_pubkey"])] * 2)}
-        one = [each for each in good["htlcs"] if each["direction"] == "offered"]
-        both = {**twice, "htlcs": [*good["htlcs"], *one]}
-        start = "outputs 0, 1 are offered HTLCs of one hash, and htlcs has 1 of it"
-        for asked, outputs, kind, holds in (
-            (twice, [0, 1], "offered", True),
-            (both, [0, 1], "offered", False),
-            (twice, [0], "offered", False),
-            (twice, [0, 1], "received", False),
-        ):
-            inputs = [Input(bytes(36), b"", 0, [b"", b"", bytes.fromhex(it["witness_script"])]) for _ in outputs]
-            taken = Transaction(2, inputs, [Output(1, bytes(22))], 0).bytes().hex()
-            answer = {"outputs": outputs, "kinds": [kind] * len(outputs), "answer": "taken", "transaction": taken}
-            found = list(penalty_notes.hash_notes(penalties.read_state(json.dumps(asked)), [answer, {}]))
-            self.check(any(it.startswith(start) for it in found) == holds, f"notes on one hash: {found}")
+    def test_spent_notes(self) -> None:
+        """Outputs that are told to be spent have a note with their values."""
+        twice = state(self.told, self.case, self.curve, transaction=with_outputs(self.case, SHARED))
         told = list(penalty_notes.spent_notes(penalties.read_state(json.dumps({**twice, "spent": [1]}))))
         gone = "output 1, counted from 0, with 5000 satoshis, is told to be spent and left alone"
         self.check(told == [gone], f"notes on outputs that are spent: {told}")

@@ -121,6 +121,11 @@ class RevokedTest(CheckedCase):
         found = spend_answer(line(spending))
         self.check(found == wanted, f"a plan of what is claimed: {found}")
 
+    def test_unlisted(self) -> None:
+        for asked, notes in revoked_requests.unlisted(self.told):
+            _, status, found = spend_answers(line(asked), "revoked")
+            self.check((status, found) == (0, notes), f"notes on outputs that share a hash: {found}")
+
     def test_faults(self) -> None:
         for text, name, number, note in revoked_requests.faults(self.told):
             found = spend_answers(text, "revoked")
@@ -160,6 +165,11 @@ class CloseTest(CheckedCase):
         wanted = line(wanted_plan(self.told, spending, [0] * len(outputs), 504)), 0
         found = spend_answer(line(spending))
         self.check(found == wanted, f"a plan of what is claimed: {found}")
+
+    def test_unlisted(self) -> None:
+        for asked, notes in close_requests.unlisted(self.told):
+            _, status, found = spend_answers(line(asked), "close")
+            self.check((status, found) == (0, notes), f"notes on outputs that share a hash: {found}")
 
     def test_faults(self) -> None:
         for text, name, number, note in close_requests.faults(self.told):

@@ -1,6 +1,6 @@
 -- Programs on both sides of each form, and what is none: a script, a key, and an output that nobody can spend.
 use Rattle.std.proofs.Common.{◌≡◌, ℕ, List, [], ◌∷◌, ◌++◌, true, false, replicate, map, refl}
-use Rattle.spend.specs.Destinations.{is_public_key_hash, is_script_hash, has_address, is_destination}
+use Rattle.spend.specs.Destinations.{is_public_key_hash, is_script_hash, has_rule, is_destination}
 
 abbrev program : ℕ → ℕ → List ℕ
 program code size = code ∷ size ∷ replicate size 3
@@ -22,12 +22,12 @@ script_hashes : map is_script_hash (script_hash 20 20 0x87 ∷ script_hash 19 19
     ≡ true ∷ false ∷ false ∷ false ∷ false ∷ false ∷ []
 script_hashes = refl
 
--- of version 0 with 20 or 32 bytes, and one less or more; of versions 1 and 16 with 3 and 40, and one less or more; and the opcodes beside them
-programs : map has_address (program 0 20 ∷ program 0 32 ∷ program 0x51 3 ∷ program 0x51 40 ∷ program 0x60 3 ∷ program 0x60 40 ∷ []) ≡ true ∷ true ∷ true ∷ true ∷ true ∷ true ∷ []
+-- of version 0 with 20 or 32 bytes, and of version 1 with 32; then one less or more, the versions and opcodes beside them, and pay to anchor
+programs : map has_rule (program 0 20 ∷ program 0 32 ∷ program 0x51 32 ∷ []) ≡ true ∷ true ∷ true ∷ []
 programs = refl
 
-no_programs : map has_address (program 0 19 ∷ program 0 21 ∷ program 0 31 ∷ program 0 33 ∷ program 0x51 2 ∷ program 0x51 41 ∷ program 0x60 2 ∷ program 0x60 41 ∷ program 0x50 32 ∷ program 0x61 32 ∷ [])
-    ≡ false ∷ false ∷ false ∷ false ∷ false ∷ false ∷ false ∷ false ∷ false ∷ false ∷ []
+no_programs : map has_rule (program 0 19 ∷ program 0 21 ∷ program 0 31 ∷ program 0 33 ∷ program 0x51 20 ∷ program 0x51 31 ∷ program 0x51 33 ∷ program 0x52 32 ∷ program 0x60 32 ∷ program 0x50 32 ∷ program 0x61 32 ∷ (0x51 ∷ 2 ∷ 0x4e ∷ 0x73 ∷ []) ∷ [])
+    ≡ false ∷ false ∷ false ∷ false ∷ false ∷ false ∷ false ∷ false ∷ false ∷ false ∷ false ∷ false ∷ []
 no_programs = refl
 
 -- a program of each kind; then one that is cut, none, RETURN with data, a key, and IF 2

@@ -53,7 +53,7 @@ request_in bytes = read_in request_of bytes >>= if_within
 -- the request with its claims accepted anew, if they are
 abbrev pub asked_with : Request → Result Asked PlanError
 asked_with r = ok_or (claims_of r.claims) BadClaim
-    >>= (λ claims. Ok (record { claims = claims; preimages = r.preimages; destination = r.destination; feerate_per_kw = r.feerate_per_kw; most_feerate_per_kw = r.most_feerate_per_kw }))
+    >>= (λ claims. Ok (record { claims = claims; preimages = r.preimages; destination = r.destination; feerate_per_kw = r.feerate_per_kw; least_feerate_per_kw = r.least_feerate_per_kw; most_feerate_per_kw = r.most_feerate_per_kw }))
 
 -- what bytes ask for, where no object has a name twice
 unfoldable pub asked_in : List ℕ → Result Asked PlanError

@@ -2,35 +2,19 @@
 use Rattle.std.specs.Prelude.{ℕ, if◌then◌else◌, List, Option, Some, None, codes}
 use Rattle.std.specs.Str.{bytes_eq}
 use Rattle.serde_json.specs.Data.{Data}
-use Rattle.serde_json.specs.Find.{as_null, as_str}
+use Rattle.serde_json.specs.Find.{as_str}
 use Rattle.claim.specs.Opcodes.{◌>>=◌}
-use Rattle.texts.specs.Keys.{key_of}
-use Rattle.texts.specs.Values.{first_some, object_of, member_of, list_of, u16_of, u32_of, bytes_of_len}
+use Rattle.texts.specs.Values.{object_of, member_of, list_of, u16_of, u32_of, bytes_of_len}
 use Rattle.unilateral.specs.declared.closes.Whose.{Whose}
 use Rattle.unilateral.specs.declared.closes.Whose.TheVariants.{Ours, Theirs}
-use Rattle.unilateral.specs.declared.names.FundingKeys.{FundingKeys}
-use Rattle.spend.specs.RevokedRequests.{channel_type_of, keys_of, htlc_of, transaction_of}
+use Rattle.spend.specs.RevokedRequests.{channel_type_of, keys_of, null_or, funding_keys_of, htlc_of, transaction_of}
 use Rattle.spend.specs.declared.close_requests.CloseRequest.{CloseRequest}
 
 abbrev pub whose_of : Data → Option Whose
 whose_of d = as_str d >>= (λ name. if bytes_eq name (codes "own") then Some Ours else if bytes_eq name (codes "peer") then Some Theirs else None)
 
--- null, or what is read
-abbrev pub null_or : {A : Type 0} → (Data → Option A) → Data → Option (Option A)
-null_or reads d = first_some (as_null d >>= (λ n. Some None)) (reads d >>= (λ x. Some (Some x)))
-
 abbrev pub height_of : Data → Option (Option ℕ)
 height_of d = null_or u32_of d
-
-unfoldable pub keys_of_funding : Data → Option FundingKeys
-keys_of_funding d = do
-  form ← object_of 2 d
-  ours ← member_of (codes "own") key_of form
-  peers ← member_of (codes "peer") key_of form
-  Some (record { ours = ours; peers = peers })
-
-abbrev pub funding_keys_of : Data → Option (Option FundingKeys)
-funding_keys_of d = null_or keys_of_funding d
 
 -- an object of these ten members
 unfoldable pub close_request_of : Data → Option CloseRequest

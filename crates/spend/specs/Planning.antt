@@ -6,7 +6,7 @@ use Rattle.filling.specs.declared.spends.UnsignedSpend.{UnsignedSpend}
 use Rattle.filling.specs.Refusals.{total_claimed}
 use Rattle.filling.specs.Spends.{unsigned_spend_of, missing_of, first_spend_refusal, IsUnsignedSpend}
 use Rattle.spend.specs.declared.errors.PlanError.{PlanError}
-use Rattle.spend.specs.declared.errors.PlanError.TheVariants.{NoMemory, ValueTooLarge, NothingLeft, Dust, BadDestination, TooHighFeerate}
+use Rattle.spend.specs.declared.errors.PlanError.TheVariants.{NoMemory, ValueTooLarge, NothingLeft, Dust, BadDestination, TooHighFeerate, TooLowFeerate}
 use Rattle.spend.specs.declared.asking.Asked.{Asked}
 use Rattle.spend.specs.declared.plans.Plan.{Plan}
 use Rattle.spend.specs.Refusals.{plan_error}
@@ -46,6 +46,7 @@ abbrev pub given_refusal : Asked → Option PlanError
 given_refusal a =
     if not (is_destination a.destination) then Some BadDestination
     else if nat_lt a.most_feerate_per_kw a.feerate_per_kw then Some TooHighFeerate
+    else if nat_lt a.feerate_per_kw a.least_feerate_per_kw then Some TooLowFeerate
     else None
 
 -- why what a fee leaves can't be paid

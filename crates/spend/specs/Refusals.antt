@@ -3,7 +3,7 @@ use Rattle.std.specs.Prelude.{ℕ, List, codes}
 use Rattle.filling.specs.declared.errors.SpendError.{SpendError}
 use Rattle.filling.specs.declared.errors.SpendError.TheVariants as spends
 use Rattle.spend.specs.declared.errors.PlanError.{PlanError}
-use Rattle.spend.specs.declared.errors.PlanError.TheVariants.{NoMemory, NotJson, BadShape, BadClaim, FixedTransaction, SameOutpoint, MeasuredSignature, NoPreimage, ValueTooLarge, NothingLeft, Dust, BadDestination, TooHighFeerate}
+use Rattle.spend.specs.declared.errors.PlanError.TheVariants.{NoMemory, NotJson, BadShape, BadClaim, FixedTransaction, SameOutpoint, MeasuredSignature, NoPreimage, ValueTooLarge, NothingLeft, Dust, BadDestination, TooHighFeerate, TooLowFeerate}
 
 abbrev pub plan_error_number : PlanError → ℕ
 plan_error_number NoMemory = 0
@@ -19,6 +19,7 @@ plan_error_number NothingLeft = 9
 plan_error_number Dust = 10
 plan_error_number BadDestination = 13
 plan_error_number TooHighFeerate = 14
+plan_error_number TooLowFeerate = 15
 
 abbrev pub plan_error_text : PlanError → List ℕ
 plan_error_text NoMemory = codes "NoMemory"
@@ -34,6 +35,7 @@ plan_error_text NothingLeft = codes "NothingLeft"
 plan_error_text Dust = codes "Dust"
 plan_error_text BadDestination = codes "BadDestination"
 plan_error_text TooHighFeerate = codes "TooHighFeerate"
+plan_error_text TooLowFeerate = codes "TooLowFeerate"
 
 -- a refusal of the unsigned spend. Where it would pay more than it spends, nothing is left
 abbrev pub plan_error : SpendError → PlanError

@@ -4,7 +4,7 @@ use Rattle.std.specs.Str.{bytes_eq}
 use Rattle.std.specs.Result.{result_ok}
 use Rattle.std.proofs.lemmas.Bool.{ltb-true}
 use Rattle.serde_json.specs.Data.{Data}
-use Rattle.serde_json.specs.Find.{as_str}
+use Rattle.serde_json.specs.Find.{as_null, as_str}
 use Rattle.script.specs.declared.limits.TheConstants.{LOCKTIME_THRESHOLD}
 use Rattle.tx.specs.Fields.{Transaction}
 use Rattle.tx.specs.Reading.{reading, stripped_reading}
@@ -18,6 +18,7 @@ use Rattle.revoked.specs.declared.outputs.RevokedHtlc.{RevokedHtlc}
 use Rattle.claim.specs.Opcodes.{◌>>=◌}
 use Rattle.texts.specs.Keys.{key_of}
 use Rattle.texts.specs.Values.{first_some, object_of, member_of, list_of, u16_of, u32_of, bytes_of, bytes_of_len}
+use Rattle.unilateral.specs.declared.names.FundingKeys.{FundingKeys}
 use Rattle.spend.specs.declared.revoked_requests.RevokedRequest.{RevokedRequest}
 
 -- the types of channels have their names of BOLT 9, without `option_`
@@ -34,6 +35,20 @@ keys_of d = do
   remote_htlc ← member_of (codes "remote_htlc") key_of form
   remote ← member_of (codes "remote") key_of form
   Some (record { revocation = revocation; delayed = delayed; local_htlc = local_htlc; remote_htlc = remote_htlc; remote = remote })
+
+-- null, or what is read
+abbrev pub null_or : {A : Type 0} → (Data → Option A) → Data → Option (Option A)
+null_or reads d = first_some (as_null d >>= (λ n. Some None)) (reads d >>= (λ x. Some (Some x)))
+
+unfoldable pub keys_of_funding : Data → Option FundingKeys
+keys_of_funding d = do
+  form ← object_of 2 d
+  ours ← member_of (codes "own") key_of form
+  peers ← member_of (codes "peer") key_of form
+  Some (record { ours = ours; peers = peers })
+
+abbrev pub funding_keys_of : Data → Option (Option FundingKeys)
+funding_keys_of d = null_or keys_of_funding d
 
 abbrev pub direction_of : Data → Option Direction
 direction_of d = as_str d >>= (λ name. if bytes_eq name (codes "offered") then Some Offered else if bytes_eq name (codes "received") then Some Received else None)
@@ -64,14 +79,15 @@ transaction_in bytes = first_some (result_ok (reading bytes)) (result_ok (stripp
 abbrev pub transaction_of : Data → Option Transaction
 transaction_of d = bytes_of d >>= transaction_in
 
--- an object of these six members
+-- an object of these seven members
 unfoldable pub revoked_request_of : Data → Option RevokedRequest
 revoked_request_of d = do
-  form ← object_of 6 d
+  form ← object_of 7 d
   channel_type ← member_of (codes "channel_type") channel_type_of form
   keys ← member_of (codes "keys") keys_of form
   delay_blocks ← member_of (codes "delay_blocks") u16_of form
   confirmed_height ← member_of (codes "confirmed_height") u32_of form
+  funding_keys ← member_of (codes "funding_keys") funding_keys_of form
   htlcs ← member_of (codes "htlcs") (list_of htlc_of) form
   transaction ← member_of (codes "transaction") transaction_of form
-  Some (record { channel_type = channel_type; keys = keys; delay_blocks = delay_blocks; htlcs = htlcs; transaction = transaction; confirmed_height = confirmed_height })
+  Some (record { channel_type = channel_type; keys = keys; delay_blocks = delay_blocks; htlcs = htlcs; funding_keys = funding_keys; transaction = transaction; confirmed_height = confirmed_height })

@@ -29,6 +29,8 @@ pub struct Asked {
     pub destination: ByteString,
     /// Satoshis for each 1,000 units of weight.
     pub feerate_per_kw: u32,
+    /// The least feerate that is taken.
+    pub least_feerate_per_kw: u32,
     /// The greatest feerate that is taken.
     pub most_feerate_per_kw: u32,
 }
@@ -128,6 +130,7 @@ fn asked_with(alloc: Global, request: Request) -> Result<Asked, PlanError>
         preimages,
         destination,
         feerate_per_kw,
+        least_feerate_per_kw,
         most_feerate_per_kw,
     } = request;
     Ok(Asked {
@@ -135,6 +138,7 @@ fn asked_with(alloc: Global, request: Request) -> Result<Asked, PlanError>
         preimages,
         destination,
         feerate_per_kw,
+        least_feerate_per_kw,
         most_feerate_per_kw,
     })
 }

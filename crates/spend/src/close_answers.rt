@@ -4,11 +4,11 @@ ghost use Rattle.std.specs.Prelude.{◌≡◌, IfOk};
 ghost use Rattle.spend.specs.CloseAnswers.{IsFoundIn, IsCloseAnswer};
 
 use crate::close_requests::CloseRequest;
-use crate::revoked_answers::kind_of;
+use crate::revoked_answers::{kind_of, tell_others};
 use claim::Claim;
 use lists::List;
 use page::Page;
-use page::Piece::{Count, Text};
+use page::Piece::Text;
 use std::alloc::{AllocError, Global};
 use texts::WriteValue;
 use tx::Tx;
@@ -113,17 +113,10 @@ pub fn tell_close(line: &mut Page, answer: &CloseAnswer) {
         tell_claim(line, answer, claim);
     }
     line.push("],\"others\":[");
-    let names = answer.names.values();
-    for (place, index) in answer.found.others.values().iter().enumerate() {
-        let name = match names.get(place) {
-            Some(name) => text_of(*name),
-            None => "unknown",
-        };
-        line.element(
-            "{\"index\":%,\"name\":\"%\"}",
-            &[Count(u64::from(*index)), Text(name)],
-        );
-    }
+    let others = answer.found.others.values();
+    let channel_type = answer.close.commitment.channel_type();
+    let whose = answer.close.whose;
+    tell_others(line, others, answer.names.values(), channel_type, whose);
     line.push("]}\n");
 }
 
@@ -164,17 +157,4 @@ fn tell_claim(line: &mut Page, answer: &CloseAnswer, claim: &Claim) {
         Err(_) => line.fail(),
     }
     line.push("}");
-}
-
-// The name of an output without a claim, as it is written.
-fn text_of(name: OutputName) -> &'static str {
-    match name {
-        OutputName::ToLocal => "to_local",
-        OutputName::ToRemote => "to_remote",
-        OutputName::OurAnchor => "own_anchor",
-        OutputName::PeersAnchor => "peer_anchor",
-        OutputName::Offered => "offered",
-        OutputName::Received => "received",
-        OutputName::Unknown => "unknown",
-    }
 }

@@ -3,9 +3,11 @@
 ghost use Rattle.std.specs.Prelude.{◌≡◌, codes};
 ghost use Rattle.json_value.specs.View.{view};
 ghost use Rattle.texts.specs.Values.{Gives, member_of, list_of, bytes_of_len};
-ghost use Rattle.spend.specs.CloseRequests.{whose_of, height_of, keys_of_funding, funding_keys_of};
+ghost use Rattle.spend.specs.CloseRequests.{whose_of, height_of};
 
-use crate::revoked_requests::{channel_type_of, keys_of, member_htlcs, member_transaction};
+use crate::revoked_requests::{
+    channel_type_of, funding_keys_of, keys_of, member_htlcs, member_transaction,
+};
 use json_value::Value;
 use lists::List;
 use revoked::{ChannelType, CommitmentKeys, RevokedHtlc};
@@ -62,31 +64,6 @@ pub fn height_of(value: &Value) -> Option<Option<u32>>
     }
     match u32::from_value(value) {
         Some(height) => Some(Some(height)),
-        None => None,
-    }
-}
-
-// Reads the keys of the funding output, an object of two members.
-#[tactic(auto, unfolding(crate::specs::CloseRequests::keys_of_funding))]
-fn keys_of_funding(value: &Value) -> Option<FundingKeys>
-    ensures { result ≡ keys_of_funding (view value.now) }
-{
-    let form = object_of(value, 2)?;
-    Some(FundingKeys {
-        ours: member(form, "own")?,
-        peers: member(form, "peer")?,
-    })
-}
-
-/// Reads the keys of the funding output, or null.
-pub fn funding_keys_of(value: &Value) -> Option<Option<FundingKeys>>
-    ensures { result ≡ funding_keys_of (view value.now) }
-{
-    if value.is_null() {
-        return Some(None);
-    }
-    match keys_of_funding(value) {
-        Some(keys) => Some(Some(keys)),
         None => None,
     }
 }

@@ -1,7 +1,7 @@
 // Which programs are paid.
 
 ghost use Rattle.std.specs.Prelude.{◌≡◌};
-ghost use Rattle.spend.specs.Destinations.{is_public_key_hash, is_script_hash, has_address, is_destination};
+ghost use Rattle.spend.specs.Destinations.{is_public_key_hash, is_script_hash, has_rule, is_destination};
 
 use crate::dust::is_witness_program;
 
@@ -15,6 +15,9 @@ const EQUALVERIFY: u8 = 0x88;
 const HASH160: u8 = 0xa9;
 
 const CHECKSIG: u8 = 0xac;
+
+// The version of taproot.
+const VERSION_1: u8 = 0x51;
 
 // Whether the program is P2PKH.
 fn is_public_key_hash(program: &[u8]) -> bool
@@ -35,23 +38,22 @@ fn is_script_hash(program: &[u8]) -> bool
     program.len() == 23 && program[0] == HASH160 && program[1] == 20 && program[22] == EQUAL
 }
 
-// Whether a witness program has a length that is paid to in its version (BIPs 173 and 350).
-fn has_address(program: &[u8]) -> bool
-    ensures { result ≡ has_address program.now }
+// Whether a rule stands for a witness program of its version and length (BIPs 141 and 341).
+fn has_rule(program: &[u8]) -> bool
+    ensures { result ≡ has_rule program.now }
 {
     let size = program.len();
     is_witness_program(program)
         && (if program[0] == 0 {
             size == 22 || size == 34
         } else {
-            5 <= size
+            program[0] == VERSION_1 && size == 34
         })
 }
 
-/// Whether a program is paid: P2PKH, P2SH, or a witness program of version 0 with 20 or 32 bytes, or of a later version with 3 to 40. With 2 bytes a transaction of one input is
-/// shorter than nodes pass on.
+/// Whether a program is paid: P2PKH, P2SH, or a witness program of version 0 with 20 or 32 bytes, or of version 1 with 32. Anyone can spend from the others.
 pub fn is_destination(program: &[u8]) -> bool
     ensures { result ≡ is_destination program.now }
 {
-    is_public_key_hash(program) || is_script_hash(program) || has_address(program)
+    is_public_key_hash(program) || is_script_hash(program) || has_rule(program)
 }

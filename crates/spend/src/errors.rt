@@ -32,10 +32,12 @@ pub enum PlanError {
     NothingLeft,
     /// What the fee leaves is too little for nodes to relay.
     Dust,
-    /// The destination is no program that wallets have an address for.
+    /// The destination is no program that wallets have an address for, or one that anyone can spend from.
     BadDestination,
     /// The feerate is above the limit.
     TooHighFeerate,
+    /// The feerate is below the limit.
+    TooLowFeerate,
 }
 
 impl PlanError {
@@ -57,6 +59,7 @@ impl PlanError {
             PlanError::Dust => 10,
             PlanError::BadDestination => 13,
             PlanError::TooHighFeerate => 14,
+            PlanError::TooLowFeerate => 15,
         }
     }
 
@@ -78,6 +81,7 @@ impl PlanError {
             PlanError::Dust => "Dust",
             PlanError::BadDestination => "BadDestination",
             PlanError::TooHighFeerate => "TooHighFeerate",
+            PlanError::TooLowFeerate => "TooLowFeerate",
         }
     }
 }

@@ -27,6 +27,7 @@ mod requests;
 mod revoked_answers;
 mod revoked_requests;
 mod shapes;
+mod shared_hashes;
 mod telling;
 mod weights;
 

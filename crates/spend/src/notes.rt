@@ -10,8 +10,8 @@ use crate::inputs::note_inputs;
 use crate::outputs_at_fault::{note_claims_at_fault, note_slots, output_at};
 use crate::plans::{Plan, asked_fee};
 use crate::request_bytes::note_request_bytes;
-use crate::requests::MOST_FEERATE_PER_KW;
-use crate::shapes::{CLOSE, Member, REVOKED, note_shape, note_whole, said};
+use crate::requests::{LEAST_FEERATE_PER_KW, MOST_FEERATE_PER_KW};
+use crate::shapes::{Member, note_shape, note_whole, said};
 use json_names::first_repeated_member;
 use json_value::Value;
 use page::Page;
@@ -20,9 +20,6 @@ use script_notes::{Origin, is_curve_x, origin_of_hash, origin_of_point};
 use std::alloc::Global;
 use std::io::Write;
 use streams::written;
-
-// The least feerate that nodes before Bitcoin Core 29.1 pass on by default: one satoshi for a virtual byte.
-const RELAYED_FEERATE_PER_KW: u32 = 253;
 
 // From ten satoshis for a virtual byte on a plan has a note with its feerate in other units.
 const NOTED_FEERATE_PER_KW: u32 = 2_500;
@@ -73,20 +70,13 @@ fn note_destination(alloc: Global, notes: &mut Page, asked: &Asked) {
         notes.show(&origin);
         notes.push(": anyone can spend from it, or nobody\n");
     } else if !note_request_bytes(alloc, notes, asked) {
-        note_version(notes, program);
+        note_taproot(notes, program);
     }
 }
 
-// Notes a witness program of a later version than 0 whose key is no secret's, or that has no rule yet.
-fn note_version(notes: &mut Page, program: &[u8]) {
-    let [code, _, key @ ..] = program else {
-        return;
-    };
-    if !is_witness_program(program) || *code == 0 {
-        return;
-    }
-    let version = u64::from(code.saturating_sub(0x50));
-    if version == 1 && key.len() == 32 {
+// Notes a taproot program whose key is no secret's, or no point of the curve.
+fn note_taproot(notes: &mut Page, program: &[u8]) {
+    if let [0x51, 0x20, key @ ..] = program {
         if let Some(origin) = origin_of_point(key) {
             notes.push("note: destination: it is ");
             notes.push(origin);
@@ -96,10 +86,21 @@ fn note_version(notes: &mut Page, program: &[u8]) {
                 "note: destination: its 32 bytes are no key of the curve: nobody can spend from it (BIP 341)\n",
             );
         }
-    } else {
+    }
+}
+
+// Notes which programs are paid, or that anyone can spend from this one.
+fn note_bad_destination(notes: &mut Page, program: &[u8]) {
+    if is_witness_program(program) && program[0] != 0 {
+        let version = u64::from(program[0].saturating_sub(0x50));
+        let size = u64::from(program[1]);
         notes.write(
             "note: destination: anyone can spend from it today: no rule stands yet for witness version % with % bytes\n",
-            &[Count(version), Count(key.len() as u64)],
+            &[Count(version), Count(size)],
+        );
+    } else {
+        notes.push(
+            "note: destination: a program that is paid is P2PKH, P2SH, or a witness program of version 0 with 20 or 32 bytes, or of version 1 with 32\n",
         );
     }
 }
@@ -116,7 +117,7 @@ fn origin_of_destination(program: &[u8]) -> Option<Origin> {
 
 // Notes a feerate that nodes do not pass on, or that is above the limit that a request has without its own.
 fn note_feerate(notes: &mut Page, asked: &Asked) {
-    if asked.feerate_per_kw < RELAYED_FEERATE_PER_KW {
+    if asked.feerate_per_kw < LEAST_FEERATE_PER_KW {
         notes.push(
             "note: the feerate_per_kw is below 253, the least that nodes before Bitcoin Core 29.1 pass on by default; later ones pass on nothing below 25\n",
         );
@@ -142,9 +143,7 @@ pub fn say_refusal(alloc: Global, asked: &Asked, error: PlanError, err: &mut dyn
 {
     let mut notes = Page::new(alloc);
     match error {
-        PlanError::BadDestination => notes.push(
-            "note: destination: a program that is paid is P2PKH, P2SH, or a witness program of version 0 with 20 or 32 bytes, or of versions 1 to 16 with 3 to 40\n",
-        ),
+        PlanError::BadDestination => note_bad_destination(&mut notes, asked.destination.bytes()),
         PlanError::TooHighFeerate => notes.write(
             "note: % satoshis for 1,000 units of weight are % for a virtual byte; most_feerate_per_kw raises the limit of %\n",
             &[
@@ -152,6 +151,10 @@ pub fn say_refusal(alloc: Global, asked: &Asked, error: PlanError, err: &mut dyn
                 Count(u64::from(asked.feerate_per_kw / 250)),
                 Count(u64::from(asked.most_feerate_per_kw)),
             ],
+        ),
+        PlanError::TooLowFeerate => notes.write(
+            "note: by default nodes pass on nothing below 253 satoshis for 1,000 units of weight, or from Bitcoin Core 29.1 on below 25; least_feerate_per_kw lowers the limit of %\n",
+            &[Count(u64::from(asked.least_feerate_per_kw))],
         ),
         PlanError::ValueTooLarge => notes.write(
             "note: the outputs have % satoshis together, and there are at most 2100000000000000\n",
@@ -203,18 +206,8 @@ pub fn say_input(alloc: Global, bytes: &[u8], error: PlanError, err: &mut dyn Wr
     say(&notes, err);
 }
 
-/// Says which part of a request about a revoked commitment is refused.
-pub fn say_revoked_input(alloc: Global, bytes: &[u8], error: PlanError, err: &mut dyn Write) {
-    say_commitment_input(alloc, bytes, error, &REVOKED, err)
-}
-
-/// Says which part of a request about an unrevoked commitment is refused.
-pub fn say_close_input(alloc: Global, bytes: &[u8], error: PlanError, err: &mut dyn Write) {
-    say_commitment_input(alloc, bytes, error, &CLOSE, err)
-}
-
-// Says which part of a request about a commitment is refused: a request with these members.
-fn say_commitment_input(
+/// Says which part of a request about a commitment is refused: a request with these members.
+pub fn say_commitment_input(
     alloc: Global,
     bytes: &[u8],
     error: PlanError,

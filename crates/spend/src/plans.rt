@@ -111,6 +111,9 @@ fn given_refusal(asked: &Asked) -> Option<PlanError>
     if asked.feerate_per_kw > asked.most_feerate_per_kw {
         return Some(PlanError::TooHighFeerate);
     }
+    if asked.feerate_per_kw < asked.least_feerate_per_kw {
+        return Some(PlanError::TooLowFeerate);
+    }
     None
 }
 
@@ -144,7 +147,7 @@ pub fn asked_fee(alloc: Global, asked: &Asked) -> Option<u128>
 }
 
 /// The spend of what is asked, which pays all but the fee. Refused with the first that holds of `FixedTransaction`, `SameOutpoint`, `MeasuredSignature`, `NoPreimage`,
-/// `ValueTooLarge`, `NothingLeft`, `Dust`, `BadDestination` and `TooHighFeerate`. `NoMemory` may come at any time.
+/// `ValueTooLarge`, `NothingLeft`, `Dust`, `BadDestination`, `TooHighFeerate` and `TooLowFeerate`. `NoMemory` may come at any time.
 pub fn plan_of(alloc: Global, asked: &Asked) -> Result<Plan, PlanError>
     requires { IsWithin asked.now }
     ensures { Plans result asked.now }

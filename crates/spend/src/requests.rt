@@ -1,16 +1,20 @@
 // What the JSON object asks for.
 
-ghost use Rattle.std.specs.Prelude.{◌≡◌, codes};
+ghost use Rattle.std.specs.Prelude.{◌≡◌, ◌≤◌, option_map, codes};
 ghost use Rattle.json_value.specs.View.{view};
+ghost use Rattle.serde_json.specs.Find.{get};
 ghost use Rattle.texts.specs.Values.{Gives, member_of, list_of};
 ghost use Rattle.spend.specs.Outputs.{output_of};
-ghost use Rattle.spend.specs.Limits.{most_feerate_of};
+ghost use Rattle.spend.specs.Limits.{count_of, limit_or, form_of, least_feerate_of, most_feerate_of};
 
 use crate::outputs::outputs_of;
 use json_value::Value;
 use lists::{ByteString, List};
 use std::alloc::Global;
-use texts::{PlainClaim, ReadValue, ShapeError, member, object_of, read_member};
+use texts::{FromValue, PlainClaim, ReadValue, ShapeError, member, object_of, read_member};
+
+/// The least feerate that is taken where a request has no other limit: one satoshi for a virtual byte, rounded up, the least that nodes before Bitcoin Core 29.1 pass on by default.
+pub const LEAST_FEERATE_PER_KW: u32 = 253;
 
 /// The greatest feerate that is taken where a request has no other limit: 1,000 satoshis for a virtual byte.
 pub const MOST_FEERATE_PER_KW: u32 = 250_000;
@@ -26,21 +30,54 @@ pub struct Request {
     pub destination: ByteString,
     /// Satoshis for each 1,000 units of weight.
     pub feerate_per_kw: u32,
+    /// The least feerate that is taken.
+    pub least_feerate_per_kw: u32,
     /// The greatest feerate that is taken.
     pub most_feerate_per_kw: u32,
 }
 
-// The limit of the feerate, which is the one member that may be left out.
+// How many members have a name.
+fn count_of(form: &Value, name: &str) -> usize
+    ensures value { result ≡ count_of (get name.now (view form.now)) }
+    ensures bound { result ≤ 1 }
+{
+    match form.member(name) {
+        Some(_) => 1,
+        None => 0,
+    }
+}
+
+// A limit, or what holds without it.
+fn limit_or(without: u32, form: &Value, name: &str) -> Option<u32>
+    ensures { result ≡ limit_or without (get name.now (view form.now)) }
+{
+    match form.member(name) {
+        Some(value) => u32::from_value(value),
+        None => Some(without),
+    }
+}
+
+// An object of four members and of the limits of the feerate, which may be left out.
+fn form_of(value: &Value) -> Option<&Value>
+    ensures { option_map (λ v. view v.now) result ≡ form_of (view value.now) }
+{
+    let least = count_of(value, "least_feerate_per_kw");
+    let most = count_of(value, "most_feerate_per_kw");
+    object_of(value, 4 + least + most)
+}
+
+// The least feerate that is taken.
+fn least_feerate_of(form: &Value) -> Option<u32>
+    ensures { result ≡ least_feerate_of (view form.now) }
+{
+    limit_or(LEAST_FEERATE_PER_KW, form, "least_feerate_per_kw")
+}
+
+// The greatest feerate that is taken.
 fn most_feerate_of(form: &Value) -> Option<u32>
     ensures { result ≡ most_feerate_of (view form.now) }
 {
-    match form.member("most_feerate_per_kw") {
-        Some(_) => member(object_of(form, 5)?, "most_feerate_per_kw"),
-        None => match object_of(form, 4) {
-            Some(_) => Some(MOST_FEERATE_PER_KW),
-            None => None,
-        },
-    }
+    limit_or(MOST_FEERATE_PER_KW, form, "most_feerate_per_kw")
 }
 
 // Reads the outputs.
@@ -53,7 +90,7 @@ fn claims_of(alloc: Global, form: &Value) -> Result<List<PlainClaim>, ShapeError
     Ok(List::from_vec(outputs_of(alloc, values)?))
 }
 
-/// An object of the members `destination`, `feerate_per_kw`, `outputs` and `preimages`, and at will `most_feerate_per_kw`.
+/// An object of the members `destination`, `feerate_per_kw`, `outputs` and `preimages`, and at will `least_feerate_per_kw` and `most_feerate_per_kw`.
 impl ReadValue for Request {
     ghost use Rattle.spend.specs.Requests.{request_of};
 
@@ -61,13 +98,16 @@ impl ReadValue for Request {
 
     #[tactic(auto, unfolding(crate::specs::Requests::request_of))]
     fn read_value(alloc: Global, value: &Value) -> Result<Request, ShapeError> {
-        let most_feerate_per_kw = most_feerate_of(value).ok_or(ShapeError::BadShape)?;
-        let feerate_per_kw: u32 = member(value, "feerate_per_kw").ok_or(ShapeError::BadShape)?;
+        let form = form_of(value).ok_or(ShapeError::BadShape)?;
+        let least_feerate_per_kw = least_feerate_of(form).ok_or(ShapeError::BadShape)?;
+        let most_feerate_per_kw = most_feerate_of(form).ok_or(ShapeError::BadShape)?;
+        let feerate_per_kw: u32 = member(form, "feerate_per_kw").ok_or(ShapeError::BadShape)?;
         Ok(Request {
-            destination: read_member(alloc, value, "destination")?,
-            preimages: read_member(alloc, value, "preimages")?,
-            claims: claims_of(alloc, value)?,
+            destination: read_member(alloc, form, "destination")?,
+            preimages: read_member(alloc, form, "preimages")?,
+            claims: claims_of(alloc, form)?,
             feerate_per_kw,
+            least_feerate_per_kw,
             most_feerate_per_kw,
         })
     }

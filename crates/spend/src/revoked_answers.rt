@@ -1,34 +1,42 @@
 //! What a revoked commitment lets its owner's peer claim of a transaction, and until when.
 
-ghost use Rattle.std.specs.Prelude.{◌≡◌, IfOk};
+ghost use Rattle.std.specs.Prelude.{◌≡◌, map, IfOk};
 ghost use Rattle.penalty.specs.Sets.{AreClaimsOn};
 ghost use Rattle.revoked.specs.Reading.{claimed_in, others_in};
+ghost use Rattle.unilateral.specs.Names.{name_at};
 ghost use Rattle.spend.specs.RevokedAnswers.{parts_of};
 
 use crate::revoked_requests::RevokedRequest;
 use claim::Claim;
+use lists::List;
 use page::Page;
 use page::Piece::{Count, Text};
-use revoked::{Direction, Found, Revoked, RevokedOutput, channel_patterns, claims_in};
+use revoked::{ChannelType, Direction, Found, Revoked, RevokedOutput, channel_patterns, claims_in};
 use std::alloc::{AllocError, Global};
 use texts::WriteValue;
+use unilateral::{OutputName, Whose, names_at};
 
 /// A revoked commitment, and what was found of it in a transaction.
 #[derive(Drop)]
 pub struct RevokedAnswer {
     pub revoked: Revoked,
     pub found: Found,
+    /// The names of the outputs without a claim.
+    pub names: List<OutputName>,
     /// The height of the block that has the transaction, or of the next one.
     pub confirmed_height: u32,
 }
 
-/// All that the commitment of a request lets its owner's peer claim of the transaction: a claim on each output of it, and the indices of the others. The only error is that memory ran out.
+/// All that the commitment of a request lets its owner's peer claim of the transaction: a claim on each output of it, and the indices and the names of the others. The only error is that memory ran out.
 pub fn answer_of(alloc: Global, request: RevokedRequest) -> Result<RevokedAnswer, AllocError>
     ensures commitment { IfOk result (λ a. a.revoked ≡ parts_of request) }
     ensures claims { IfOk result (λ a. AreClaimsOn
         (claimed_in (parts_of request) request.transaction) a.found.claims) }
     ensures others { IfOk result (λ a. a.found.others
         ≡ others_in (parts_of request) request.transaction) }
+    ensures names { IfOk result (λ a. a.names ≡ map (name_at (parts_of request)
+        request.funding_keys request.transaction)
+        (others_in (parts_of request) request.transaction)) }
     ensures height { IfOk result (λ a. a.confirmed_height ≡ request.confirmed_height) }
 {
     let RevokedRequest {
@@ -36,6 +44,7 @@ pub fn answer_of(alloc: Global, request: RevokedRequest) -> Result<RevokedAnswer
         keys,
         delay_blocks,
         htlcs,
+        funding_keys,
         transaction,
         confirmed_height,
     } = request;
@@ -43,9 +52,12 @@ pub fn answer_of(alloc: Global, request: RevokedRequest) -> Result<RevokedAnswer
     let htlcs = htlcs.into_vec();
     let revoked = Revoked::new(alloc, &patterns, channel_type, keys, delay_blocks, htlcs)?;
     let found = claims_in(alloc, &patterns, &revoked, &transaction)?;
+    let others = found.others.values();
+    let names = names_at(alloc, &revoked, funding_keys, &transaction, others)?;
     Ok(RevokedAnswer {
         revoked,
         found,
+        names,
         confirmed_height,
     })
 }
@@ -57,10 +69,66 @@ pub fn tell_answer(line: &mut Page, answer: &RevokedAnswer) {
         tell_claim(line, answer, claim);
     }
     line.push("],\"others\":[");
-    for index in answer.found.others.values() {
-        line.element("%", &[Count(u64::from(*index))]);
-    }
+    let channel_type = answer.revoked.channel_type();
+    let others = answer.found.others.values();
+    tell_others(
+        line,
+        others,
+        answer.names.values(),
+        channel_type,
+        Whose::Theirs,
+    );
     line.push("]}\n");
+}
+
+/// Writes the outputs without a claim, elements of an array: the index and the name of each, and why one's own has none.
+pub fn tell_others(
+    line: &mut Page,
+    indices: &[u32],
+    names: &[OutputName],
+    channel_type: ChannelType,
+    whose: Whose,
+) {
+    for (place, index) in indices.iter().enumerate() {
+        let name = match names.get(place) {
+            Some(name) => *name,
+            None => OutputName::Unknown,
+        };
+        line.element(
+            "{\"index\":%,\"name\":\"%\"",
+            &[Count(u64::from(*index)), Text(text_of(name))],
+        );
+        if let Some(reason) = reason_of(name, channel_type, whose) {
+            line.write(",\"reason\":\"%\"", &[Text(reason)]);
+        }
+        line.push("}");
+    }
+}
+
+// Why there is no claim on an output that can be one's own (BOLT 3): a script of a channel with anchors, or an HTLC transaction there, which pays no fee.
+fn reason_of(name: OutputName, channel_type: ChannelType, whose: Whose) -> Option<&'static str> {
+    match (name, channel_type, whose) {
+        (OutputName::ToRemote, ChannelType::Anchors, Whose::Theirs) => Some(
+            "its script has CHECKSIGVERIFY, which no claim has: a wallet takes it by wsh(and_v(v:pk(KEY),older(1)))",
+        ),
+        (OutputName::Offered | OutputName::Received, ChannelType::Anchors, Whose::Ours) => Some(
+            "its HTLC transaction pays no fee, so it needs an input of your own, which no claim has",
+        ),
+        _ => None,
+    }
+}
+
+// The name of an output without a claim, as it is written.
+fn text_of(name: OutputName) -> &'static str {
+    match name {
+        OutputName::ToLocal => "to_local",
+        OutputName::ToRemote => "to_remote",
+        OutputName::OurAnchor => "own_anchor",
+        OutputName::PeersAnchor => "peer_anchor",
+        OutputName::Offered => "offered",
+        OutputName::Received => "received",
+        OutputName::Unknown => "unknown",
+    }
 }
 
 // Writes a claim, an element of an array: which output it is on, the first block in which the owner can take that, and the claim as an output of a request for a spend.

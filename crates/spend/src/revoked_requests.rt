@@ -3,7 +3,7 @@
 ghost use Rattle.std.specs.Prelude.{◌≡◌, codes};
 ghost use Rattle.json_value.specs.View.{view, items_view};
 ghost use Rattle.texts.specs.Values.{Gives, each_of, list_of, member_of};
-ghost use Rattle.spend.specs.RevokedRequests.{channel_type_of, keys_of, direction_of, expiry_of, htlc_of, transaction_in, transaction_of};
+ghost use Rattle.spend.specs.RevokedRequests.{channel_type_of, keys_of, keys_of_funding, funding_keys_of, direction_of, expiry_of, htlc_of, transaction_in, transaction_of};
 
 use json_value::Value;
 use lists::List;
@@ -11,6 +11,7 @@ use revoked::{ChannelType, CommitmentKeys, Direction, Expiry, RevokedHtlc};
 use std::alloc::Global;
 use texts::{FromValue, ReadValue, ShapeError, bytes_of, member, object_of};
 use tx::{DecodeError, Tx, decode, decode_stripped};
+use unilateral::FundingKeys;
 
 /// A revoked commitment, and a transaction that may have outputs of it.
 #[derive(Drop)]
@@ -23,6 +24,8 @@ pub struct RevokedRequest {
     pub delay_blocks: u16,
     /// The HTLCs of the commitment.
     pub htlcs: List<RevokedHtlc>,
+    /// The keys of the funding output, if anchors are to be named.
+    pub funding_keys: Option<FundingKeys>,
     /// The transaction that was seen.
     pub transaction: Tx,
     /// The height of the block that has it, or of the next one.
@@ -56,6 +59,31 @@ pub fn keys_of(value: &Value) -> Option<CommitmentKeys>
         remote_htlc: member(form, "remote_htlc")?,
         remote: member(form, "remote")?,
     })
+}
+
+// Reads the keys of the funding output, an object of two members.
+#[tactic(auto, unfolding(crate::specs::RevokedRequests::keys_of_funding))]
+fn keys_of_funding(value: &Value) -> Option<FundingKeys>
+    ensures { result ≡ keys_of_funding (view value.now) }
+{
+    let form = object_of(value, 2)?;
+    Some(FundingKeys {
+        ours: member(form, "own")?,
+        peers: member(form, "peer")?,
+    })
+}
+
+/// Reads the keys of the funding output, or null.
+pub fn funding_keys_of(value: &Value) -> Option<Option<FundingKeys>>
+    ensures { result ≡ funding_keys_of (view value.now) }
+{
+    if value.is_null() {
+        return Some(None);
+    }
+    match keys_of_funding(value) {
+        Some(keys) => Some(Some(keys)),
+        None => None,
+    }
 }
 
 // Reads a direction, as the owner of the commitment sees it.
@@ -159,7 +187,7 @@ pub fn member_transaction(alloc: Global, form: &Value) -> Result<Tx, ShapeError>
     )
 }
 
-/// An object of six members: `channel_type`, `confirmed_height`, `delay_blocks`, `htlcs`, `keys` and `transaction`.
+/// An object of seven members: `channel_type`, `confirmed_height`, `delay_blocks`, `funding_keys`, `htlcs`, `keys` and `transaction`.
 impl ReadValue for RevokedRequest {
     ghost use Rattle.spend.specs.RevokedRequests.{revoked_request_of};
 
@@ -167,7 +195,7 @@ impl ReadValue for RevokedRequest {
 
     #[tactic(auto, unfolding(crate::specs::RevokedRequests::revoked_request_of))]
     fn read_value(alloc: Global, value: &Value) -> Result<RevokedRequest, ShapeError> {
-        let form = object_of(value, 6).ok_or(ShapeError::BadShape)?;
+        let form = object_of(value, 7).ok_or(ShapeError::BadShape)?;
         let channel_type = channel_type_of(
             form.member("channel_type").ok_or(ShapeError::BadShape)?,
         ).ok_or(ShapeError::BadShape)?;
@@ -176,11 +204,15 @@ impl ReadValue for RevokedRequest {
         )?;
         let delay_blocks: u16 = member(form, "delay_blocks").ok_or(ShapeError::BadShape)?;
         let confirmed_height: u32 = member(form, "confirmed_height").ok_or(ShapeError::BadShape)?;
+        let funding_keys = funding_keys_of(
+            form.member("funding_keys").ok_or(ShapeError::BadShape)?,
+        ).ok_or(ShapeError::BadShape)?;
         Ok(RevokedRequest {
             channel_type,
             keys,
             delay_blocks,
             htlcs: member_htlcs(alloc, form)?,
+            funding_keys,
             transaction: member_transaction(alloc, form)?,
             confirmed_height,
         })

@@ -1,7 +1,7 @@
 // Which part of a request does not have its shape, and what is wanted there.
 
-use crate::close_requests::{funding_keys_of, height_of, whose_of};
-use crate::revoked_requests::{channel_type_of, htlc_of, keys_of, transaction_of};
+use crate::close_requests::{height_of, whose_of};
+use crate::revoked_requests::{channel_type_of, funding_keys_of, htlc_of, keys_of, transaction_of};
 use claim::{Shell, Slot};
 use json_value::Value;
 use page::Page;
@@ -46,18 +46,20 @@ enum Number {
 #[derive(Clone, Copy)]
 pub struct Member(&'static str, Kind, Number);
 
-static REQUEST: [Member; 5] = [
+static REQUEST: [Member; 6] = [
     Member("destination", Kind::Bytes, Number::One),
     Member("feerate_per_kw", Kind::Feerate, Number::One),
+    Member("least_feerate_per_kw", Kind::Feerate, Number::AtMostOne),
     Member("most_feerate_per_kw", Kind::Feerate, Number::AtMostOne),
     Member("preimages", Kind::Preimage, Number::Array),
     Member("outputs", Kind::Output, Number::Array),
 ];
 
-pub static REVOKED: [Member; 6] = [
+pub static REVOKED: [Member; 7] = [
     Member("channel_type", Kind::ChannelType, Number::One),
     Member("confirmed_height", Kind::Height, Number::One),
     Member("delay_blocks", Kind::Blocks, Number::One),
+    Member("funding_keys", Kind::FundingKeys, Number::One),
     Member("htlcs", Kind::Htlc, Number::Array),
     Member("keys", Kind::Keys, Number::One),
     Member("transaction", Kind::Transaction, Number::One),

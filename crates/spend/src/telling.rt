@@ -7,11 +7,13 @@ use crate::asking::{Asked, asked_in, read_in};
 use crate::close_answers::{close_answer_of, tell_close};
 use crate::close_requests::CloseRequest;
 use crate::errors::PlanError;
-use crate::notes::{say_close_input, say_input, say_plan, say_refusal, say_revoked_input};
+use crate::notes::{say_commitment_input, say_input, say_plan, say_refusal};
 use crate::outputs::reversed;
 use crate::plans::{Plan, plan_of};
 use crate::revoked_answers::{answer_of, tell_answer};
 use crate::revoked_requests::RevokedRequest;
+use crate::shapes::{CLOSE, REVOKED};
+use crate::shared_hashes::say_shared_hashes;
 use claim::Claim;
 use filling::MissingSignature;
 use lists::ByteString;
@@ -96,7 +98,7 @@ fn tell_revoked(alloc: Global, bytes: &[u8], out: &mut dyn Write, err: &mut dyn 
         Ok(request) => request,
         Err(error) => {
             let status = refuse(alloc, error, out);
-            say_revoked_input(alloc, bytes, error, err);
+            say_commitment_input(alloc, bytes, error, &REVOKED, err);
             return status;
         }
     };
@@ -105,6 +107,7 @@ fn tell_revoked(alloc: Global, bytes: &[u8], out: &mut dyn Write, err: &mut dyn 
             let mut line = Page::new(alloc);
             tell_answer(&mut line, &answer);
             let status = write_told(out, &mut line, 0);
+            say_shared_hashes(alloc, &answer.revoked, answer.found.claims.values(), err);
             // not dropped: the program ends now, which frees all at once
             mem::forget(answer);
             status
@@ -121,7 +124,7 @@ fn tell_unrevoked(alloc: Global, bytes: &[u8], out: &mut dyn Write, err: &mut dy
         Ok(request) => request,
         Err(error) => {
             let status = refuse(alloc, error, out);
-            say_close_input(alloc, bytes, error, err);
+            say_commitment_input(alloc, bytes, error, &CLOSE, err);
             return status;
         }
     };
@@ -130,6 +133,8 @@ fn tell_unrevoked(alloc: Global, bytes: &[u8], out: &mut dyn Write, err: &mut dy
             let mut line = Page::new(alloc);
             tell_close(&mut line, &answer);
             let status = write_told(out, &mut line, 0);
+            let claims = answer.found.claims.values();
+            say_shared_hashes(alloc, &answer.close.commitment, claims, err);
             // not dropped: the program ends now, which frees all at once
             mem::forget(answer);
             status
