@@ -1,20 +1,21 @@
 //! What a revoked commitment lets its owner's peer claim of a transaction, and until when.
 
-ghost use Rattle.std.specs.Prelude.{◌≡◌, map, IfOk};
-ghost use Rattle.penalty.specs.Sets.{AreClaimsOn};
-ghost use Rattle.revoked.specs.Reading.{claimed_in, others_in};
-ghost use Rattle.unilateral.specs.Names.{name_at};
-ghost use Rattle.spend.specs.RevokedAnswers.{parts_of};
+ghost use Rattle.std.specs.Prelude.{IfOk};
+ghost use Rattle.spend.specs.RevokedAnswers.{IsFoundIn, IsRevokedAnswer};
 
 use crate::revoked_requests::RevokedRequest;
 use claim::Claim;
 use lists::List;
 use page::Page;
 use page::Piece::{Count, Text};
-use revoked::{ChannelType, Direction, Found, Revoked, RevokedOutput, channel_patterns, claims_in};
+use revoked::{
+    ChannelPatterns, ChannelType, Direction, Found, Revoked, RevokedOutput, channel_patterns,
+    claims_in,
+};
 use std::alloc::{AllocError, Global};
 use texts::WriteValue;
-use unilateral::{OutputName, Whose, names_at};
+use tx::Tx;
+use unilateral::{FundingKeys, OutputName, Whose, names_at};
 
 /// A revoked commitment, and what was found of it in a transaction.
 #[derive(Drop)]
@@ -27,17 +28,35 @@ pub struct RevokedAnswer {
     pub confirmed_height: u32,
 }
 
-/// All that the commitment of a request lets its owner's peer claim of the transaction: a claim on each output of it, and the indices and the names of the others. The only error is that memory ran out.
-pub fn answer_of(alloc: Global, request: RevokedRequest) -> Result<RevokedAnswer, AllocError>
-    ensures commitment { IfOk result (λ a. a.revoked ≡ parts_of request) }
-    ensures claims { IfOk result (λ a. AreClaimsOn
-        (claimed_in (parts_of request) request.transaction) a.found.claims) }
-    ensures others { IfOk result (λ a. a.found.others
-        ≡ others_in (parts_of request) request.transaction) }
-    ensures names { IfOk result (λ a. a.names ≡ map (name_at (parts_of request)
-        request.funding_keys request.transaction)
-        (others_in (parts_of request) request.transaction)) }
-    ensures height { IfOk result (λ a. a.confirmed_height ≡ request.confirmed_height) }
+// What is found of a commitment in a transaction.
+fn found_in(
+    alloc: Global,
+    patterns: &ChannelPatterns,
+    revoked: Revoked,
+    funding_keys: Option<FundingKeys>,
+    transaction: &Tx,
+    confirmed_height: u32,
+) -> Result<RevokedAnswer, AllocError>
+    ensures { IfOk result (IsFoundIn revoked funding_keys transaction.now confirmed_height) }
+{
+    let found = claims_in(alloc, patterns, &revoked, transaction)?;
+    let others = found.others.values();
+    let names = names_at(alloc, &revoked, funding_keys, transaction, others)?;
+    Ok(RevokedAnswer {
+        revoked,
+        found,
+        names,
+        confirmed_height,
+    })
+}
+
+// The answer to a request, by the patterns of scripts.
+fn answer_by(
+    alloc: Global,
+    patterns: &ChannelPatterns,
+    request: RevokedRequest,
+) -> Result<RevokedAnswer, AllocError>
+    ensures { IfOk result (IsRevokedAnswer request) }
 {
     let RevokedRequest {
         channel_type,
@@ -48,18 +67,24 @@ pub fn answer_of(alloc: Global, request: RevokedRequest) -> Result<RevokedAnswer
         transaction,
         confirmed_height,
     } = request;
-    let patterns = channel_patterns(alloc)?;
     let htlcs = htlcs.into_vec();
-    let revoked = Revoked::new(alloc, &patterns, channel_type, keys, delay_blocks, htlcs)?;
-    let found = claims_in(alloc, &patterns, &revoked, &transaction)?;
-    let others = found.others.values();
-    let names = names_at(alloc, &revoked, funding_keys, &transaction, others)?;
-    Ok(RevokedAnswer {
+    let revoked = Revoked::new(alloc, patterns, channel_type, keys, delay_blocks, htlcs)?;
+    found_in(
+        alloc,
+        patterns,
         revoked,
-        found,
-        names,
+        funding_keys,
+        &transaction,
         confirmed_height,
-    })
+    )
+}
+
+/// All that the commitment of a request lets its owner's peer claim of the transaction: a claim on each output of it, and the indices and the names of the others. The only error is that memory ran out.
+pub fn answer_of(alloc: Global, request: RevokedRequest) -> Result<RevokedAnswer, AllocError>
+    ensures { IfOk result (IsRevokedAnswer request) }
+{
+    let patterns = channel_patterns(alloc)?;
+    answer_by(alloc, &patterns, request)
 }
 
 /// Writes an answer: a line with a JSON object.
