@@ -9,8 +9,9 @@ use Rattle.std.proofs.lemmas.Slice.Eq.{bytes_eq-Decides}
 use Rattle.std.proofs.lemmas.Option.{same_Some, slice_get_past}
 use Rattle.sha2.specs.Sha256.{sha256}
 use Rattle.digest.specs.Hash.{sha256d, hash160, Collide}
+use Rattle.tx.specs.declared.input.TxIn.{TxIn}
 use Rattle.tx.specs.Parts.{Output}
-use Rattle.tx.specs.Fields.{Transaction, KeepsLimits}
+use Rattle.tx.specs.Fields.{Transaction, KeepsLimits, unsigned_inputs}
 use Rattle.tx.specs.Spelling.{number, outpoint, stripped_spelling, transaction_id}
 use Rattle.keys.specs.declared.bases.Base.TheVariants.{Payment, Htlc as HtlcBase}
 use Rattle.keys.specs.declared.compressed.Key.{Key}
@@ -412,7 +413,10 @@ another_id blocks t k n = record { twins = λ height u s e. absurd (n height u s
 
 -- no: KeepLimits
 twin_without_inputs : (blocks : List Block) (t u : Transaction) (height : ℕ) → StandsAt blocks height u → transaction_id u ≡ transaction_id t → u.inputs ≡ [] → KeepLimits blocks t → ⊥
-twin_without_inputs blocks t u height s i e k = let l = (k.twins height u s i).some_input in let n = ap length e in omega (arith, l, n)
+twin_without_inputs blocks t u height s i e k =
+    let l = (k.twins height u s i).some_input in
+    let n : length (unsigned_inputs u.inputs) ≡ 0 = ap (λ (is : List TxIn). length (unsigned_inputs is)) e in
+    omega (arith, l, n)
 
 -- no: KeepLimits
 without_inputs : (blocks : List Block) (t : Transaction) → t.inputs ≡ [] → KeepLimits blocks t → ⊥

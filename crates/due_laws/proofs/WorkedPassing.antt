@@ -51,6 +51,7 @@ use Rattle.safety.specs.Holdings.{IsOnRecorded}
 use Rattle.safety.specs.Passing.{HasTwinOn}
 use Rattle.safety.specs.Recorded.{of_commitment}
 use Rattle.safety.proofs.Handed.{peers_payable, commitment_signable}
+use Rattle.safety.proofs.Ids.{unsigned_limits}
 use Rattle.safety.proofs.Recorded.{recorded_limits}
 use Rattle.safety.proofs.Lists.{contains_none}
 use Rattle.safety.proofs.Places.{contains_one}
