@@ -1,5 +1,6 @@
 """What the tests of this folder share: how they count, and which curve and which judge they ask. Tested, not proved."""
 import functools
+import io
 import os
 import unittest
 from types import TracebackType
@@ -49,7 +50,7 @@ def judge() -> Trace:
 @functools.cache
 def spender() -> Spend:
     """The program that ./spend runs now."""
-    return Spend(built_program("spend"))
+    return Spend(built_program("spend"), io.StringIO())
 
 
 class CheckedCase(unittest.TestCase):
