@@ -192,7 +192,7 @@ first_are_on = (
   (record { exact = refl; accepted = payment_accepted bases.payment first_remote.place (key_program bases.payment.bytes) }, tt),
 )
 
-first_set : PenaltySetsAreExact → is_penalty_set revoked_0 0 claims_0 ≡ true
+pub first_set : PenaltySetsAreExact → is_penalty_set revoked_0 0 claims_0 ≡ true
 unfolding is_penalty_set
 first_set law = law.found none_of_them claims_0 first_are_on
 
@@ -279,7 +279,7 @@ pub same : (bytes : List ℕ) → bytes_eq bytes bytes ≡ true
 same bytes = (bytes_eq-Decides bytes bytes).1 refl
 
 -- the second secret leads to the first
-not_foreign : (is_foreign [] secret_0 ≡ false) × (is_foreign (secret_0 ∷ []) secret_1 ≡ false)
+pub not_foreign : (is_foreign [] secret_0 ≡ false) × (is_foreign (secret_0 ∷ []) secret_1 ≡ false)
 unfolding is_foreign index_of derived_secret flipped count_trailing_zeros sha256 digest_bytes hash_after compress rounds schedule first_words
 not_foreign = (refl, refl)
 

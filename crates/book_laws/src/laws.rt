@@ -1,5 +1,6 @@
 //! Laws over the definitions alone.
 
+ghost use Rattle.book_laws.specs.Awaiting.{AwaitingMissNone};
 ghost use Rattle.book_laws.specs.Books.{BooksHaveBalances};
 ghost use Rattle.book_laws.specs.Holdings.{HoldingsAreComplete};
 ghost use Rattle.book_laws.specs.Keeping.{BooksKeepRules, CareGoesOn, ClaimablesAreRecorded, KeptAreRecorded, BooksStand};
@@ -42,6 +43,14 @@ pub fn care_goes_on()
     ensures { CareGoesOn }
 {
     channels_grow();
+}
+
+/// A channel that awaits the peer's revocation misses no penalties, over every history of calls, whatever the peers send. So the signature that awaits it may go out again: all penalties were kept before it was given, and
+/// nothing was revoked since.
+pub fn awaiting_miss_none()
+    ensures { AwaitingMissNone }
+{
+    accepted_is_called();
 }
 
 /// One node against everybody, for a channel of a book. On a chain that is a ledger of its outputs, and on which each token of a key of the node's in the inputs that name them is one that it gave out, the channel stands as
