@@ -364,6 +364,29 @@ def operand_rows():
     yield f"{keys}53ae", [f"opcode 4 is OP_CHECKMULTISIG: {gives_up}", brings]
 
 
+def empty_rows():
+    """An item of no bytes, whose hash is that of nothing, or another one, or neither."""
+    nothing, other = bitcoin.hash160(b"").hex(), "33" * 20
+    origin = f"opcode 4: {nothing} is the hash of nothing: as a hash it keeps nobody out, or everybody"
+    for hashed, holds, said in ((nothing, True, [origin]), (other, True, []), (nothing, False, [origin]), (other, False, [])):
+        is_met = (hashed == nothing) == holds
+        who = "whoever sees such a witness can spend too by path 0: what has a given hash is asked for, and no signature of a key that the script fixes"
+        if not holds:
+            who = "anyone can spend by path 0: no signature of a key that the script fixes is asked for"
+        never = f"no witness meets path 0: 'size 0 0 yes' and 'hash 0 {hashed} {'yes' if holds else 'no'}' contradict each other"
+        yield f"820088a9{push(hashed)}87" + ("" if holds else f"63{DEAD}675168"), [who if is_met else never, *said]
+
+
+def length_rows():
+    """A byte before a script that is its length: a push, or an opcode that leaves no sound script; and sound scripts with as many bytes as their first opcode and one more."""
+    length = "these bytes begin with the length of the {} bytes after it, as a script stands in serialisations: leave the length out".format
+    lone, padded = push(KEY) + "ac", f"{push(KEY)}{push(OTHER)}52ae" + "7675" * 6
+    yield f"23{lone}", [length(35), "anyone can spend by path 0: no signature of a key that the script fixes is asked for"]
+    yield f"63a9{push('33' * 20)}88{lone}670160b275{push(OTHER)}ac68", []
+    yield f"6352{padded}{'7675' * 8}", [length(99), "the IF or NOTIF at opcode 0 has no ENDIF"]
+    yield f"52{padded}", []
+
+
 def shared_rows():
     """Two numbers before one lock: each is noted."""
     for one, other in ((65_536, 144), (144, 65_536), (65_536, 65_537)):
@@ -479,11 +502,6 @@ def contradict(one, other):
         # of signatures that are assigned, the length alone is compared, with facts that hold
         rest = one if second == "assigned" else other
         return one[2] and other[2] and not any(it.size == 66 and MEETS[rest[0]](it, rest[1]) for it in ITEMS)
-    if ("size", 0, True) in (one, other):
-        # of an item of no bytes too, the length alone is compared
-        rest = other if one == ("size", 0, True) else one
-        if rest[0] == "hash" or rest == ("is", "", False):
-            return False
     return not any(all(MEETS[name](it, arg) == holds for name, arg, holds in (one, other)) for it in ITEMS)
 
 
@@ -828,7 +846,7 @@ def names_dead_ends(code, ran):
 def main():
     os.chdir(TOP)
     command = program("enforce")
-    scripts = [*opcode_rows(), *operand_rows(), *((code, with_dead_ends(code, notes)) for code, notes in [*ENDS, *lock_rows(), *key_rows(), *constant_rows(), *shared_rows(), *relay_rows(), *origin_rows()])]
+    scripts = [*opcode_rows(), *operand_rows(), *length_rows(), *((code, with_dead_ends(code, notes)) for code, notes in [*ENDS, *lock_rows(), *key_rows(), *constant_rows(), *shared_rows(), *relay_rows(), *origin_rows(), *empty_rows()])]
     pairs = [(code, facts, with_dead_ends(code, notes)) for code, facts, notes in pair_rows()]
     texts = [(json.dumps(value), [note]) for value, note in scenario_rows()]
     # the place of what is no JSON, in a text of as many bytes as there may be; one more byte is not looked at

@@ -2,7 +2,16 @@
 
 use crate::looks::note_private_key;
 use crate::scripts::{message_notes, notes};
+use page::Page;
 use std::alloc::{AllocError, Global};
+
+/// The text of notes. The only error is that memory ran out, for it or for a note.
+pub fn text_of(notes: &Page) -> Result<String, AllocError> {
+    match notes.whole() {
+        Some(text) => String::from_str(notes.alloc(), text),
+        None => Err(AllocError),
+    }
+}
 
 /// The notes on a call that reads no scenario, a line each; empty if there are none. `words` are those of the call (without the program's name), and `status` is its exit status: 2 after
 /// wrong words. The only error is that memory ran out.
@@ -17,25 +26,33 @@ pub fn call_notes(alloc: Global, words: &[String], status: u8) -> Result<String,
 
 /// The note on a private key among the words of a call, also one of several words; empty if there is none. The only error is that memory ran out.
 pub fn secret_note(alloc: Global, words: &[String]) -> Result<String, AllocError> {
-    let mut text = String::new(alloc);
+    let mut notes = Page::new(alloc);
+    note_secret(&mut notes, words);
+    text_of(&notes)
+}
+
+// Notes a private key among words.
+fn note_secret(notes: &mut Page, words: &[String]) {
+    let mut text = Page::new(notes.alloc());
     for word in words {
-        text.push_str(word.as_str())?;
-        text.push_str(" ")?;
+        text.push(word.as_str());
+        text.push(" ");
     }
-    let mut notes = String::new(alloc);
-    note_private_key(&mut notes, text.as_str())?;
-    Ok(notes)
+    match text.whole() {
+        Some(text) => note_private_key(notes, text),
+        None => notes.fail(),
+    }
 }
 
 // Notes on wrong words: a private key among them, and what the first of them wants.
 fn help(alloc: Global, words: &[String]) -> Result<String, AllocError> {
-    let text = match words.split_first() {
+    let mut notes = Page::new(alloc);
+    note_secret(&mut notes, words);
+    notes.push(match words.split_first() {
         Some((name, _)) => wanted_by(name.as_str()),
         None => HELP,
-    };
-    let mut notes = secret_note(alloc, words)?;
-    notes.push_str(text)?;
-    Ok(notes)
+    });
+    text_of(&notes)
 }
 
 // How to find all words.

@@ -107,7 +107,11 @@ fn is_size_refused(fact: &Stated, slot: usize, size: u64) -> bool {
     match &fact.fact {
         Fact::Size(place, n) if *place == slot => (u64::from(*n) == size) != fact.holds,
         Fact::Is(place, bytes) if *place == slot => {
-            fact.holds && bytes.bytes().len() as u64 != size
+            is_empty_refused(fact, size, bytes.bytes(), &[])
+                || (fact.holds && bytes.bytes().len() as u64 != size)
+        }
+        Fact::Hash(place, hash) if *place == slot => {
+            is_empty_refused(fact, size, hash.bytes(), hash160(&[]).as_slice())
         }
         Fact::Truth(place) if *place == slot => fact.holds && size == 0,
         Fact::KeyForm(place) if *place == slot => fact.holds && size != KEY_SIZE,
@@ -118,6 +122,11 @@ fn is_size_refused(fact: &Stated, slot: usize, size: u64) -> bool {
         }
         _ => false,
     }
+}
+
+// Whether a slot of no bytes fails a fact that compares it, or its hash, with these bytes: of it that is `empty`.
+fn is_empty_refused(fact: &Stated, size: u64, bytes: &[u8], empty: &[u8]) -> bool {
+    size == 0 && (bytes == empty) != fact.holds
 }
 
 // Whether a slot of `size` bytes that is a key or a token fails a fact. Such a slot begins with 02 or 03, so it is true.

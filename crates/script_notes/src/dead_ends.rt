@@ -6,17 +6,18 @@ ghost use Rattle.strictness.specs.Balance.{is_balanced};
 ghost use Rattle.strictness.specs.Ways.{NobodySpendsBy};
 
 use crate::sizes::Counted;
+use page::Page;
+use page::Piece::{Count, Text};
 use script::Op;
 use script::num::{Limit, read};
 use std::alloc::{AllocError, Global};
-use std::fmt::Write;
 use strictness::{Choice, DeadEnd, Fate, Fault, fate_along};
 
 /// A listed script begins at most 64 branches, which split in 63 places.
 pub const MAX_FATES: usize = 127;
 
 /// Notes the branches of a listed script by which nobody can spend in consensus either.
-pub fn note_dead_ends(notes: &mut String, alloc: Global, ops: &[Op]) -> Result<(), AllocError>
+pub fn note_dead_ends(notes: &mut Page, alloc: Global, ops: &[Op]) -> Result<(), AllocError>
     requires valid { All IsOp ops.now }
     requires closed { is_balanced ops.now [] ≡ true }
 {
@@ -29,7 +30,7 @@ pub fn note_dead_ends(notes: &mut String, alloc: Global, ops: &[Op]) -> Result<(
                 true
             }
             Fate::Dies(end) => {
-                note_dead_end(notes, ops, so_far, &end)?;
+                note_dead_end(notes, ops, so_far, &end);
                 turn_back(&mut choices)?
             }
             Fate::Lives => turn_back(&mut choices)?,
@@ -59,24 +60,22 @@ pub fn turn_back(choices: &mut Vec<Choice>) -> Result<bool, AllocError> {
 }
 
 // Notes where the branch that makes these choices ends: nobody can spend by it.
-fn note_dead_end(
-    notes: &mut String,
-    ops: &[Op],
-    choices: &[Choice],
-    end: &DeadEnd,
-) -> Result<(), AllocError>
+fn note_dead_end(notes: &mut Page, ops: &[Op], choices: &[Choice], end: &DeadEnd)
     requires { NobodySpendsBy choices.now ops.now }
 {
     let mut mark = "note: nobody can spend by the branch after the";
     for choice in choices {
         let (name, at) = place(ops, *choice);
-        write!(notes, "{mark} {name} at opcode {at}")?;
+        notes.write(
+            "% % at opcode %",
+            &[Text(mark), Text(name), Count(at as u64)],
+        );
         mark = ", then the";
     }
     if choices.is_empty() {
-        notes.push_str("note: nobody can spend by the only branch")?;
+        notes.push("note: nobody can spend by the only branch");
     }
-    write_end(notes, end)
+    write_end(notes, end);
 }
 
 /// The opcode after which a branch goes on, and its name.
@@ -103,57 +102,57 @@ pub fn place(ops: &[Op], choice: Choice) -> (&'static str, usize) {
 }
 
 // Writes where a branch ends, and why.
-fn write_end(notes: &mut String, end: &DeadEnd) -> Result<(), AllocError> {
-    let (op, bytes) = (end.op, end.bytes.as_slice());
+fn write_end(notes: &mut Page, end: &DeadEnd) {
+    let bytes = end.bytes.as_slice();
     match end.fault {
         Fault::TwoLeft => {
-            notes.push_str(": after the last opcode it leaves two or more elements")?;
+            notes.push(": after the last opcode it leaves two or more elements");
             if !bytes.is_empty() {
-                write!(notes, ", {} among them", Counted(bytes))?;
+                notes.push(", ");
+                notes.show(&Counted(bytes));
+                notes.push(" among them");
             }
-            notes.push_str(", and BIP 141 wants one: is a DROP missing?\n")
+            notes.push(", and BIP 141 wants one: is a DROP missing?\n");
         }
-        Fault::FalseLeft => writeln!(
-            notes,
-            ": after the last opcode it leaves {}, which is false",
-            Counted(bytes)
-        ),
+        Fault::FalseLeft => {
+            notes.push(": after the last opcode it leaves ");
+            notes.show(&Counted(bytes));
+            notes.push(", which is false\n");
+        }
         fault => {
-            write!(notes, ": it ends at opcode {op}, where {}", Counted(bytes))?;
-            write_fault(notes, fault, bytes)
+            notes.write(": it ends at opcode %, where ", &[Count(end.op as u64)]);
+            notes.show(&Counted(bytes));
+            write_fault(notes, fault, bytes);
         }
     }
 }
 
 // Writes what is wrong with bytes.
-fn write_fault(notes: &mut String, fault: Fault, bytes: &[u8]) -> Result<(), AllocError> {
+fn write_fault(notes: &mut Page, fault: Fault, bytes: &[u8]) {
     match fault {
         Fault::Lock => write_lock(notes, bytes),
-        Fault::Count => notes.push_str(
+        Fault::Count => notes.push(
             " is no number of keys (0 to 20), nor of signatures (0 to that of the keys)\n",
         ),
-        Fault::Signature => notes.push_str(
-            " is no signature in DER (BIP 66): is a DROP missing?\n",
-        ),
-        Fault::Extra => notes.push_str(
+        Fault::Signature => notes.push(" is no signature in DER (BIP 66): is a DROP missing?\n"),
+        Fault::Extra => notes.push(
             " is the extra item of CHECKMULTISIG, which has to be empty (BIP 147)\n",
         ),
-        _ if bytes.len() == 32 => notes.push_str(
+        _ if bytes.len() == 32 => notes.push(
             " never equals what it is compared with: a HASH160 has 20 bytes\n",
         ),
-        _ => notes.push_str(" never equals what it is compared with\n"),
+        _ => notes.push(" never equals what it is compared with\n"),
     }
 }
 
 // Writes why bytes are no lock: those that are minimally encoded are a negative number.
-fn write_lock(notes: &mut String, bytes: &[u8]) -> Result<(), AllocError> {
+fn write_lock(notes: &mut Page, bytes: &[u8]) {
     match read(bytes, Limit::Lock) {
-        Some(number) => writeln!(
-            notes,
-            " is -{}, and no lock is negative (a number is little-endian)",
-            number.magnitude
+        Some(number) => notes.write(
+            " is -%, and no lock is negative (a number is little-endian)\n",
+            &[Count(number.magnitude)],
         ),
-        None if bytes.len() > 5 => notes.push_str(" is no lock, which has at most 5 bytes\n"),
-        None => notes.push_str(" is negative, and no lock is (a number is little-endian)\n"),
+        None if bytes.len() > 5 => notes.push(" is no lock, which has at most 5 bytes\n"),
+        None => notes.push(" is negative, and no lock is (a number is little-endian)\n"),
     }
 }

@@ -3,9 +3,10 @@
 use crate::dead_ends::{MAX_FATES, place, turn_back};
 use crate::sizes::Counted;
 use lists::{ByteString, Stack};
+use page::Page;
+use page::Piece::{Count, Text};
 use script::Op;
 use std::alloc::{AllocError, Global};
-use std::fmt::Write;
 use strictness::{Choice, Entry, Turn, make_turn};
 
 /// What constants decide on the branches of a script.
@@ -67,8 +68,8 @@ impl Decided {
                     Turn::Next => self.go(ops, at, true)?,
                     Turn::AfterElse => self.go(ops, at, false)?,
                     Turn::AfterEndIf => after(ops, at),
-                    Turn::Splits => match choices.iter().find(|choice| choice.op == at) {
-                        Some(choice) => self.go(ops, at, choice.runs)?,
+                    Turn::Splits => match way_at(choices, at) {
+                        Some(runs) => self.go(ops, at, runs)?,
                         None => return Ok(Some(at)),
                     },
                     Turn::Ends(_, _) | Turn::EndsStrictly(_, _) | Turn::Lost => return Ok(None),
@@ -88,7 +89,12 @@ impl Decided {
 
     // Whether some branch goes this way at an opcode.
     fn goes(&self, at: usize, runs: bool) -> bool {
-        self.ways.iter().any(|way| way.op == at && way.runs == runs)
+        for way in &self.ways {
+            if way.op == at && way.runs == runs {
+                return true;
+            }
+        }
+        false
     }
 
     // Keeps a lock whose number is a constant, unless it is kept.
@@ -117,10 +123,14 @@ impl Decided {
 
     // Whether a lock is kept with this number.
     fn is_kept(&self, at: usize, number: &[u8]) -> bool {
-        self.locks.iter().enumerate().any(|(lock, op)| match op {
-            Op::Push(item) => item.bytes() == number && self.place_of(lock) == at,
-            _ => false,
-        })
+        for (lock, op) in self.locks.iter().enumerate() {
+            if let Op::Push(item) = op {
+                if item.bytes() == number && self.place_of(lock) == at {
+                    return true;
+                }
+            }
+        }
+        false
     }
 }
 
@@ -131,13 +141,23 @@ fn is_condition(op: Option<&Op>) -> bool {
     }
 }
 
+/// The way that choices go at an opcode, if one of them does.
+pub(crate) fn way_at(choices: &[Choice], at: usize) -> Option<bool> {
+    for choice in choices {
+        if choice.op == at {
+            return Some(choice.runs);
+        }
+    }
+    None
+}
+
 /// The opcode that runs next after the ELSE of an IF, or after the ENDIF of an ELSE.
 pub(crate) fn after(ops: &[Op], op: usize) -> usize {
     place(ops, Choice { op, runs: false }).1.saturating_add(1)
 }
 
 /// Notes the branches that no run ever takes, since a constant decides the IF or NOTIF before them.
-pub fn note_unrun(notes: &mut String, decided: &Decided, ops: &[Op]) -> Result<(), AllocError> {
+pub fn note_unrun(notes: &mut Page, decided: &Decided, ops: &[Op]) {
     for (at, op) in ops.iter().enumerate() {
         let name = match op {
             Op::If => "IF",
@@ -152,47 +172,51 @@ pub fn note_unrun(notes: &mut String, decided: &Decided, ops: &[Op]) -> Result<(
             },
         );
         match (decided.goes(at, true), decided.goes(at, false)) {
-            (true, false) if end.0 == "ELSE" => note_branch(notes, ops, (name, at), end)?,
-            (false, true) => note_branch(notes, ops, (name, at), (name, at))?,
+            (true, false) if end.0 == "ELSE" => note_branch(notes, ops, (name, at), end),
+            (false, true) => note_branch(notes, ops, (name, at), (name, at)),
             _ => {}
         }
     }
-    Ok(())
 }
 
 // Notes a branch that no run takes, and the IF or NOTIF that a constant decides.
 fn note_branch(
-    notes: &mut String,
+    notes: &mut Page,
     ops: &[Op],
     condition: (&'static str, usize),
     branch: (&'static str, usize),
-) -> Result<(), AllocError> {
+) {
     let (name, at) = condition;
-    write!(
-        notes,
-        "note: the branch after the {} at opcode {} is never run, so nobody can spend by it: a constant decides the {name} at opcode {at}",
-        branch.0, branch.1
-    )?;
-    match ops[..at.min(ops.len())].last() {
+    notes.write(
+        "note: the branch after the % at opcode % is never run, so nobody can spend by it: a constant decides the % at opcode %",
+        &[
+            Text(branch.0),
+            Count(branch.1 as u64),
+            Text(name),
+            Count(at as u64),
+        ],
+    );
+    notes.push(match ops[..at.min(ops.len())].last() {
         Some(Op::CheckLockTimeVerify | Op::CheckSequenceVerify) => {
-            notes.push_str(", the number of the lock: is a DROP missing?\n")
+            ", the number of the lock: is a DROP missing?\n"
         }
-        _ => notes.push_str("\n"),
-    }
+        _ => "\n",
+    });
 }
 
 /// Notes the pushes of a number that an opcode of one byte pushes too.
-pub fn note_long_pushes(notes: &mut String, ops: &[Op]) -> Result<(), AllocError> {
+pub fn note_long_pushes(notes: &mut Page, ops: &[Op]) {
     for (at, op) in ops.iter().enumerate() {
         if let (Op::Push(item), Some(short)) = (op, short_of(op)) {
-            let item = Counted(item.bytes());
-            writeln!(
-                notes,
-                "note: opcode {at}, a push of {item}: nodes relay no spend that runs it, since the opcode {short:02x} pushes the same (minimal pushes)"
-            )?;
+            notes.write("note: opcode %, a push of ", &[Count(at as u64)]);
+            notes.show(&Counted(item.bytes()));
+            notes.hex(
+                ": nodes relay no spend that runs it, since the opcode ",
+                &[short],
+            );
+            notes.push(" pushes the same (minimal pushes)\n");
         }
     }
-    Ok(())
 }
 
 /// The opcode of one byte that pushes what an opcode pushes by two: a number from 1 to 16, or -1.

@@ -3,29 +3,25 @@
 use crate::conflicts::conflict_in;
 use crate::curve::is_curve_x;
 use crate::origins::{origin_of_hash, origin_of_point};
-use facts::texts::Hex;
 use facts::{Fact, KeySource, Stated};
+use page::Page;
+use page::Piece::Count;
 use paths::Path;
 use script::Op;
-use std::alloc::AllocError;
-use std::fmt::Write;
 use std::slice;
 
 /// Notes the keys of paths that are no points of the curve, so that nobody can sign for them.
-pub fn note_points(notes: &mut String, paths: &[Path], ops: &[Op]) -> Result<(), AllocError> {
+pub fn note_points(notes: &mut Page, paths: &[Path], ops: &[Op]) {
     for (at, op) in ops.iter().enumerate() {
         if let Op::Push(item) = op {
             let key = item.bytes();
             if is_no_point(key) && is_asked(paths, key) && !is_pushed(&ops[..at], key) {
-                let hex = Hex(key);
-                writeln!(
-                    notes,
-                    "note: opcode {at}: {hex} is no point of the curve: nobody can sign for this key"
-                )?;
+                notes.write("note: opcode %: ", &[Count(at as u64)]);
+                notes.hex("", key);
+                notes.push(" is no point of the curve: nobody can sign for this key\n");
             }
         }
     }
-    Ok(())
 }
 
 // The x coordinate of bytes that have the form of a key.
@@ -46,21 +42,16 @@ fn is_no_point(key: &[u8]) -> bool {
 
 // Whether a path asks for a signature of a key.
 fn is_asked(paths: &[Path], key: &[u8]) -> bool {
-    paths.iter().any(|path| {
-        path.facts
-            .values()
-            .iter()
-            .any(|stated| stated.holds && asks(&stated.fact, key))
-    })
-}
-
-// Whether a fact asks for a signature of a key, or of one of several keys with this one among them.
-fn asks(fact: &Fact, key: &[u8]) -> bool {
-    match fact {
-        Fact::Token(_, source) => is_key(source, key),
-        Fact::Assigned(_, sources) => sources.values().iter().any(|source| is_key(source, key)),
-        _ => false,
+    for path in paths {
+        for stated in path.facts.values() {
+            for source in keys_of(stated) {
+                if is_key(source, key) {
+                    return true;
+                }
+            }
+        }
     }
+    false
 }
 
 // Whether a key that the script fixes is this one.
@@ -73,90 +64,80 @@ fn is_key(source: &KeySource, key: &[u8]) -> bool {
 
 // Whether an opcode pushes these bytes.
 fn is_pushed(ops: &[Op], bytes: &[u8]) -> bool {
-    ops.iter().any(|op| match op {
-        Op::Push(item) => item.bytes() == bytes,
-        _ => false,
-    })
-}
-
-/// Notes the points and hashes of a script of which all know the secret, or nobody does.
-pub fn note_origins(notes: &mut String, ops: &[Op]) -> Result<(), AllocError> {
-    for (at, op) in ops.iter().enumerate() {
+    for op in ops {
         if let Op::Push(item) = op {
-            let bytes = item.bytes();
-            let hex = Hex(bytes);
-            let point = match x_of(bytes) {
-                Some(x) => origin_of_point(x),
-                None => None,
-            };
-            if let Some(origin) = point {
-                writeln!(notes, "note: opcode {at}: {hex} is {origin}")?;
-            } else if let Some(origin) = origin_of_hash(bytes) {
-                writeln!(
-                    notes,
-                    "note: opcode {at}: {hex} is {origin}: as a hash it keeps nobody out, or everybody"
-                )?;
+            if item.bytes() == bytes {
+                return true;
             }
         }
     }
-    Ok(())
+    false
+}
+
+/// Notes the points and hashes of a script of which all know the secret, or nobody does.
+pub fn note_origins(notes: &mut Page, ops: &[Op]) {
+    for (at, op) in ops.iter().enumerate() {
+        if let Op::Push(item) = op {
+            note_origin(notes, at, item.bytes());
+        }
+    }
+}
+
+// Notes what the bytes of a push are, if they are such a point or hash.
+fn note_origin(notes: &mut Page, at: usize, bytes: &[u8]) {
+    let point = match x_of(bytes) {
+        Some(x) => origin_of_point(x),
+        None => None,
+    };
+    let hash = origin_of_hash(bytes);
+    if point.is_none() && hash.is_none() {
+        return;
+    }
+    notes.write("note: opcode %: ", &[Count(at as u64)]);
+    notes.hex("", bytes);
+    notes.push(" is ");
+    if let Some(origin) = point {
+        notes.push(origin);
+    } else if let Some(origin) = hash {
+        notes.show(&origin);
+        notes.push(": as a hash it keeps nobody out, or everybody");
+    }
+    notes.push("\n");
 }
 
 /// Notes the paths that ask for signatures of a key twice, or of a key and its negation.
-pub fn note_repeated_keys(notes: &mut String, paths: &[Path]) -> Result<(), AllocError> {
+pub fn note_repeated_keys(notes: &mut Page, paths: &[Path]) {
     for (index, path) in paths.iter().enumerate() {
         let facts = path.facts.values();
         if conflict_in(facts).is_none() {
-            note_path(notes, index, facts)?;
+            for (at, stated) in facts.iter().enumerate() {
+                note_fact(notes, index, stated, &facts[..at]);
+            }
         }
     }
-    Ok(())
-}
-
-// Notes the keys that a path with these facts has twice.
-fn note_path(notes: &mut String, index: usize, facts: &[Stated]) -> Result<(), AllocError> {
-    for (at, stated) in facts.iter().enumerate() {
-        note_fact(notes, index, stated, &facts[..at])?;
-    }
-    Ok(())
 }
 
 // Notes the keys of a fact that stand in it before, or in a fact before it.
-fn note_fact(
-    notes: &mut String,
-    index: usize,
-    stated: &Stated,
-    facts: &[Stated],
-) -> Result<(), AllocError> {
+fn note_fact(notes: &mut Page, index: usize, stated: &Stated, facts: &[Stated]) {
     let keys = keys_of(stated);
     for (place, source) in keys.iter().enumerate() {
         if let Some(key) = constant_of(source) {
             if let Some(other) = repeated_in(&keys[..place], facts, stated, key) {
-                write_repeated(notes, index, key, other)?;
+                write_repeated(notes, index, key, other);
             }
         }
     }
-    Ok(())
 }
 
 // Notes a key that stands twice on a path, or with its negation.
-fn write_repeated(
-    notes: &mut String,
-    index: usize,
-    key: &[u8],
-    other: &[u8],
-) -> Result<(), AllocError> {
-    let (hex, negation) = (Hex(key), Hex(other));
+fn write_repeated(notes: &mut Page, index: usize, key: &[u8], other: &[u8]) {
+    notes.write("note: path % has the key ", &[Count(index as u64)]);
+    notes.hex("", key);
     if key == other {
-        writeln!(
-            notes,
-            "note: path {index} has the key {hex} twice: who has it signs for both"
-        )
+        notes.push(" twice: who has it signs for both\n");
     } else {
-        writeln!(
-            notes,
-            "note: path {index} has the key {hex} and its negation {negation}: who has one has both"
-        )
+        notes.hex(" and its negation ", other);
+        notes.push(": who has one has both\n");
     }
 }
 

@@ -33,7 +33,7 @@ mod scripts;
 mod sizes;
 mod unknowns;
 
-pub use calls::{call_notes, secret_note};
+pub use calls::{call_notes, secret_note, text_of};
 pub use curve::is_curve_x;
 pub use decided::short_of;
 pub use origins::{Origin, origin_of_hash, origin_of_point};

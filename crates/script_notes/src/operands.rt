@@ -1,7 +1,7 @@
 // What a CHECKMULTISIG finds on the stack of a branch where no rule decides it.
 
 use crate::dead_ends::{MAX_FATES, turn_back};
-use crate::decided::after;
+use crate::decided::{after, way_at};
 use lists::Stack;
 use script::Op;
 use script::num::{Limit, read};
@@ -75,9 +75,9 @@ fn follow(
             next = match make_turn(op, &mut stack)? {
                 Turn::Next => at,
                 Turn::AfterElse | Turn::AfterEndIf => after(ops, at),
-                Turn::Splits => match choices.iter().find(|choice| choice.op == at) {
-                    Some(choice) if choice.runs => at,
-                    Some(_) => after(ops, at),
+                Turn::Splits => match way_at(choices, at) {
+                    Some(true) => at,
+                    Some(false) => after(ops, at),
                     None => return Ok(Reached::Splits(at)),
                 },
                 Turn::Ends(_, _) | Turn::EndsStrictly(_, _) | Turn::Lost => {

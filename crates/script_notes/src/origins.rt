@@ -1,4 +1,4 @@
-// Bytes that anybody knows where a secret is expected: points whose private key all know, or nobody, and hashes of them, of nothing and of the shortest scripts.
+// Bytes that anybody knows where a secret is expected: points whose private key all know, or nobody, and hashes of them, of their scripts, of nothing and of the shortest scripts.
 
 use digest::{hash160, sha256};
 use std::fmt;
@@ -26,6 +26,32 @@ const H: [u8; 32] = [
     0x07, 0x8a, 0x5a, 0x0f, 0x28, 0xec, 0x96, 0xd5, 0x47, 0xbf, 0xee, 0x9a, 0xce, 0x80, 0x3a, 0xc0,
 ];
 
+// The x coordinates of the two as BIP 86 makes them the key of a taproot output without scripts.
+const G_OUTPUT: [u8; 32] = [
+    0xda, 0x47, 0x10, 0x96, 0x4f, 0x78, 0x52, 0x69, 0x5d, 0xe2, 0xda, 0x02, 0x52, 0x90, 0xe2, 0x4a,
+    0xf6, 0xd8, 0xc2, 0x81, 0xde, 0x5a, 0x0b, 0x90, 0x2b, 0x71, 0x35, 0xfd, 0x9f, 0xd7, 0x4d, 0x21,
+];
+
+const H_OUTPUT: [u8; 32] = [
+    0x19, 0x2c, 0x2a, 0x30, 0xcb, 0xd7, 0xd0, 0x35, 0x2f, 0x94, 0xd4, 0xc3, 0x1a, 0x43, 0xf7, 0x67,
+    0xf1, 0xef, 0x43, 0xd7, 0xff, 0x64, 0x38, 0x83, 0x98, 0x80, 0xec, 0x07, 0x5d, 0x81, 0xa9, 0xf6,
+];
+
+// The names of the points.
+const NAME_OF_G: &str = "the point G, whose private key is 1";
+
+const NAME_OF_NEGATION: &str = "the point -G, whose private key all know";
+
+const NAME_OF_H: &str = "the point H of BIP 341, whose private key nobody knows";
+
+// The points in 33 bytes: their names, their first bytes and their x coordinates.
+const POINTS: [(&str, u8, [u8; 32]); 4] = [
+    (NAME_OF_G, 2, G_X),
+    (NAME_OF_NEGATION, 3, G_X),
+    (NAME_OF_H, 2, H),
+    (NAME_OF_H, 3, H),
+];
+
 /// What 20 or 32 bytes are in the place of a hash, where they are no secret's.
 #[derive(Clone, Copy)]
 pub enum Origin {
@@ -37,27 +63,21 @@ pub enum Origin {
     Nothing,
     /// The hash of the script of this byte.
     Script(u8),
-    /// The hash of the point G, in 33 or 65 bytes.
-    Point,
-    /// The hash of its negation.
-    Negation,
-    /// The hash of the point H of BIP 341.
-    NobodysPoint,
+    /// The hash of this point.
+    Point(&'static str),
+    /// The hash of a script or a program that asks for no more than a signature of this point.
+    ScriptOfPoint(&'static str),
 }
 
 impl fmt::Display for Origin {
     fn fmt<W: fmt::Write>(&self, f: &mut fmt::Formatter<W>) -> fmt::Result {
         match self {
-            Origin::Zeros => write!(f, "zeros"),
-            Origin::Ones => write!(f, "bytes of ff"),
-            Origin::Nothing => write!(f, "the hash of nothing"),
+            Origin::Zeros => f.write_str("zeros"),
+            Origin::Ones => f.write_str("bytes of ff"),
+            Origin::Nothing => f.write_str("the hash of nothing"),
             Origin::Script(byte) => write!(f, "the hash of the script {byte:02x}"),
-            Origin::Point => write!(f, "the hash of the point G, whose private key is 1"),
-            Origin::Negation => write!(f, "the hash of the point -G, whose private key all know"),
-            Origin::NobodysPoint => write!(
-                f,
-                "the hash of the point H of BIP 341, whose private key nobody knows"
-            ),
+            Origin::Point(name) => write!(f, "the hash of {name}"),
+            Origin::ScriptOfPoint(name) => write!(f, "the hash of a script of {name}"),
         }
     }
 }
@@ -68,6 +88,12 @@ pub fn origin_of_point(x: &[u8]) -> Option<&'static str> {
         Some("the point G, whose private key is 1: anyone can sign for it")
     } else if x == H.as_slice() {
         Some("the point H of BIP 341, whose private key nobody knows: nobody can sign for it")
+    } else if x == G_OUTPUT.as_slice() {
+        Some("what BIP 86 makes of the point G, whose private key is 1: anyone can sign for it")
+    } else if x == H_OUTPUT.as_slice() {
+        Some(
+            "what BIP 86 makes of the point H, whose private key nobody knows: nobody can sign for it",
+        )
     } else {
         None
     }
@@ -84,14 +110,32 @@ pub fn origin_of_hash(bytes: &[u8]) -> Option<Origin> {
         Some(Origin::Ones)
     } else if is_hash_of(bytes, &[]) {
         Some(Origin::Nothing)
-    } else if is_hash_of_key(bytes, 2, &G_X) || is_hash_of_point(bytes, &G_Y) {
-        Some(Origin::Point)
-    } else if is_hash_of_key(bytes, 3, &G_X) || is_hash_of_point(bytes, &NEGATED_Y) {
-        Some(Origin::Negation)
-    } else if is_hash_of_key(bytes, 2, &H) || is_hash_of_key(bytes, 3, &H) {
-        Some(Origin::NobodysPoint)
     } else {
-        origin_of_script(bytes)
+        match origin_of_point_hash(bytes) {
+            Some(origin) => Some(origin),
+            None => origin_of_script(bytes),
+        }
+    }
+}
+
+// The point whose hash bytes are, or that of a script of it, if there is one.
+fn origin_of_point_hash(bytes: &[u8]) -> Option<Origin> {
+    for (name, sign, x) in &POINTS {
+        let mut key = [*sign; 33];
+        key[1..].copy_from_slice(x);
+        if is_hash_of(bytes, &key) {
+            return Some(Origin::Point(name));
+        }
+        if is_hash_of_script(bytes, &key) {
+            return Some(Origin::ScriptOfPoint(name));
+        }
+    }
+    if is_hash_of_point(bytes, &G_Y) {
+        Some(Origin::Point(NAME_OF_G))
+    } else if is_hash_of_point(bytes, &NEGATED_Y) {
+        Some(Origin::Point(NAME_OF_NEGATION))
+    } else {
+        None
     }
 }
 
@@ -106,11 +150,28 @@ fn origin_of_script(bytes: &[u8]) -> Option<Origin> {
     None
 }
 
-// Whether bytes are the hash of a point in 33 bytes.
-fn is_hash_of_key(bytes: &[u8], sign: u8, x: &[u8; 32]) -> bool {
-    let mut key = [sign; 33];
-    key[1..].copy_from_slice(x);
-    is_hash_of(bytes, &key)
+// Whether bytes are the hash of P2PK or P2PKH of a key, or of a program that pays to it: P2WPKH, or P2WSH of P2PK.
+fn is_hash_of_script(bytes: &[u8], key: &[u8; 33]) -> bool {
+    let hash = hash160(key);
+    let mut by_key = [33u8; 35];
+    by_key[1..34].copy_from_slice(key);
+    by_key[34] = 0xac;
+    let mut by_hash = [20u8; 25];
+    by_hash[0] = 0x76;
+    by_hash[1] = 0xa9;
+    by_hash[3..23].copy_from_slice(&hash);
+    by_hash[23] = 0x88;
+    by_hash[24] = 0xac;
+    let mut short = [0u8; 22];
+    short[1] = 20;
+    short[2..].copy_from_slice(&hash);
+    let mut long = [0u8; 34];
+    long[1] = 32;
+    long[2..].copy_from_slice(&sha256(&by_key));
+    is_hash_of(bytes, &by_key)
+        || is_hash_of(bytes, &by_hash)
+        || is_hash_of(bytes, &short)
+        || is_hash_of(bytes, &long)
 }
 
 // Whether bytes are the hash of the point with the x coordinate of G and this y coordinate, in 65 bytes.

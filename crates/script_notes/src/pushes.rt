@@ -1,47 +1,50 @@
 // The pushes of a script that was parsed in part.
 
 use crate::sizes::Counted;
+use page::Page;
+use page::Piece::Count;
 use script::{Op, Script};
-use std::alloc::{AllocError, Global};
-use std::fmt::Write;
 
 /// Notes what the opcodes in these bytes push, and at which bytes.
-pub fn note_pushes(notes: &mut String, alloc: Global, bytes: &[u8]) -> Result<(), AllocError> {
+pub fn note_pushes(notes: &mut Page, bytes: &[u8]) {
     // what was read before a fault parses as a script
-    let Ok(script) = Script::parse(alloc, bytes) else {
-        return Ok(());
-    };
-    write_pushes(notes, script.ops())
+    if let Ok(script) = Script::parse(notes.alloc(), bytes) {
+        write_pushes(notes, script.ops());
+    }
 }
 
-fn write_pushes(notes: &mut String, ops: &[Op]) -> Result<(), AllocError> {
+fn write_pushes(notes: &mut Page, ops: &[Op]) {
     let mut byte = 0u64;
     let mut mark = "note: pushed before it:";
     for op in ops {
-        if write_push(notes, mark, op, byte)? {
+        if write_push(notes, mark, op, byte) {
             mark = ",";
         }
         byte = byte
             .saturating_add(op.payload_len() as u64)
             .saturating_add(1);
     }
-    if mark == "," {
-        notes.push_str("\n")
+    notes.push(if mark == "," {
+        "\n"
     } else {
-        notes.push_str("note: nothing is pushed before it\n")
-    }
+        "note: nothing is pushed before it\n"
+    });
 }
 
 // Writes the opcode if it is a push, and returns whether it is one.
-fn write_push(notes: &mut String, mark: &str, op: &Op, byte: u64) -> Result<bool, AllocError> {
+fn write_push(notes: &mut Page, mark: &str, op: &Op, byte: u64) -> bool {
     match op {
-        Op::Push(item) if item.is_empty() => write!(notes, "{mark} the empty item at byte {byte}")?,
         Op::Push(item) => {
-            let item = Counted(item.bytes());
-            write!(notes, "{mark} {item} at byte {byte}")?;
+            notes.push(mark);
+            notes.push(" ");
+            notes.show(&Counted(item.bytes()));
         }
-        Op::Number(n) => write!(notes, "{mark} the number {n} at byte {byte}")?,
-        _ => return Ok(false),
+        Op::Number(n) => {
+            notes.push(mark);
+            notes.count(" the number ", u64::from(*n));
+        }
+        _ => return false,
     }
-    Ok(true)
+    notes.count(" at byte ", byte);
+    true
 }

@@ -3,94 +3,74 @@
 use crate::names::name_of;
 use crate::operands::{Operand, operand_at};
 use crate::sizes::Counted;
+use page::Page;
+use page::Piece::{Count, Text};
 use paths::CheckError;
 use script::limits::MAX_OPS_PER_SCRIPT;
 use script::{Op, Script};
 use std::alloc::{AllocError, Global};
-use std::fmt::Write;
 
 /// Notes why the paths of a script with these bytes are not listed.
-pub fn note_refusal(
-    notes: &mut String,
-    alloc: Global,
-    bytes: &[u8],
-    error: CheckError,
-) -> Result<(), AllocError> {
-    let Ok(script) = Script::parse(alloc, bytes) else {
-        return Ok(());
+pub fn note_refusal(notes: &mut Page, bytes: &[u8], error: CheckError) {
+    let Ok(script) = Script::parse(notes.alloc(), bytes) else {
+        return;
     };
     match error {
-        CheckError::OpenBranch => note_branch(notes, alloc, script.ops()),
+        CheckError::OpenBranch => note_branch(notes, script.ops()),
         CheckError::TooManyOps => note_count(notes, script.counted()),
-        CheckError::Undecided(at) => note_undecided(notes, alloc, script.ops(), at),
+        CheckError::Undecided(at) => note_undecided(notes, script.ops(), at),
         CheckError::TooManyPaths => {
-            notes.push_str("note: a 65th path begins, and at most 64 are listed\n")
+            notes.push("note: a 65th path begins, and at most 64 are listed\n")
         }
-        CheckError::TooTall => notes.push_str(
+        CheckError::TooTall => notes.push(
             "note: a path needs more than 1000 elements on the stack: no run of it is clean\n",
         ),
-        CheckError::NoMemory => Ok(()),
+        CheckError::NoMemory => {}
     }
 }
 
 // Notes how many counted opcodes there are.
-fn note_count(notes: &mut String, counted: usize) -> Result<(), AllocError> {
-    if counted > MAX_OPS_PER_SCRIPT {
-        writeln!(
-            notes,
-            "note: the script has {counted} counted opcodes, and at most 201 are allowed"
-        )
+fn note_count(notes: &mut Page, counted: usize) {
+    let text = if counted > MAX_OPS_PER_SCRIPT {
+        "note: the script has % counted opcodes, and at most 201 are allowed\n"
     } else {
-        writeln!(
-            notes,
-            "note: the script has {counted} counted opcodes: with the keys of the CHECKMULTISIGs on a path there are more than 201"
-        )
-    }
+        "note: the script has % counted opcodes: with the keys of the CHECKMULTISIGs on a path there are more than 201\n"
+    };
+    notes.write(text, &[Count(counted as u64)]);
 }
 
 // Notes at which opcode the listing gives up.
-fn note_undecided(
-    notes: &mut String,
-    alloc: Global,
-    ops: &[Op],
-    at: usize,
-) -> Result<(), AllocError> {
+fn note_undecided(notes: &mut Page, ops: &[Op], at: usize) {
     let Some(op) = ops.get(at) else {
-        return notes.push_str(
+        notes.push(
             "note: no rule decides whether the last entry is true, so the listing gives up: whether anyone can spend, or nobody, is not said\n",
         );
+        return;
     };
     let byte = (op.code() % 256) as u8;
     let name = name_of(byte).unwrap_or("a push");
-    writeln!(
-        notes,
-        "note: opcode {at} is {name}: no rule decides it on what stands on the stack there, so the listing gives up: whether anyone can spend, or nobody, is not said"
-    )?;
-    match op {
-        Op::CheckMultiSig => note_operand(notes, alloc, ops, at),
-        _ => Ok(()),
+    notes.write(
+        "note: opcode % is %: no rule decides it on what stands on the stack there, so the listing gives up: whether anyone can spend, or nobody, is not said\n",
+        &[Count(at as u64), Text(name)],
+    );
+    if let Op::CheckMultiSig = op {
+        note_operand(notes, ops, at);
     }
 }
 
 // Notes what keeps the CHECKMULTISIG at an opcode from being decided.
-fn note_operand(
-    notes: &mut String,
-    alloc: Global,
-    ops: &[Op],
-    at: usize,
-) -> Result<(), AllocError> {
-    match operand_at(alloc, ops, at)? {
-        Some(Operand::Constant(bytes)) => {
-            let bytes = Counted(bytes.as_slice());
-            writeln!(
-                notes,
-                "note: on a branch {bytes} stands there in the place of a signature: is a DROP missing?"
-            )
+fn note_operand(notes: &mut Page, ops: &[Op], at: usize) {
+    match operand_at(notes.alloc(), ops, at) {
+        Ok(Some(Operand::Constant(bytes))) => {
+            notes.push("note: on a branch ");
+            notes.show(&Counted(bytes.as_slice()));
+            notes.push(" stands there in the place of a signature: is a DROP missing?\n");
         }
-        Some(Operand::Count) => notes.push_str(
+        Ok(Some(Operand::Count)) => notes.push(
             "note: where the witness brings the number of signatures, it may be 0, and anyone can spend: compare the number of keys with the keys before it\n",
         ),
-        None => Ok(()),
+        Ok(None) => {}
+        Err(_) => notes.fail(),
     }
 }
 
@@ -113,20 +93,22 @@ struct OpenIf {
 }
 
 // Notes what is wrong with the branches of a script.
-fn note_branch(notes: &mut String, alloc: Global, ops: &[Op]) -> Result<(), AllocError> {
-    match open_end(alloc, ops)? {
-        Some(OpenEnd::NoIf(name, at)) => {
-            writeln!(notes, "note: the {name} at opcode {at} has no IF")
-        }
-        Some(OpenEnd::SecondElse(at, begin)) => writeln!(
-            notes,
-            "note: the ELSE at opcode {at} is the second one of the IF or NOTIF at opcode {begin}: consensus takes it, and it can be written as a further IF"
+fn note_branch(notes: &mut Page, ops: &[Op]) {
+    match open_end(notes.alloc(), ops) {
+        Ok(Some(OpenEnd::NoIf(name, at))) => notes.write(
+            "note: the % at opcode % has no IF\n",
+            &[Text(name), Count(at as u64)],
         ),
-        Some(OpenEnd::NoEndIf(at)) => writeln!(
-            notes,
-            "note: the IF or NOTIF at opcode {at} has no ENDIF"
+        Ok(Some(OpenEnd::SecondElse(at, begin))) => notes.write(
+            "note: the ELSE at opcode % is the second one of the IF or NOTIF at opcode %: consensus takes it, and it can be written as a further IF\n",
+            &[Count(at as u64), Count(begin as u64)],
         ),
-        None => Ok(()),
+        Ok(Some(OpenEnd::NoEndIf(at))) => notes.write(
+            "note: the IF or NOTIF at opcode % has no ENDIF\n",
+            &[Count(at as u64)],
+        ),
+        Ok(None) => {}
+        Err(_) => notes.fail(),
     }
 }
 

@@ -5,11 +5,13 @@ use crate::dates::{Date, Span, month_of_height};
 use crate::decided::{Decided, note_long_pushes, note_unrun};
 use crate::keys::{note_origins, note_points, note_repeated_keys};
 use facts::{Fact, Stated};
+use page::Page;
+use page::Piece::{Count, Text};
 use paths::{Checked, Path};
 use script::Op;
 use script::limits::LOCKTIME_THRESHOLD;
 use std::alloc::{AllocError, Global};
-use std::fmt::Write;
+use std::slice;
 use warnings::{
     DoubtfulLock, LockDoubt, LockWarning, SequenceLock, Taker, TurnedLock, doubtful_locks,
     greatest_units, has_unreachable_lock, is_offered_htlc, lock_warnings, taker_of,
@@ -42,36 +44,43 @@ pub const MAX_RELAYED_ITEM: usize = 80;
 const LONG_AGE: u16 = 2_016;
 
 /// Notes on the paths of a listed script.
-pub fn note_risks(notes: &mut String, alloc: Global, checked: &Checked) -> Result<(), AllocError> {
+pub fn note_risks(notes: &mut Page, alloc: Global, checked: &Checked) -> Result<(), AllocError> {
     let paths = checked.paths();
-    note_paths(notes, paths, Risk::Unreachable)?;
-    note_paths(notes, paths, Risk::NeverFinal)?;
-    note_paths(notes, paths, Risk::Anyone)?;
-    note_paths(notes, paths, Risk::Finder)?;
-    note_paths(notes, paths, Risk::HashedKey)?;
-    note_paths(notes, paths, Risk::HashedSignature)?;
-    note_paths(notes, paths, Risk::SizedSignature)?;
-    note_paths(notes, paths, Risk::Unrelayed)?;
-    note_size(notes, checked.script().bytes().len())?;
+    for risk in &RISKS {
+        note_paths(notes, paths, *risk);
+    }
+    note_size(notes, checked.script().bytes().len());
     let ops = checked.script().ops();
     let decided = Decided::of(alloc, ops)?;
-    note_points(notes, paths, ops)?;
-    note_repeated_keys(notes, paths)?;
+    note_points(notes, paths, ops);
+    note_repeated_keys(notes, paths);
     if !paths.is_empty() {
-        note_unrun(notes, &decided, ops)?;
-        note_origins(notes, ops)?;
-        note_long_pushes(notes, ops)?;
+        note_unrun(notes, &decided, ops);
+        note_origins(notes, ops);
+        note_long_pushes(notes, ops);
     }
-    note_locks(notes, alloc, &decided)?;
-    note_turned(notes, alloc, &decided)?;
-    note_doubts(notes, alloc, &decided)?;
-    note_waits(notes, paths)?;
+    note_locks(notes, &decided);
+    note_turned(notes, &decided);
+    note_doubts(notes, &decided);
+    note_waits(notes, paths);
     // with keys that have another form than a key's, it has fewer paths
     if paths.len() == 3 && is_offered_htlc(checked.script().bytes()) {
-        note_timeout(notes)?;
+        note_timeout(notes);
     }
     Ok(())
 }
+
+// The risks in the order of their notes.
+const RISKS: [Risk; 8] = [
+    Risk::Unreachable,
+    Risk::NeverFinal,
+    Risk::Anyone,
+    Risk::Finder,
+    Risk::HashedKey,
+    Risk::HashedSignature,
+    Risk::SizedSignature,
+    Risk::Unrelayed,
+];
 
 // What a note says of some paths.
 #[derive(Clone, Copy)]
@@ -155,164 +164,176 @@ fn has_risk(path: &Path, risk: Risk) -> bool {
         Risk::Anyone => taker_of(facts) == Taker::Anyone,
         Risk::Finder => taker_of(facts) == Taker::Finder,
         Risk::HashedKey => takes_hashed_key(facts),
-        Risk::HashedSignature | Risk::SizedSignature => facts
-            .iter()
-            .any(|stated| is_said_of_signature(facts, stated, risk)),
-        Risk::Unrelayed => {
-            path.arity > MAX_RELAYED_ITEMS || facts.iter().any(|stated| is_long(stated))
-        }
+        Risk::HashedSignature | Risk::SizedSignature => is_said_of_signatures(facts, risk),
+        Risk::Unrelayed => path.arity > MAX_RELAYED_ITEMS || has_long(facts),
     }
 }
 
-// Whether a fact asks for an item that is too long for nodes to relay.
-fn is_long(stated: &Stated) -> bool {
-    match &stated.fact {
-        Fact::Size(_, size) => stated.holds && *size as usize > MAX_RELAYED_ITEM,
-        _ => false,
+// Whether facts ask for an item that is too long for nodes to relay.
+fn has_long(facts: &[Stated]) -> bool {
+    for stated in facts {
+        if let Fact::Size(_, size) = &stated.fact {
+            if stated.holds && *size as usize > MAX_RELAYED_ITEM {
+                return true;
+            }
+        }
     }
+    false
 }
 
 // Notes a script that is too long for nodes to relay a spend of it.
-fn note_size(notes: &mut String, len: usize) -> Result<(), AllocError> {
+fn note_size(notes: &mut Page, len: usize) {
     if len > MAX_RELAYED_SCRIPT {
-        writeln!(
-            notes,
-            "note: the script has {len} bytes, and nodes relay no spend of one above {MAX_RELAYED_SCRIPT}"
-        )?;
+        notes.write(
+            "note: the script has % bytes, and nodes relay no spend of one above %\n",
+            &[Count(len as u64), Count(MAX_RELAYED_SCRIPT as u64)],
+        );
     }
-    Ok(())
 }
 
-// Whether a fact asks for a signature of which another one of its path gives the hash, or the size or the bytes.
-fn is_said_of_signature(facts: &[Stated], stated: &Stated, risk: Risk) -> bool {
-    match &stated.fact {
-        Fact::Token(slot, _) => stated.holds && is_said(facts, *slot, risk),
-        Fact::Assigned(slots, _) => {
-            stated.holds
-                && slots
-                    .values()
-                    .iter()
-                    .any(|slot| is_said(facts, *slot, risk))
+// Whether facts ask for a signature of which another one of the path gives the hash, or the size or the bytes.
+fn is_said_of_signatures(facts: &[Stated], risk: Risk) -> bool {
+    for stated in facts {
+        let slots = match &stated.fact {
+            Fact::Token(slot, _) if stated.holds => slice::from_ref(slot),
+            Fact::Assigned(slots, _) if stated.holds => slots.values(),
+            _ => &[],
+        };
+        for slot in slots {
+            if is_said(facts, *slot, risk) {
+                return true;
+            }
         }
-        _ => false,
     }
+    false
 }
 
 // Whether a path says what the hash of a slot is, or its size or bytes.
 fn is_said(facts: &[Stated], slot: usize, risk: Risk) -> bool {
-    facts.iter().any(|stated| match (risk, &stated.fact) {
-        (Risk::HashedSignature, Fact::Hash(place, _)) => stated.holds && *place == slot,
-        (Risk::SizedSignature, Fact::Size(place, _)) => stated.holds && *place == slot,
-        (Risk::SizedSignature, Fact::Is(place, _)) => stated.holds && *place == slot,
-        _ => false,
-    })
+    let is_hash = matches!(risk, Risk::HashedSignature);
+    for stated in facts {
+        let is_said = match &stated.fact {
+            Fact::Hash(place, _) => is_hash && *place == slot,
+            Fact::Size(place, _) | Fact::Is(place, _) => !is_hash && *place == slot,
+            _ => false,
+        };
+        if is_said && stated.holds {
+            return true;
+        }
+    }
+    false
 }
 
 // Notes the paths that have a risk in one line, if there are any.
-fn note_paths(notes: &mut String, paths: &[Path], risk: Risk) -> Result<(), AllocError> {
+fn note_paths(notes: &mut Page, paths: &[Path], risk: Risk) {
     let mut mark = risk.beginning();
     for (index, path) in paths.iter().enumerate() {
         if has_risk(path, risk) {
-            write!(notes, "{mark} {index}")?;
+            notes.write("% %", &[Text(mark), Count(index as u64)]);
             mark = ",";
         }
     }
     if mark == "," {
-        notes.push_str(risk.ending())
-    } else {
-        Ok(())
+        notes.push(risk.ending());
     }
 }
 
 // Notes the relative locks that ask for less than their number says.
-fn note_locks(notes: &mut String, alloc: Global, decided: &Decided) -> Result<(), AllocError> {
-    let warnings = lock_warnings(alloc, decided.locks.as_slice())?;
-    for warning in &warnings {
-        note_lock(notes, decided.place_of(warning.op), warning)?;
+fn note_locks(notes: &mut Page, decided: &Decided) {
+    match lock_warnings(notes.alloc(), decided.locks.as_slice()) {
+        Ok(warnings) => {
+            for warning in &warnings {
+                note_lock(notes, decided.place_of(warning.op), warning);
+            }
+        }
+        Err(_) => notes.fail(),
     }
-    Ok(())
 }
 
 // Notes one relative lock, which stands at an opcode.
-fn note_lock(notes: &mut String, op: usize, warning: &LockWarning) -> Result<(), AllocError> {
-    let number = warning.number;
-    write!(
-        notes,
-        "note: opcode {op}, CHECKSEQUENCEVERIFY of {number}, asks for "
-    )?;
-    match warning.lock {
-        SequenceLock::Off => { notes.push_str("nothing: bit 31 switches the lock off (BIP 68)\n") }
-        SequenceLock::Blocks(age) => {
-            let end = plural(age);
-            writeln!(
-                notes,
-                "an age of {age} block{end}: of a number only bits 0 to 15, 22 and 31 count (BIP 68)"
-            )
+fn note_lock(notes: &mut Page, op: usize, warning: &LockWarning) {
+    notes.write(
+        "note: opcode %, CHECKSEQUENCEVERIFY of %, asks for ",
+        &[Count(op as u64), Count(warning.number)],
+    );
+    let (age, unit, of) = match warning.lock {
+        SequenceLock::Off => {
+            notes.push("nothing: bit 31 switches the lock off (BIP 68)\n");
+            return;
         }
-        SequenceLock::Units(age) => {
-            let end = plural(age);
-            writeln!(
-                notes,
-                "an age of {age} unit{end} of 512 seconds: of a number only bits 0 to 15, 22 and 31 count (BIP 68)"
-            )
-        }
-    }
+        SequenceLock::Blocks(age) => (age, "block", ""),
+        SequenceLock::Units(age) => (age, "unit", " of 512 seconds"),
+    };
+    notes.write(
+        "an age of % %%%: of a number only bits 0 to 15, 22 and 31 count (BIP 68)\n",
+        &[
+            Count(u64::from(age)),
+            Text(unit),
+            Text(plural(age)),
+            Text(of),
+        ],
+    );
 }
 
 // Notes the locks whose number seems to have its bytes turned round.
-fn note_turned(notes: &mut String, alloc: Global, decided: &Decided) -> Result<(), AllocError> {
-    let locks = turned_locks(alloc, decided.locks.as_slice())?;
-    for lock in &locks {
-        note_turned_lock(notes, decided, lock)?;
+fn note_turned(notes: &mut Page, decided: &Decided) {
+    match turned_locks(notes.alloc(), decided.locks.as_slice()) {
+        Ok(locks) => {
+            for lock in &locks {
+                note_turned_lock(notes, decided, lock);
+            }
+        }
+        Err(_) => notes.fail(),
     }
-    Ok(())
 }
 
 // Notes one such lock.
-fn note_turned_lock(
-    notes: &mut String,
-    decided: &Decided,
-    lock: &TurnedLock,
-) -> Result<(), AllocError> {
-    let (op, number, turned) = (decided.place_of(lock.op), lock.number, lock.turned);
+fn note_turned_lock(notes: &mut Page, decided: &Decided, lock: &TurnedLock) {
     let name = match decided.locks.get(lock.op) {
         Some(Op::CheckLockTimeVerify) => "CHECKLOCKTIMEVERIFY",
         _ => "CHECKSEQUENCEVERIFY",
     };
-    writeln!(
-        notes,
-        "note: opcode {op}, {name} of {number}: the same bytes in the other order are {turned}, and a number is little-endian"
-    )
+    notes.write(
+        "note: opcode %, % of %: the same bytes in the other order are %, and a number is little-endian\n",
+        &[
+            Count(decided.place_of(lock.op) as u64),
+            Text(name),
+            Count(lock.number),
+            Count(lock.turned),
+        ],
+    );
 }
 
 // Notes the absolute locks that hold nobody up, or nearly for ever.
-fn note_doubts(notes: &mut String, alloc: Global, decided: &Decided) -> Result<(), AllocError> {
-    let locks = doubtful_locks(alloc, decided.locks.as_slice())?;
-    for lock in &locks {
-        note_doubt(notes, decided.place_of(lock.op), lock)?;
+fn note_doubts(notes: &mut Page, decided: &Decided) {
+    match doubtful_locks(notes.alloc(), decided.locks.as_slice()) {
+        Ok(locks) => {
+            for lock in &locks {
+                note_doubt(notes, decided.place_of(lock.op), lock);
+            }
+        }
+        Err(_) => notes.fail(),
     }
-    Ok(())
 }
 
 // Notes one such lock, which stands at an opcode.
-fn note_doubt(notes: &mut String, op: usize, lock: &DoubtfulLock) -> Result<(), AllocError> {
-    let number = lock.number;
-    write!(
-        notes,
-        "note: opcode {op}, CHECKLOCKTIMEVERIFY of {number}, "
-    )?;
+fn note_doubt(notes: &mut Page, op: usize, lock: &DoubtfulLock) {
+    notes.write(
+        "note: opcode %, CHECKLOCKTIMEVERIFY of %, ",
+        &[Count(op as u64), Count(lock.number)],
+    );
     match lock.doubt {
-        LockDoubt::Passed => notes.push_str(
+        LockDoubt::Passed => notes.push(
             "holds nobody up on Bitcoin's main chain, which had passed it before it had witness scripts (BIP 141); CHECKSEQUENCEVERIFY waits a number of blocks\n",
         ),
-        LockDoubt::FarHeight => {
-            let years = number.saturating_sub(HEIGHT) / BLOCKS_PER_YEAR;
-            writeln!(
-                notes,
-                "waits for a height that is some {years} years away: from {LOCKTIME_THRESHOLD} on a number is a time (BIP 65)"
-            )
-        }
-        LockDoubt::FarTime => notes.push_str("waits until after the year 2099\n"),
+        LockDoubt::FarHeight => notes.write(
+            "waits for a height that is some % years away: from % on a number is a time (BIP 65)\n",
+            &[
+                Count(lock.number.saturating_sub(HEIGHT) / BLOCKS_PER_YEAR),
+                Count(LOCKTIME_THRESHOLD),
+            ],
+        ),
+        LockDoubt::FarTime => notes.push("waits until after the year 2099\n"),
     }
 }
 
@@ -322,70 +343,77 @@ fn plural(count: u16) -> &'static str {
 }
 
 // Notes until when the paths wait that somebody may meet, where their line does not tell.
-fn note_waits(notes: &mut String, paths: &[Path]) -> Result<(), AllocError> {
+fn note_waits(notes: &mut Page, paths: &[Path]) {
     for (index, path) in paths.iter().enumerate() {
         let facts = path.facts.values();
         if !has_unreachable_lock(facts) && conflict_in(facts).is_none() {
-            note_lock_time(notes, index, path.lock)?;
-            note_age(notes, index, path.age)?;
-            note_units(notes, index, greatest_units(facts))?;
+            note_lock_time(notes, index as u64, path.lock);
+            note_age(notes, index as u64, path.age);
+            note_units(notes, index as u64, greatest_units(facts));
         }
     }
-    Ok(())
 }
 
 // Notes the day until which a path waits whose absolute lock is a time, and the month of one that is a height, where it is not doubtful.
-fn note_lock_time(notes: &mut String, index: usize, lock: Option<u64>) -> Result<(), AllocError> {
+fn note_lock_time(notes: &mut Page, index: u64, lock: Option<u64>) {
     match lock {
         Some(lock) if lock >= LOCKTIME_THRESHOLD => {
-            let date = Date::of(lock);
-            writeln!(
-                notes,
-                "note: path {index} waits until the median time past is above {lock}, {date} in UTC: its lock is a time, in seconds since 1970 (BIP 113)"
-            )
+            notes.write(
+                "note: path % waits until the median time past is above %, ",
+                &[Count(index), Count(lock)],
+            );
+            notes.show(&Date::of(lock));
+            notes.push(" in UTC: its lock is a time, in seconds since 1970 (BIP 113)\n");
         }
         Some(lock) if FIRST_HEIGHT <= lock && lock <= LAST_HEIGHT => {
             let (year, month) = month_of_height(lock);
-            writeln!(
-                notes,
-                "note: path {index} waits for a block above height {lock}, on Bitcoin's main chain about {year}-{month:02}"
-            )
+            let zero = if month < 10 { "0" } else { "" };
+            notes.write(
+                "note: path % waits for a block above height %, on Bitcoin's main chain about %-%%\n",
+                &[
+                    Count(index),
+                    Count(lock),
+                    Count(year),
+                    Text(zero),
+                    Count(month),
+                ],
+            );
         }
-        _ => Ok(()),
+        _ => {}
     }
 }
 
 // Notes how long a path waits that waits for more than two weeks of blocks.
-fn note_age(notes: &mut String, index: usize, age: Option<u16>) -> Result<(), AllocError> {
-    match age {
-        Some(age) if age > LONG_AGE => {
-            let span = Span::of_blocks(u64::from(age));
-            writeln!(
-                notes,
-                "note: path {index} waits {age} blocks, about {span} at ten minutes each"
-            )
+fn note_age(notes: &mut Page, index: u64, age: Option<u16>) {
+    if let Some(age) = age {
+        if age > LONG_AGE {
+            notes.write(
+                "note: path % waits % blocks, about ",
+                &[Count(index), Count(u64::from(age))],
+            );
+            notes.show(&Span::of_blocks(u64::from(age)));
+            notes.push(" at ten minutes each\n");
         }
-        _ => Ok(()),
     }
 }
 
 // Notes a path whose relative lock is in units of time.
-fn note_units(notes: &mut String, index: usize, units: Option<u16>) -> Result<(), AllocError> {
-    match units {
-        Some(units) if units > 0 => {
-            let (end, span) = (plural(units), Span(u64::from(units).saturating_mul(512)));
-            writeln!(
-                notes,
-                "note: path {index} waits {units} unit{end} of 512 seconds, about {span}, which its age does not tell: that is in blocks (BIP 68)"
-            )
+fn note_units(notes: &mut Page, index: u64, units: Option<u16>) {
+    if let Some(units) = units {
+        if units > 0 {
+            notes.write(
+                "note: path % waits % unit% of 512 seconds, about ",
+                &[Count(index), Count(u64::from(units)), Text(plural(units))],
+            );
+            notes.show(&Span(u64::from(units).saturating_mul(512)));
+            notes.push(", which its age does not tell: that is in blocks (BIP 68)\n");
         }
-        _ => Ok(()),
     }
 }
 
 // Notes which path of an offered HTLC has a lock that does not stand in the script.
-fn note_timeout(notes: &mut String) -> Result<(), AllocError> {
-    notes.push_str(
+fn note_timeout(notes: &mut Page) {
+    notes.push(
         "note: path 1 is the timeout of an offered HTLC (BOLT 3): nobody can take it at once, since the other side signs only a transaction whose lock time is the HTLC's cltv_expiry\n",
-    )
+    );
 }

@@ -1,8 +1,9 @@
 // Notes on opcodes that are not in the table.
 
 use crate::names::name_of;
-use std::alloc::{AllocError, Global};
-use std::fmt::Write;
+use page::Page;
+use page::Piece::{Count, Text};
+use std::slice;
 use warnings::unknown_opcodes;
 
 // The most opcodes that a note names.
@@ -12,67 +13,60 @@ const MAX_NAMED: usize = 16;
 const CHECKSIGADD: u8 = 0xba;
 
 /// Notes which of Bitcoin's opcodes stands at a byte.
-pub fn note_opcode(notes: &mut String, bytes: &[u8], at: usize) -> Result<(), AllocError> {
+pub fn note_opcode(notes: &mut Page, bytes: &[u8], at: usize) {
     let Some(byte) = bytes.get(at) else {
-        return Ok(());
+        return;
     };
+    notes.count("note: byte ", at as u64);
+    notes.hex(" is ", slice::from_ref(byte));
     match name_of(*byte) {
-        Some(name) if *byte == CHECKSIGADD => writeln!(
-            notes,
-            "note: byte {at} is {byte:02x}, {name} in tapscript (BIP 342), which is no opcode of version 0"
+        Some(name) if *byte == CHECKSIGADD => notes.write(
+            ", % in tapscript (BIP 342), which is no opcode of version 0\n",
+            &[Text(name)],
         ),
-        Some(name) => writeln!(
-            notes,
-            "note: byte {at} is {byte:02x}, {name} in Bitcoin, which is not in the table"
-        ),
-        None => writeln!(
-            notes,
-            "note: byte {at} is {byte:02x}, which is no opcode of Bitcoin"
-        ),
+        Some(name) => notes.write(", % in Bitcoin, which is not in the table\n", &[Text(name)]),
+        None => notes.push(", which is no opcode of Bitcoin\n"),
     }
 }
 
 /// Notes which further opcodes are not in the table, after the one at a byte.
-pub fn note_others(
-    notes: &mut String,
-    alloc: Global,
-    bytes: &[u8],
-    at: usize,
-) -> Result<(), AllocError> {
-    let places = unknown_opcodes(alloc, bytes)?;
+pub fn note_others(notes: &mut Page, bytes: &[u8], at: usize) {
+    match unknown_opcodes(notes.alloc(), bytes) {
+        Ok(places) => write_others(notes, bytes, places.as_slice(), at),
+        Err(_) => notes.fail(),
+    }
+}
+
+// Writes which of these opcodes stand after a byte.
+fn write_others(notes: &mut Page, bytes: &[u8], places: &[usize], at: usize) {
     let mut mark = "note: not in the table either:";
     let mut count: usize = 0;
-    for place in &places {
+    for place in places {
         if *place > at {
             if count < MAX_NAMED {
-                write_opcode(notes, mark, bytes, *place)?;
+                write_opcode(notes, mark, bytes, *place);
                 mark = ",";
             }
             count = count.saturating_add(1);
         }
     }
-    write_rest(notes, count)
-}
-
-// Writes how many more there are than a note names, and ends its line.
-fn write_rest(notes: &mut String, count: usize) -> Result<(), AllocError> {
     if count > MAX_NAMED {
         let rest = count - MAX_NAMED;
-        writeln!(notes, ", and {rest} more")
+        notes.write(", and % more\n", &[Count(rest as u64)]);
     } else if count > 0 {
-        notes.push_str("\n")
-    } else {
-        Ok(())
+        notes.push("\n");
     }
 }
 
 // Writes which opcode stands at a byte.
-fn write_opcode(notes: &mut String, mark: &str, bytes: &[u8], at: usize) -> Result<(), AllocError> {
+fn write_opcode(notes: &mut Page, mark: &str, bytes: &[u8], at: usize) {
     let Some(byte) = bytes.get(at) else {
-        return Ok(());
+        return;
     };
-    match name_of(*byte) {
-        Some(name) => write!(notes, "{mark} {byte:02x} ({name}) at byte {at}"),
-        None => write!(notes, "{mark} {byte:02x} at byte {at}"),
+    notes.push(mark);
+    notes.hex(" ", slice::from_ref(byte));
+    if let Some(name) = name_of(*byte) {
+        notes.write(" (%)", &[Text(name)]);
     }
+    notes.count(" at byte ", at as u64);
 }
