@@ -13,7 +13,7 @@ use Rattle.spend.specs.declared.close_answers.CloseAnswer.{CloseAnswer}
 -- the commitment that a request has
 abbrev pub close_of : CloseRequest → Close
 close_of r = record {
-  commitment = record { channel_type = r.channel_type; keys = bytes_of r.keys; delay_blocks = r.delay_blocks; htlcs = r.htlcs };
+  commitment = record { channel_type = r.commitment.channel_type; keys = bytes_of r.commitment.keys; delay_blocks = r.commitment.delay_blocks; htlcs = r.htlcs };
   whose = r.whose;
   feerate_per_kw = r.feerate_per_kw;
   preimages = r.preimages;
@@ -28,4 +28,4 @@ pub record IsFoundIn (c : Close) (funding_keys : Option FundingKeys) (t : Transa
   pub height : a.confirmed_height ≡ confirmed_height
 
 abbrev pub IsCloseAnswer : CloseRequest → CloseAnswer → Type 0
-IsCloseAnswer r = IsFoundIn (close_of r) r.funding_keys r.transaction r.confirmed_height
+IsCloseAnswer r = IsFoundIn (close_of r) r.commitment.funding_keys r.transaction r.confirmed_height

@@ -12,7 +12,7 @@ use Rattle.spend.specs.declared.revoked_answers.RevokedAnswer.{RevokedAnswer}
 
 -- the commitment that a request has
 abbrev pub parts_of : RevokedRequest → RevokedParts
-parts_of r = record { channel_type = r.channel_type; keys = bytes_of r.keys; delay_blocks = r.delay_blocks; htlcs = r.htlcs }
+parts_of r = record { channel_type = r.commitment.channel_type; keys = bytes_of r.commitment.keys; delay_blocks = r.commitment.delay_blocks; htlcs = r.htlcs }
 
 -- what is found of a commitment in a transaction: a claim on each output of it, and the indices and the names of the others
 pub record IsFoundIn (r : RevokedParts) (funding_keys : Option FundingKeys) (t : Transaction) (confirmed_height : ℕ) (a : RevokedAnswer) : Type 0 where
@@ -23,4 +23,4 @@ pub record IsFoundIn (r : RevokedParts) (funding_keys : Option FundingKeys) (t :
   pub height : a.confirmed_height ≡ confirmed_height
 
 abbrev pub IsRevokedAnswer : RevokedRequest → RevokedAnswer → Type 0
-IsRevokedAnswer r = IsFoundIn (parts_of r) r.funding_keys r.transaction r.confirmed_height
+IsRevokedAnswer r = IsFoundIn (parts_of r) r.commitment.funding_keys r.transaction r.confirmed_height

@@ -19,6 +19,7 @@ use Rattle.claim.specs.Opcodes.{◌>>=◌}
 use Rattle.texts.specs.Keys.{key_of}
 use Rattle.texts.specs.Values.{first_some, object_of, member_of, list_of, u16_of, u32_of, bytes_of, bytes_of_len}
 use Rattle.unilateral.specs.declared.names.FundingKeys.{FundingKeys}
+use Rattle.spend.specs.declared.revoked_requests.Commitment.{Commitment}
 use Rattle.spend.specs.declared.revoked_requests.RevokedRequest.{RevokedRequest}
 
 -- the types of channels have their names of BOLT 9, without `option_`
@@ -50,6 +51,15 @@ keys_of_funding d = do
 abbrev pub funding_keys_of : Data → Option (Option FundingKeys)
 funding_keys_of d = null_or keys_of_funding d
 
+-- four members of a request
+unfoldable pub commitment_of : Data → Option Commitment
+commitment_of form = do
+  channel_type ← member_of (codes "channel_type") channel_type_of form
+  keys ← member_of (codes "keys") keys_of form
+  delay_blocks ← member_of (codes "delay_blocks") u16_of form
+  funding_keys ← member_of (codes "funding_keys") funding_keys_of form
+  Some (record { channel_type = channel_type; keys = keys; delay_blocks = delay_blocks; funding_keys = funding_keys })
+
 abbrev pub direction_of : Data → Option Direction
 direction_of d = as_str d >>= (λ name. if bytes_eq name (codes "offered") then Some Offered else if bytes_eq name (codes "received") then Some Received else None)
 
@@ -79,15 +89,12 @@ transaction_in bytes = first_some (result_ok (reading bytes)) (result_ok (stripp
 abbrev pub transaction_of : Data → Option Transaction
 transaction_of d = bytes_of d >>= transaction_in
 
--- an object of these seven members
+-- an object of these and the commitment's four members
 unfoldable pub revoked_request_of : Data → Option RevokedRequest
 revoked_request_of d = do
   form ← object_of 7 d
-  channel_type ← member_of (codes "channel_type") channel_type_of form
-  keys ← member_of (codes "keys") keys_of form
-  delay_blocks ← member_of (codes "delay_blocks") u16_of form
+  commitment ← commitment_of form
   confirmed_height ← member_of (codes "confirmed_height") u32_of form
-  funding_keys ← member_of (codes "funding_keys") funding_keys_of form
   htlcs ← member_of (codes "htlcs") (list_of htlc_of) form
   transaction ← member_of (codes "transaction") transaction_of form
-  Some (record { channel_type = channel_type; keys = keys; delay_blocks = delay_blocks; htlcs = htlcs; funding_keys = funding_keys; transaction = transaction; confirmed_height = confirmed_height })
+  Some (record { commitment = commitment; htlcs = htlcs; transaction = transaction; confirmed_height = confirmed_height })

@@ -5,6 +5,7 @@ ghost use Rattle.spend.specs.CloseAnswers.{IsFoundIn, IsCloseAnswer};
 
 use crate::close_requests::CloseRequest;
 use crate::revoked_answers::{kind_of, tell_others};
+use crate::revoked_requests::Commitment;
 use claim::Claim;
 use lists::List;
 use page::Page;
@@ -68,17 +69,20 @@ fn answer_by(
     ensures { IfOk result (IsCloseAnswer request) }
 {
     let CloseRequest {
-        channel_type,
+        commitment,
         whose,
-        keys,
-        delay_blocks,
         feerate_per_kw,
         htlcs,
         preimages,
-        funding_keys,
         transaction,
         confirmed_height,
     } = request;
+    let Commitment {
+        channel_type,
+        keys,
+        delay_blocks,
+        funding_keys,
+    } = commitment;
     let preimages = known_of(preimages)?;
     let htlcs = htlcs.into_vec();
     let commitment = Revoked::new(alloc, patterns, channel_type, keys, delay_blocks, htlcs)?;

@@ -5,36 +5,27 @@ ghost use Rattle.json_value.specs.View.{view};
 ghost use Rattle.texts.specs.Values.{Gives, member_of, list_of, bytes_of_len};
 ghost use Rattle.spend.specs.CloseRequests.{whose_of, height_of};
 
-use crate::revoked_requests::{
-    channel_type_of, funding_keys_of, keys_of, member_htlcs, member_transaction,
-};
+use crate::revoked_requests::{Commitment, commitment_of, member_htlcs, member_transaction};
 use json_value::Value;
 use lists::List;
-use revoked::{ChannelType, CommitmentKeys, RevokedHtlc};
+use revoked::RevokedHtlc;
 use std::alloc::Global;
 use texts::{FromValue, ReadValue, ShapeError, member, object_of, read_member};
 use tx::Tx;
-use unilateral::{FundingKeys, Whose};
+use unilateral::Whose;
 
 /// A commitment that closed a channel, and a transaction that may have outputs of it.
 #[derive(Drop)]
 pub struct CloseRequest {
-    /// The type of the channel.
-    pub channel_type: ChannelType,
+    pub commitment: Commitment,
     /// Whose commitment it is.
     pub whose: Whose,
-    /// The keys of the commitment.
-    pub keys: CommitmentKeys,
-    /// The delay of to_local and of HTLC transactions' outputs, in blocks.
-    pub delay_blocks: u16,
     /// The commitment's feerate.
     pub feerate_per_kw: u32,
     /// The HTLCs of the commitment.
     pub htlcs: List<RevokedHtlc>,
     /// The preimages that are known.
     pub preimages: List<[u8; 32]>,
-    /// The keys of the funding output, if anchors are to be named.
-    pub funding_keys: Option<FundingKeys>,
     /// The transaction that was seen.
     pub transaction: Tx,
     /// The height of the block that has it, if it is in one.
@@ -77,32 +68,20 @@ impl ReadValue for CloseRequest {
     #[tactic(auto, unfolding(crate::specs::CloseRequests::close_request_of))]
     fn read_value(alloc: Global, value: &Value) -> Result<CloseRequest, ShapeError> {
         let form = object_of(value, 10).ok_or(ShapeError::BadShape)?;
-        let channel_type = channel_type_of(
-            form.member("channel_type").ok_or(ShapeError::BadShape)?,
-        ).ok_or(ShapeError::BadShape)?;
+        let commitment = commitment_of(form).ok_or(ShapeError::BadShape)?;
         let whose = whose_of(form.member("whose").ok_or(ShapeError::BadShape)?).ok_or(
             ShapeError::BadShape,
         )?;
-        let keys = keys_of(form.member("keys").ok_or(ShapeError::BadShape)?).ok_or(
-            ShapeError::BadShape,
-        )?;
-        let delay_blocks: u16 = member(form, "delay_blocks").ok_or(ShapeError::BadShape)?;
         let feerate_per_kw: u32 = member(form, "feerate_per_kw").ok_or(ShapeError::BadShape)?;
         let confirmed_height = height_of(
             form.member("confirmed_height").ok_or(ShapeError::BadShape)?,
         ).ok_or(ShapeError::BadShape)?;
-        let funding_keys = funding_keys_of(
-            form.member("funding_keys").ok_or(ShapeError::BadShape)?,
-        ).ok_or(ShapeError::BadShape)?;
         Ok(CloseRequest {
-            channel_type,
+            commitment,
             whose,
-            keys,
-            delay_blocks,
             feerate_per_kw,
             htlcs: member_htlcs(alloc, form)?,
             preimages: read_member(alloc, form, "preimages")?,
-            funding_keys,
             transaction: member_transaction(alloc, form)?,
             confirmed_height,
         })

@@ -3,7 +3,7 @@
 ghost use Rattle.std.specs.Prelude.{IfOk};
 ghost use Rattle.spend.specs.RevokedAnswers.{IsFoundIn, IsRevokedAnswer};
 
-use crate::revoked_requests::RevokedRequest;
+use crate::revoked_requests::{Commitment, RevokedRequest};
 use claim::Claim;
 use lists::List;
 use page::Page;
@@ -59,14 +59,17 @@ fn answer_by(
     ensures { IfOk result (IsRevokedAnswer request) }
 {
     let RevokedRequest {
-        channel_type,
-        keys,
-        delay_blocks,
+        commitment,
         htlcs,
-        funding_keys,
         transaction,
         confirmed_height,
     } = request;
+    let Commitment {
+        channel_type,
+        keys,
+        delay_blocks,
+        funding_keys,
+    } = commitment;
     let htlcs = htlcs.into_vec();
     let revoked = Revoked::new(alloc, patterns, channel_type, keys, delay_blocks, htlcs)?;
     found_in(

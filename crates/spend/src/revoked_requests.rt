@@ -3,7 +3,7 @@
 ghost use Rattle.std.specs.Prelude.{◌≡◌, codes};
 ghost use Rattle.json_value.specs.View.{view, items_view};
 ghost use Rattle.texts.specs.Values.{Gives, each_of, list_of, member_of};
-ghost use Rattle.spend.specs.RevokedRequests.{channel_type_of, keys_of, keys_of_funding, funding_keys_of, direction_of, expiry_of, htlc_of, transaction_in, transaction_of};
+ghost use Rattle.spend.specs.RevokedRequests.{channel_type_of, keys_of, keys_of_funding, funding_keys_of, commitment_of, direction_of, expiry_of, htlc_of, transaction_in, transaction_of};
 
 use json_value::Value;
 use lists::List;
@@ -13,19 +13,25 @@ use texts::{FromValue, ReadValue, ShapeError, bytes_of, member, object_of};
 use tx::{DecodeError, Tx, decode, decode_stripped};
 use unilateral::FundingKeys;
 
-/// A revoked commitment, and a transaction that may have outputs of it.
-#[derive(Drop)]
-pub struct RevokedRequest {
+/// A commitment without its HTLCs.
+#[derive(Clone, Copy)]
+pub struct Commitment {
     /// The type of the channel.
     pub channel_type: ChannelType,
     /// The keys of the commitment.
     pub keys: CommitmentKeys,
     /// The delay of to_local and of HTLC transactions' outputs, in blocks.
     pub delay_blocks: u16,
-    /// The HTLCs of the commitment.
-    pub htlcs: List<RevokedHtlc>,
     /// The keys of the funding output, if anchors are to be named.
     pub funding_keys: Option<FundingKeys>,
+}
+
+/// A revoked commitment, and a transaction that may have outputs of it.
+#[derive(Drop)]
+pub struct RevokedRequest {
+    pub commitment: Commitment,
+    /// The HTLCs of the commitment.
+    pub htlcs: List<RevokedHtlc>,
     /// The transaction that was seen.
     pub transaction: Tx,
     /// The height of the block that has it, or of the next one.
@@ -84,6 +90,19 @@ pub fn funding_keys_of(value: &Value) -> Option<Option<FundingKeys>>
         Some(keys) => Some(Some(keys)),
         None => None,
     }
+}
+
+/// Reads a commitment without its HTLCs: four members of a request.
+#[tactic(auto, unfolding(crate::specs::RevokedRequests::commitment_of))]
+pub fn commitment_of(form: &Value) -> Option<Commitment>
+    ensures { result ≡ commitment_of (view form.now) }
+{
+    Some(Commitment {
+        channel_type: channel_type_of(form.member("channel_type")?)?,
+        keys: keys_of(form.member("keys")?)?,
+        delay_blocks: member(form, "delay_blocks")?,
+        funding_keys: funding_keys_of(form.member("funding_keys")?)?,
+    })
 }
 
 // Reads a direction, as the owner of the commitment sees it.
@@ -196,23 +215,11 @@ impl ReadValue for RevokedRequest {
     #[tactic(auto, unfolding(crate::specs::RevokedRequests::revoked_request_of))]
     fn read_value(alloc: Global, value: &Value) -> Result<RevokedRequest, ShapeError> {
         let form = object_of(value, 7).ok_or(ShapeError::BadShape)?;
-        let channel_type = channel_type_of(
-            form.member("channel_type").ok_or(ShapeError::BadShape)?,
-        ).ok_or(ShapeError::BadShape)?;
-        let keys = keys_of(form.member("keys").ok_or(ShapeError::BadShape)?).ok_or(
-            ShapeError::BadShape,
-        )?;
-        let delay_blocks: u16 = member(form, "delay_blocks").ok_or(ShapeError::BadShape)?;
+        let commitment = commitment_of(form).ok_or(ShapeError::BadShape)?;
         let confirmed_height: u32 = member(form, "confirmed_height").ok_or(ShapeError::BadShape)?;
-        let funding_keys = funding_keys_of(
-            form.member("funding_keys").ok_or(ShapeError::BadShape)?,
-        ).ok_or(ShapeError::BadShape)?;
         Ok(RevokedRequest {
-            channel_type,
-            keys,
-            delay_blocks,
+            commitment,
             htlcs: member_htlcs(alloc, form)?,
-            funding_keys,
             transaction: member_transaction(alloc, form)?,
             confirmed_height,
         })
