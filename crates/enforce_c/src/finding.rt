@@ -128,25 +128,18 @@ fn name_kind(name: OutputName) -> u32
 
 // The row of the output at an index.
 fn other_row(
-    alloc: Global,
     commitment: &Revoked,
     funding_keys: Option<FundingKeys>,
     tx: &Tx,
     index: u32,
-) -> Result<OtherRow, AllocError>
-    ensures { IfOk result (λ r. r ≡ other_row commitment.now funding_keys tx.now index) }
+) -> OtherRow
+    ensures { result ≡ other_row commitment.now funding_keys tx.now index }
 {
-    let Some(output) = tx.outputs().get(index as usize) else {
-        return Ok(OtherRow {
-            index,
-            kind: OUTPUT_UNKNOWN,
-        });
+    let kind = match tx.outputs().get(index as usize) {
+        Some(output) => name_kind(name_of(commitment, funding_keys, output.script().bytes())),
+        None => OUTPUT_UNKNOWN,
     };
-    let name = name_of(alloc, commitment, funding_keys, output.script().bytes())?;
-    Ok(OtherRow {
-        index,
-        kind: name_kind(name),
-    })
+    OtherRow { index, kind }
 }
 
 // The rows of the other outputs.
@@ -161,7 +154,7 @@ fn rows_of_others(
 {
     let mut rows = Vec::new(alloc);
     for index in others {
-        rows.push(other_row(alloc, commitment, funding_keys, tx, *index)?)?;
+        rows.push(other_row(commitment, funding_keys, tx, *index))?;
     }
     Ok(rows)
 }

@@ -1,14 +1,15 @@
 //! The names of a commitment's outputs.
 
-ghost use Rattle.std.specs.Prelude.{◌≡◌, ◌∷◌, ◌++◌, map, IfOk};
+ghost use Rattle.std.specs.Prelude.{◌≡◌, map, IfOk};
 ghost use Rattle.std.specs.Str.{bytes_eq};
+ghost use Rattle.sighash.specs.Programs.{script_hash_program};
 ghost use Rattle.commit.specs.Keys.{bytes_of};
-ghost use Rattle.unilateral.specs.Names.{key_program, to_remote_program, anchor_program, htlc_name, known_name, anchor_name, other_name, name_of, name_at};
+ghost use Rattle.unilateral.specs.Names.{to_remote_program, anchor_program, htlc_name, known_name, anchor_name, other_name, name_of, name_at};
 
 use claim::Key;
-use lists::{ByteString, List};
+use digest::sha256;
+use lists::List;
 use revoked::{ChannelType, CommitmentKeys, Direction, Revoked, RevokedOutput};
-use sighash::programs::script_hash_program;
 use std::alloc::{AllocError, Global};
 use tx::Tx;
 
@@ -49,31 +50,35 @@ pub enum OutputName {
     Unknown,
 }
 
-// The program of a script that is the push of a key and these bytes.
-fn key_program(alloc: Global, key: &Key, end: &[u8]) -> Result<ByteString, AllocError>
-    ensures { IfOk result (λ p. p ≡ key_program key.now.bytes end.now) }
+// Whether a program is that of the hash of a script.
+#[tactic(auto, unfolding(sighash::specs::Programs::script_hash_program))]
+fn is_program_of(script: &[u8], program: &[u8]) -> bool
+    ensures { result ≡ bytes_eq (script_hash_program script.now) program.now }
 {
-    let mut script = Vec::new(alloc);
-    script.push(KEY_PUSH)?;
-    script.extend_from_slice(&key.bytes)?;
-    script.extend_from_slice(end)?;
-    script_hash_program(alloc, script.as_slice())
+    let mut known = [0; 34];
+    known[1] = 0x20;
+    known[2..].copy_from_slice(&sha256(script));
+    known.as_slice() == program
 }
 
 // Whether a program is that of to_remote in a channel with anchors.
-fn is_to_remote(alloc: Global, key: &Key, program: &[u8]) -> Result<bool, AllocError>
-    ensures { IfOk result (λ b. b ≡ bytes_eq (to_remote_program key.now.bytes) program.now) }
+fn is_to_remote(key: &Key, program: &[u8]) -> bool
+    ensures { result ≡ bytes_eq (to_remote_program key.now.bytes) program.now }
 {
-    let known = key_program(alloc, key, &TO_REMOTE_END)?;
-    Ok(known.bytes() == program)
+    let mut script = [KEY_PUSH; 37];
+    script[34..].copy_from_slice(&TO_REMOTE_END);
+    script[1..34].copy_from_slice(&key.bytes);
+    is_program_of(&script, program)
 }
 
 // Whether a program is that of the anchor of a funding key.
-fn is_anchor(alloc: Global, key: &Key, program: &[u8]) -> Result<bool, AllocError>
-    ensures { IfOk result (λ b. b ≡ bytes_eq (anchor_program key.now.bytes) program.now) }
+fn is_anchor(key: &Key, program: &[u8]) -> bool
+    ensures { result ≡ bytes_eq (anchor_program key.now.bytes) program.now }
 {
-    let known = key_program(alloc, key, &ANCHOR_END)?;
-    Ok(known.bytes() == program)
+    let mut script = [KEY_PUSH; 40];
+    script[34..].copy_from_slice(&ANCHOR_END);
+    script[1..34].copy_from_slice(&key.bytes);
+    is_program_of(&script, program)
 }
 
 // The name of an HTLC.
@@ -98,85 +103,71 @@ fn known_name(output: &RevokedOutput) -> OutputName
 }
 
 // The name of an anchor, if the funding keys are told.
-fn anchor_name(
-    alloc: Global,
-    funding_keys: Option<FundingKeys>,
-    program: &[u8],
-) -> Result<OutputName, AllocError>
-    ensures { IfOk result (λ n. n ≡ anchor_name funding_keys program.now) }
+fn anchor_name(funding_keys: Option<FundingKeys>, program: &[u8]) -> OutputName
+    ensures { result ≡ anchor_name funding_keys program.now }
 {
     let Some(keys) = funding_keys else {
-        return Ok(OutputName::Unknown);
+        return OutputName::Unknown;
     };
-    if is_anchor(alloc, &keys.ours, program)? {
-        return Ok(OutputName::OurAnchor);
+    if is_anchor(&keys.ours, program) {
+        return OutputName::OurAnchor;
     }
-    if is_anchor(alloc, &keys.peers, program)? {
-        return Ok(OutputName::PeersAnchor);
+    if is_anchor(&keys.peers, program) {
+        return OutputName::PeersAnchor;
     }
-    Ok(OutputName::Unknown)
+    OutputName::Unknown
 }
 
 // The name of an output that has no form that is known here.
 fn other_name(
-    alloc: Global,
     channel_type: ChannelType,
     keys: &CommitmentKeys,
     funding_keys: Option<FundingKeys>,
     program: &[u8],
-) -> Result<OutputName, AllocError>
-    ensures { IfOk result (λ n. n ≡ other_name channel_type (bytes_of keys.now)
-        funding_keys program.now) }
+) -> OutputName
+    ensures { result ≡ other_name channel_type (bytes_of keys.now) funding_keys program.now }
 {
     match channel_type {
-        ChannelType::StaticRemoteKey => Ok(OutputName::Unknown),
+        ChannelType::StaticRemoteKey => OutputName::Unknown,
         ChannelType::Anchors => {
-            if is_to_remote(alloc, &keys.remote, program)? {
-                return Ok(OutputName::ToRemote);
+            if is_to_remote(&keys.remote, program) {
+                return OutputName::ToRemote;
             }
-            anchor_name(alloc, funding_keys, program)
+            anchor_name(funding_keys, program)
         }
     }
 }
 
 /// What an output with this program is, of a commitment that is revoked or not. With anchors it names to_remote and, if the funding keys are told, the anchors, on which nothing
-/// is claimed. The only error is that memory ran out.
+/// is claimed. It allocates nothing.
 pub fn name_of(
-    alloc: Global,
     commitment: &Revoked,
     funding_keys: Option<FundingKeys>,
     program: &[u8],
-) -> Result<OutputName, AllocError>
-    ensures { IfOk result (λ n. n ≡ name_of commitment.now funding_keys program.now) }
+) -> OutputName
+    ensures { result ≡ name_of commitment.now funding_keys program.now }
 {
     match commitment.output_with(program) {
-        Some(known) => Ok(known_name(&known)),
+        Some(known) => known_name(&known),
         None => {
             let keys = commitment.keys();
-            other_name(
-                alloc,
-                commitment.channel_type(),
-                keys,
-                funding_keys,
-                program,
-            )
+            other_name(commitment.channel_type(), keys, funding_keys, program)
         }
     }
 }
 
 // The name of the output at an index.
 fn name_at(
-    alloc: Global,
     commitment: &Revoked,
     funding_keys: Option<FundingKeys>,
     tx: &Tx,
     index: u32,
-) -> Result<OutputName, AllocError>
-    ensures { IfOk result (λ n. n ≡ name_at commitment.now funding_keys tx.now index) }
+) -> OutputName
+    ensures { result ≡ name_at commitment.now funding_keys tx.now index }
 {
     match tx.outputs().get(index as usize) {
-        Some(output) => name_of(alloc, commitment, funding_keys, output.script().bytes()),
-        None => Ok(OutputName::Unknown),
+        Some(output) => name_of(commitment, funding_keys, output.script().bytes()),
+        None => OutputName::Unknown,
     }
 }
 
@@ -192,7 +183,7 @@ pub fn names_at(
 {
     let mut names = Vec::new(alloc);
     for index in indices {
-        names.push(name_at(alloc, commitment, funding_keys, tx, *index)?)?;
+        names.push(name_at(commitment, funding_keys, tx, *index))?;
     }
     Ok(List::from_vec(names))
 }
