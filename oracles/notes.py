@@ -715,19 +715,24 @@ def repeated_rows():
 
 # ---- forwards
 
-PREIMAGE, AMOUNT, EXPIRY = "00" * 32, 12_000_000, 60
+PREIMAGE, AMOUNT, EXPIRY = "00" * 32, 9_000_000, 60
 PAYMENT = bitcoin.sha256(bytes.fromhex(PREIMAGE)).hex()
 
 
 class Forward:
-    """What A forwards: B offers it an HTLC in channel 1, and A offers B one of the same hash in channel 0."""
+    """Offers of one hash, each irrevocably committed. What A forwards: B offers it an HTLC in channel 1, and A offers B one in channel 0."""
 
-    def __init__(self):
+    def __init__(self, *offers):
         self.events, self.revoked = [], {}
-        for side, channel in (("B", 1), ("A", 0)):
-            self.add("offer", side, channel, AMOUNT, PAYMENT, EXPIRY)
-            self.deliver("AB".strip(side), channel)
-            self.commit(side, channel)
+        for side, channel in offers or (("B", 1), ("A", 0)):
+            self.offer(side, channel)
+
+    def offer(self, side, channel):
+        """The number of the event that offers."""
+        event = self.add("offer", side, channel, AMOUNT, PAYMENT, EXPIRY)
+        self.deliver("AB".strip(side), channel)
+        self.commit(side, channel)
+        return event
 
     def add(self, *event):
         """The number of an event that is added."""
@@ -784,10 +789,42 @@ def fail_rows():
     it = Forward()
     first, event = it.add("fail", "B", 0, 7), it.add("fail", "A", 1, 0)
     yield it.row(refused_note(it.events, first), "there is no such HTLC: A offered 1 in channel 0, numbered from 0", f"event {event}: {fails} {stands}")
+    yield from one_channel_rows(fails)
+    # A's own HTLC-timeout transaction is deep in the chain
+    it = Forward()
+    it.add("close", "A", 0)
+    it.add("blocks", EXPIRY)
+    it.add("broadcast", "A", 0, 1, 0)
+    it.add("blocks", 7)
+    yield it.row(f"event {it.add('fail', 'A', 1, 0)}: {fails} {stands.replace(':', ', which is closed:')}, unless a transaction deep in the chain took it back or left it out")
+    # the order turned round: A offers what it failed, alone or after B offered it again
+    for again in (False, True):
+        it = Forward(("B", 1))
+        it.add("fail", "A", 1, 0)
+        it.deliver("B", 1)
+        it.commit("A", 1)
+        if again:
+            it.offer("B", 1)
+        late = f"event {it.offer('A', 0)}: A offers in channel 0 the hash of an HTLC that it failed in channel 1: whoever fulfils that one is paid by A alone"
+        yield it.row(*[late] * (not again))
+
+
+def one_channel_rows(fails):
+    """A fails in channel 1 while its own offer of the hash stands there, or with the preimage: by B's fulfil there, and by its own there and in channel 0."""
+    it = Forward(("B", 1), ("A", 1))
+    yield it.row(f"event {it.add('fail', 'A', 1, 0)}: {fails} while it offers the same hash in channel 1: whoever fulfils that one is paid by A alone")
+    it = Forward(("B", 1), ("A", 1))
+    it.add("fulfil", "B", 1, 0, PREIMAGE)
+    it.deliver("A", 1)
+    yield it.row(f"event {it.add('fail', 'A', 1, 0)}: {fails} whose preimage it has by B's fulfil in channel 1: A alone pays there")
+    for channel, number in ((1, 1), (0, 0)):
+        it = Forward(("B", channel), ("B", 1))
+        it.add("fulfil", "A", channel, 0, PREIMAGE)
+        yield it.row(f"event {it.add('fail', 'A', 1, number)}: {fails} whose preimage it has by its own fulfil in channel {channel}: it gives up what it could take")
 
 
 def fulfil_rows():
-    """A fulfils what it forwards: too early, so that it is refused, and in the block after its expiry, by which it may be taken back, and the one before."""
+    """A fulfils what it forwards: too early, so that it is refused, and on both sides of the height from which on it may be taken back, in a channel that is closed before or after."""
     it = Forward()
     it.events.insert(2, ["fulfil", "A", 1, 0, PREIMAGE])
     event = it.add("fulfil", "B", 0, 0, PREIMAGE)
@@ -796,15 +833,29 @@ def fulfil_rows():
     learnt = "A learns by this fulfil in channel 0 the preimage of an HTLC in channel 1, and does not fulfil that one: a fulfil in one channel is not known in another"
     early = "HTLC 0 of channel 1 is not yet committed on both sides: B signs, A revokes and signs, and B revokes, in this order"
     yield it.row(refused_note(it.events, 2), early, f"event {event}: {learnt}")
-    for blocks in (EXPIRY, EXPIRY + 1):
+    # what takes the HTLC back has the lock time of its expiry, and may stand in a block above that height (BIP 65): in the next block, and in this one
+    for blocks, takes in ((EXPIRY - 1, None), (EXPIRY, "takes it back in the next block"), (EXPIRY + 1, "took it back on the chain")):
         it = Forward()
         it.add("fulfil", "B", 0, 0, PREIMAGE)
         it.deliver("A", 0)
         it.add("close", "B", 1)
         it.add("blocks", blocks)
         event = it.add("fulfil", "A", 1, 0, PREIMAGE)
-        late = f"event {event}: A fulfils an HTLC in channel 1 at height {blocks}, and the channel is closed, and the HTLC expired at height {EXPIRY}: where B took it back on the chain, the fulfil takes nothing"
-        yield it.row(*[late] * (blocks > EXPIRY))
+        late = f"event {event}: A fulfils an HTLC in channel 1 at height {blocks}, and the channel is closed, and the HTLC expired at height {EXPIRY}: where B {takes}, the fulfil takes nothing"
+        yield it.row(*[late] * (takes is not None))
+    # the channel is closed after it, by either side, up to each step by which the fulfil is irrevocably committed: the second one brings it into B's commitment, the fourth one into A's
+    for closer, left in (("B", 2), ("A", 4)):
+        for steps in range(6):
+            it = Forward()
+            it.add("fulfil", "B", 0, 0, PREIMAGE)
+            it.deliver("A", 0)
+            it.add("blocks", EXPIRY)
+            event = it.add("fulfil", "A", 1, 0, PREIMAGE)
+            for step, side in ((it.deliver, "B"), (it.sign, "A"), (it.deliver, "A"), (it.sign, "B"), (it.deliver, "B"))[:steps]:
+                step(side, 1)
+            closed = it.add("close", closer, 1)
+            late = f"event {event}: A fulfils an HTLC in channel 1, and event {closed} closes the channel at height {EXPIRY} before the fulfil is committed, and the HTLC expired at height {EXPIRY}: where B takes it back in the next block, the fulfil takes nothing"
+            yield it.row(*[late] * (steps < left))
 
 
 # ---- the calls
@@ -813,6 +864,11 @@ def fulfil_rows():
 def printed_notes(ran):
     """The notes that a call printed."""
     return [line.removeprefix("note: ") for line in ran.stderr.decode().splitlines()]
+
+
+def is_of_refused(note):
+    """Whether a note is on an event that was refused."""
+    return " is the first that was refused" in note or note.startswith(("there is no such HTLC", "HTLC 0 of"))
 
 
 def is_contradictory(notes):
@@ -859,6 +915,8 @@ def main():
     wrong += sum(not is_noted(command, ["node", "1"], given, notes) for given, notes in texts[:1] + repeated[:1])
     forwards = [*fail_rows(), *fulfil_rows()]
     wrong += sum(not is_noted(command, ["run"], given, notes) for given, notes in forwards)
+    # trace notes no refused event
+    wrong += sum(not is_noted(program("trace"), ["scenario"], given, [it for it in notes if not is_of_refused(it)]) for given, notes in forwards)
     drawn = [(code, printed_notes(subprocess.run([command, "paths", code], capture_output=True))) for code in mixed_scripts(600)]
     wrong += sum(not is_right(code, notes) for code, notes in ENDS)
     wrong += sum(ends_so(notes) and not is_right(code, notes) for code, notes in drawn)

@@ -31,6 +31,10 @@ pub struct Removal {
     pub is_fulfil: bool,
     /// The event by which it came to who had offered the HTLC.
     pub came: Option<usize>,
+    /// The event by which the newest commitment of who had offered the HTLC has it no more.
+    pub left_offerer: Option<usize>,
+    /// The event by which the newest commitment of who removed the HTLC has it no more.
+    pub left_receiver: Option<usize>,
     /// The event by which who had offered the HTLC knows that it is irrevocably committed (BOLT 2): no commitment that may be broadcast without a penalty has the HTLC.
     pub committed: Option<usize>,
 }
@@ -157,23 +161,44 @@ fn remove(
                 event: at,
                 is_fulfil: hash.is_some(),
                 came: delivery_of(came, at),
+                left_offerer: left_offerer_at(events, came, place),
+                left_receiver: left_receiver_at(events, came, place),
                 committed: committed_at(events, came, place),
             });
         }
     }
 }
 
-// The event by which a removal is irrevocably committed: who removed signs, the other side revokes and signs, and a revocation answers.
-fn committed_at(
+// The event by which the commitment of who had offered an HTLC is without it: who removed it signs.
+fn left_offerer_at(
     events: &[Event],
     came: &[Option<usize>],
     place: (Side, u64, usize),
 ) -> Option<usize> {
     let (side, channel, at) = place;
     let signed = signature_after(events, channel, side, at)?;
-    let revoked = delivery_of(came, signed)?;
+    delivery_of(came, signed)
+}
+
+// The event by which the commitment of who removed an HTLC is without it: the other side revokes and signs.
+fn left_receiver_at(
+    events: &[Event],
+    came: &[Option<usize>],
+    place: (Side, u64, usize),
+) -> Option<usize> {
+    let (side, channel, _) = place;
+    let revoked = left_offerer_at(events, came, place)?;
     let answered = signature_after(events, channel, side.other(), revoked)?;
-    let done = delivery_of(came, answered)?;
+    delivery_of(came, answered)
+}
+
+// The event by which a removal is irrevocably committed: a revocation answers.
+fn committed_at(
+    events: &[Event],
+    came: &[Option<usize>],
+    place: (Side, u64, usize),
+) -> Option<usize> {
+    let done = left_receiver_at(events, came, place)?;
     delivery_of(came, done)
 }
 

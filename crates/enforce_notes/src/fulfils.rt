@@ -1,9 +1,9 @@
 // Notes on a preimage that a side has from one channel, and does not use in another one; and on a fulfil that comes too late.
 
 use crate::courses::{Course, Removal};
+use page::Page;
+use page::Piece::{Count, Text};
 use scenario::Event;
-use std::alloc::AllocError;
-use std::fmt::Write;
 use terms::Side;
 
 // A fulfil that is noted: what a side makes of it in another channel.
@@ -16,15 +16,11 @@ struct Found {
 }
 
 /// Notes the first fulfil of a side, and the first one that comes to its peer, whose hash the other one offers in another channel too, if that channel is closed, and the side does not remove that HTLC
-/// there; and the first fulfil that comes after the expiry of its HTLC in a channel that is closed.
-pub fn note_fulfils(
-    notes: &mut String,
-    events: &[Event],
-    courses: &[Course],
-) -> Result<(), AllocError> {
-    note_own(notes, courses)?;
-    note_learnt(notes, courses)?;
-    note_late(notes, events, courses)
+/// there; and the first fulfil after whose HTLC's expiry the channel is closed and still has that HTLC.
+pub fn note_fulfils(notes: &mut Page, events: &[Event], courses: &[Course]) {
+    note_left(notes, courses, true);
+    note_left(notes, courses, false);
+    note_late(notes, events, courses);
 }
 
 /// The letter of a side.
@@ -43,8 +39,8 @@ fn fulfil_of(course: &Course) -> Option<Removal> {
     }
 }
 
-// The first fulfil of those who do not use its preimage in another channel: those who made it, or those to whom it came.
-fn first_left(courses: &[Course], is_own: bool) -> Option<Found> {
+// Notes the first fulfil of those who do not use its preimage in another channel: those who made it, or those to whom it came.
+fn note_left(notes: &mut Page, courses: &[Course], is_own: bool) {
     let mut first: Option<Found> = None;
     for course in courses {
         if let Some(fulfil) = fulfil_of(course) {
@@ -61,7 +57,20 @@ fn first_left(courses: &[Course], is_own: bool) -> Option<Found> {
             }
         }
     }
-    first
+    if let Some(found) = first {
+        let text = if is_own {
+            "note: event %: % fulfils an HTLC of this hash in channel %, and not in channel %: a fulfil in one channel is not known in another\n"
+        } else {
+            "note: event %: % learns by this fulfil in channel % the preimage of an HTLC in channel %, and does not fulfil that one: a fulfil in one channel is not known in another\n"
+        };
+        let pieces = [
+            Count(found.event as u64),
+            Text(name_of(found.side)),
+            Count(found.channel),
+            Count(found.place),
+        ];
+        notes.write(text, &pieces);
+    }
 }
 
 // Whether an event is before the one that was found.
@@ -69,36 +78,6 @@ fn is_before(event: usize, found: Option<Found>) -> bool {
     match found {
         Some(found) => event < found.event,
         None => true,
-    }
-}
-
-// Notes the first fulfil of a side whose preimage it does not use in another channel.
-fn note_own(notes: &mut String, courses: &[Course]) -> Result<(), AllocError> {
-    match first_left(courses, true) {
-        Some(found) => {
-            let (event, side) = (found.event, name_of(found.side));
-            let (channel, place) = (found.channel, found.place);
-            writeln!(
-                notes,
-                "note: event {event}: {side} fulfils an HTLC of this hash in channel {channel}, and not in channel {place}: a fulfil in one channel is not known in another"
-            )
-        }
-        None => Ok(()),
-    }
-}
-
-// Notes the first fulfil by which the peer learns a preimage that it does not use in another channel.
-fn note_learnt(notes: &mut String, courses: &[Course]) -> Result<(), AllocError> {
-    match first_left(courses, false) {
-        Some(found) => {
-            let (event, side) = (found.event, name_of(found.side));
-            let (channel, place) = (found.channel, found.place);
-            writeln!(
-                notes,
-                "note: event {event}: {side} learns by this fulfil in channel {channel} the preimage of an HTLC in channel {place}, and does not fulfil that one: a fulfil in one channel is not known in another"
-            )
-        }
-        None => Ok(()),
     }
 }
 
@@ -118,40 +97,76 @@ fn left_in(courses: &[Course], course: &Course, side: Side) -> Option<u64> {
     first
 }
 
-// Notes the first fulfil that comes after the expiry of its HTLC, where the channel was closed before: then the HTLC may have been taken back on the chain.
-fn note_late(notes: &mut String, events: &[Event], courses: &[Course]) -> Result<(), AllocError> {
-    let mut late: Option<(usize, &Course)> = None;
+// Notes the first fulfil of an HTLC that the peer may take back on the chain by then, or once a channel is closed that still has it.
+fn note_late(notes: &mut Page, events: &[Event], courses: &[Course]) {
+    let mut late: Option<(usize, Course, usize)> = None;
     for course in courses {
-        if let Some(fulfil) = fulfil_of(course) {
+        if let (Some(fulfil), Some(closed)) = (fulfil_of(course), course.closed) {
             let is_first = match late {
-                Some((event, _)) => fulfil.event < event,
+                Some((event, _, _)) => fulfil.event < event,
                 None => true,
             };
-            if is_first && is_late(events, course, fulfil.event) {
-                late = Some((fulfil.event, course));
+            if is_first && is_late(events, course, &fulfil, closed) {
+                late = Some((fulfil.event, *course, closed));
             }
         }
     }
-    if let Some((event, course)) = late {
-        let (by, peer) = (name_of(course.by.other()), name_of(course.by));
-        let (channel, expiry) = (course.channel, course.expiry_height);
-        let height = height_at(events, event);
-        writeln!(
-            notes,
-            "note: event {event}: {by} fulfils an HTLC in channel {channel} at height {height}, and the channel is closed, and the HTLC expired at height {expiry}: where {peer} took it back on the chain, the fulfil takes nothing"
-        )?;
+    if let Some((event, course, closed)) = late {
+        let height = height_at(events, closed.max(event));
+        write_late(notes, &course, (event, closed), height);
     }
-    Ok(())
 }
 
-// Whether an HTLC may have been taken back on the chain before an event: its channel was closed, and the block after its expiry is there.
-fn is_late(events: &[Event], course: &Course, event: usize) -> bool {
-    match course.closed {
-        Some(closed) if closed < event => {
-            height_at(events, event) > u64::from(course.expiry_height)
-        }
-        _ => false,
+// Whether an HTLC may be taken back on the chain once both its fulfil and a close are there. What takes it back has the lock time of its expiry (BOLT 3; BIP 65), and may stand in a block above that height: so it may be sent from that
+// height on, and stand in the next block.
+fn is_late(events: &[Event], course: &Course, fulfil: &Removal, closed: usize) -> bool {
+    let left = match events.get(closed) {
+        Some(event) if closer_of(event) == Some(course.by) => fulfil.left_offerer,
+        _ => fulfil.left_receiver,
+    };
+    let is_left = match left {
+        Some(left) => left < closed,
+        None => false,
+    };
+    !is_left && height_at(events, closed.max(fulfil.event)) >= u64::from(course.expiry_height)
+}
+
+// The side that sends a commitment to the pool by an event.
+fn closer_of(event: &Event) -> Option<Side> {
+    match event {
+        Event::Close { side, .. } | Event::Broadcast { side, .. } => Some(*side),
+        _ => None,
     }
+}
+
+// Writes that an HTLC is fulfilled by an event, and that its channel is closed by another one, the later of them at a height from which on the HTLC may be taken back.
+fn write_late(notes: &mut Page, course: &Course, events: (usize, usize), height: u64) {
+    let ((event, closed), expiry) = (events, u64::from(course.expiry_height));
+    notes.write(
+        "note: event %: % fulfils an HTLC in channel %",
+        &[
+            Count(event as u64),
+            Text(name_of(course.by.other())),
+            Count(course.channel),
+        ],
+    );
+    if closed < event {
+        notes.write(" at height %, and the channel is closed", &[Count(height)]);
+    } else {
+        notes.write(
+            ", and event % closes the channel at height % before the fulfil is committed",
+            &[Count(closed as u64), Count(height)],
+        );
+    }
+    let taken = if closed < event && height > expiry {
+        "took it back on the chain"
+    } else {
+        "takes it back in the next block"
+    };
+    notes.write(
+        ", and the HTLC expired at height %: where % %, the fulfil takes nothing\n",
+        &[Count(expiry), Text(name_of(course.by)), Text(taken)],
+    );
 }
 
 // The height of the chain before an event: a reorganisation makes a block more than it takes.

@@ -1,38 +1,34 @@
 // Notes on a scenario that has its shape: its limits, and the terms of its channels.
 
 use json_value::Value;
+use page::Page;
+use page::Piece::{Count, Sum};
 use scenario::{MAX_BLOCKS, MAX_CHANNELS, MAX_EVENTS};
-use std::alloc::AllocError;
-use std::fmt::Write;
 use terms::ProposedTerms;
 use texts::{FromValue, tag_of};
 use tx::MAX_VALUE;
 
 /// Notes the first limit that a scenario exceeds, or else the first channel on whose terms the two sides can't agree.
-pub fn note_scenario(notes: &mut String, value: &Value) -> Result<(), AllocError> {
+pub fn note_scenario(notes: &mut Page, value: &Value) {
     let channels = items_of(value, "channels");
     let events = items_of(value, "events");
     if channels.len() > MAX_CHANNELS {
-        let (count, most) = (channels.len(), MAX_CHANNELS);
-        return writeln!(
-            notes,
-            "note: the scenario has {count} channels, and at most {most} are allowed"
+        notes.write(
+            "note: the scenario has % channels, and at most % are allowed\n",
+            &[Count(channels.len() as u64), Count(MAX_CHANNELS as u64)],
         );
-    }
-    if events.len() > MAX_EVENTS {
-        let (count, most) = (events.len(), MAX_EVENTS);
-        return writeln!(
-            notes,
-            "note: the scenario has {count} events, and at most {most} are allowed"
+    } else if events.len() > MAX_EVENTS {
+        notes.write(
+            "note: the scenario has % events, and at most % are allowed\n",
+            &[Count(events.len() as u64), Count(MAX_EVENTS as u64)],
         );
-    }
-    let most = MAX_BLOCKS;
-    match too_many_blocks(events) {
-        Some((event, count)) => writeln!(
-            notes,
-            "note: event {event} asks for {count} blocks, and at most {most} are allowed in one event"
-        ),
-        None => note_terms(notes, channels),
+    } else if let Some((event, count)) = too_many_blocks(events) {
+        notes.write(
+            "note: event % asks for % blocks, and at most % are allowed in one event\n",
+            &[Count(event as u64), Count(count), Count(MAX_BLOCKS)],
+        );
+    } else {
+        note_terms(notes, channels);
     }
 }
 
@@ -70,36 +66,37 @@ fn blocks_of(event: &Value) -> u64 {
 }
 
 // Notes the first channel on whose terms the two sides can't agree.
-fn note_terms(notes: &mut String, channels: &[Value]) -> Result<(), AllocError> {
+fn note_terms(notes: &mut Page, channels: &[Value]) {
     for (index, value) in channels.iter().enumerate() {
         if let Some(terms) = ProposedTerms::from_value(value) {
             if !terms.can_agree() {
-                return note_channel(notes, index, &terms);
+                note_channel(notes, index as u64, &terms);
+                return;
             }
         }
     }
-    Ok(())
 }
 
 // Notes why two sides can't agree on the terms of a channel.
-fn note_channel(
-    notes: &mut String,
-    channel: usize,
-    terms: &ProposedTerms,
-) -> Result<(), AllocError> {
+fn note_channel(notes: &mut Page, channel: u64, terms: &ProposedTerms) {
     let capacity_sat = terms.capacity_sat;
     if capacity_sat > MAX_VALUE {
-        let most = MAX_VALUE;
-        return writeln!(
-            notes,
-            "note: channel {channel}: its capacity is {capacity_sat} satoshis, and there are at most {most}"
+        notes.write(
+            "note: channel %: its capacity is % satoshis, and there are at most %\n",
+            &[Count(channel), Count(capacity_sat), Count(MAX_VALUE)],
         );
+        return;
     }
     let (a, b) = (terms.a.start_msat, terms.b.start_msat);
-    let sum = u128::from(a) + u128::from(b);
-    let whole = u128::from(capacity_sat) * 1000;
-    writeln!(
-        notes,
-        "note: channel {channel}: its start is {a} and {b} millisatoshis, together {sum}, and its capacity is {capacity_sat} satoshis, which are {whole} millisatoshis"
-    )
+    notes.write(
+        "note: channel %: its start is % and % millisatoshis, together %, and its capacity is % satoshis, which are % millisatoshis\n",
+        &[
+            Count(channel),
+            Count(a),
+            Count(b),
+            Sum(u128::from(a) + u128::from(b)),
+            Count(capacity_sat),
+            Sum(u128::from(capacity_sat) * 1000),
+        ],
+    );
 }

@@ -2,43 +2,46 @@
 
 use crate::names::{MAX_INPUT, is_plain};
 use json_names::{RepeatedMember, first_repeated_member};
+use page::Page;
+use page::Piece::Count;
+use script_notes::text_of;
 use std::alloc::{AllocError, Global};
-use std::fmt::Write;
 
 /// The note on the first member that stands twice in its object; empty if there is none, or if the text is invalid JSON or too long. The only error is that memory ran out.
 pub fn repeat_notes(alloc: Global, input: &[u8]) -> Result<String, AllocError> {
-    let mut notes = String::new(alloc);
-    if input.len() <= MAX_INPUT {
-        note_repeat(&mut notes, alloc, input)?;
-    }
-    Ok(notes)
+    let mut notes = Page::new(alloc);
+    note_repeat(&mut notes, input);
+    text_of(&notes)
 }
 
-/// Notes the first member that stands twice in its object, if there is one.
-pub fn note_repeat(notes: &mut String, alloc: Global, input: &[u8]) -> Result<(), AllocError> {
-    match first_repeated_member(alloc, input)? {
-        Some(member) => write_repeat(notes, input, &member),
-        None => Ok(()),
+/// Notes the first member that stands twice in its object, if there is one, and the text is not too long.
+pub fn note_repeat(notes: &mut Page, input: &[u8]) {
+    if input.len() <= MAX_INPUT {
+        match first_repeated_member(notes.alloc(), input) {
+            Ok(Some(member)) => write_repeat(notes, input, &member),
+            Ok(None) => {}
+            Err(_) => notes.fail(),
+        }
     }
 }
 
 // Writes which member stands twice, and where it does so again.
-fn write_repeat(
-    notes: &mut String,
-    input: &[u8],
-    member: &RepeatedMember,
-) -> Result<(), AllocError> {
-    let (byte, (line, column)) = (member.at, place_of(input, member.at));
+fn write_repeat(notes: &mut Page, input: &[u8], member: &RepeatedMember) {
+    let (line, column) = place_of(input, member.at);
     if is_plain(member.name.as_str()) {
-        let name = member.name.as_str();
-        write!(notes, "note: the member {name}")?;
+        notes.push("note: the member ");
+        notes.push(member.name.as_str());
     } else {
-        write!(notes, "note: a member")?;
+        notes.push("note: a member");
     }
-    writeln!(
-        notes,
-        " stands twice in its object, and the last one counts: again at byte {byte}: line {line}, column {column}"
-    )
+    notes.write(
+        " stands twice in its object, and the last one counts: again at byte %: line %, column %\n",
+        &[
+            Count(member.at as u64),
+            Count(line as u64),
+            Count(column as u64),
+        ],
+    );
 }
 
 // The line and the column of a byte, both counted from 1.

@@ -5,53 +5,54 @@ use crate::names::{MAX_INPUT, is_plain};
 use crate::proposals::note_scenario;
 use crate::repeats::note_repeat;
 use json_value::{ReadError, Value};
+use page::Page;
+use page::Piece::{Count, Text};
+use script_notes::text_of;
 use serde_json::Error;
 use std::alloc::{AllocError, Global};
-use std::fmt::Write;
 use texts::tag_of;
 
 /// The notes on a text that is refused as a scenario, a line each: where it is invalid JSON, which of its parts does not have its shape, which limit it exceeds, or on which terms the two
 /// sides can't agree; and a member that stands twice. The only error is that memory ran out.
 pub fn scenario_notes(alloc: Global, input: &[u8]) -> Result<String, AllocError> {
-    let mut notes = String::new(alloc);
+    let mut notes = Page::new(alloc);
     if input.len() <= MAX_INPUT {
-        note_text(&mut notes, alloc, input)?;
-        note_repeat(&mut notes, alloc, input)?;
+        note_text(&mut notes, input);
+        note_repeat(&mut notes, input);
     }
-    Ok(notes)
+    text_of(&notes)
 }
 
-fn note_text(notes: &mut String, alloc: Global, input: &[u8]) -> Result<(), AllocError> {
-    match Value::from_slice(alloc, input) {
+fn note_text(notes: &mut Page, input: &[u8]) {
+    match Value::from_slice(notes.alloc(), input) {
         Ok(value) => note_fault(notes, &value),
-        Err(ReadError::NoMemory) => Ok(()),
-        Err(ReadError::NotJson) => note_invalid(notes, alloc, input),
+        Err(ReadError::NoMemory) => {}
+        Err(ReadError::NotJson) => note_invalid(notes, input),
     }
 }
 
 // Notes on a text that is invalid JSON. The toolchain's own reader says where.
-fn note_invalid(notes: &mut String, alloc: Global, input: &[u8]) -> Result<(), AllocError> {
-    match serde_json::Value::from_slice(alloc, input) {
+fn note_invalid(notes: &mut Page, input: &[u8]) {
+    match serde_json::Value::from_slice(notes.alloc(), input) {
         Err(error) if !error.is_memory() => note_place(notes, input, &error),
-        _ => Ok(()),
+        _ => {}
     }
 }
 
 // Notes where a text is invalid JSON.
-fn note_place(notes: &mut String, input: &[u8], error: &Error) -> Result<(), AllocError> {
+fn note_place(notes: &mut Page, input: &[u8], error: &Error) {
     let (line, column) = (error.line(), error.column());
     let byte = byte_of(input, line, column);
-    if error.is_eof() || byte >= input.len() {
-        let len = input.len();
-        return writeln!(
-            notes,
-            "note: the text ends too early, after byte {len}: line {line}, column {column}"
-        );
-    }
-    writeln!(
-        notes,
-        "note: invalid JSON at byte {byte}: line {line}, column {column}"
-    )
+    let (text, at) = if error.is_eof() || byte >= input.len() {
+        (
+            "note: the text ends too early, after byte %: line %, column %\n",
+            input.len(),
+        )
+    } else {
+        ("note: invalid JSON at byte %: line %, column %\n", byte)
+    };
+    let place = [Count(at as u64), Count(line as u64), Count(column as u64)];
+    notes.write(text, &place);
 }
 
 // The byte at a line and a column, both counted from 1.
@@ -90,61 +91,66 @@ enum Fault {
 }
 
 // Notes the first part of a value that does not have its shape, or what else keeps it from being a scenario.
-fn note_fault(notes: &mut String, value: &Value) -> Result<(), AllocError> {
+fn note_fault(notes: &mut Page, value: &Value) {
     if let Some(fault) = object_fault(value, &MEMBERS) {
-        write!(notes, "note: the scenario")?;
-        return write_fault(notes, &fault, value);
+        notes.push("note: the scenario");
+        write_fault(notes, &fault, value);
+    } else if let Some((channel, terms, fault)) = terms_fault(value) {
+        notes.write("note: channel %", &[Count(channel as u64)]);
+        write_fault(notes, &fault, terms);
+    } else if let Some((index, event, fault)) = events_fault(value) {
+        notes.write("note: event %", &[Count(index as u64)]);
+        write_fault(notes, &fault, event);
+    } else {
+        note_scenario(notes, value);
     }
-    if let Some((channel, terms, fault)) = terms_fault(value) {
-        write!(notes, "note: channel {channel}")?;
-        return write_fault(notes, &fault, terms);
-    }
-    if let Some((index, event, fault)) = events_fault(value) {
-        write!(notes, "note: event {index}")?;
-        return write_fault(notes, &fault, event);
-    }
-    note_scenario(notes, value)
 }
 
 // Writes why a value does not have its shape.
-fn write_fault(notes: &mut String, fault: &Fault, value: &Value) -> Result<(), AllocError> {
+fn write_fault(notes: &mut Page, fault: &Fault, value: &Value) {
     match fault {
-        Fault::NoObject => writeln!(notes, " is no object"),
-        Fault::Lacks(name) => writeln!(notes, " has no member {name}"),
+        Fault::NoObject => notes.push(" is no object\n"),
+        Fault::Lacks(name) => notes.write(" has no member %\n", &[Text(name)]),
         Fault::Unknown(index) => write_unknown(notes, value, *index),
-        Fault::NoEvent => writeln!(notes, " is no array with a name at its front"),
+        Fault::NoEvent => notes.push(" is no array with a name at its front\n"),
         Fault::NoName => write_unnamed(notes, value),
-        Fault::Count(count, wanted) => writeln!(notes, " has {count} items, and not {wanted}"),
-        Fault::Part(Part(name, kind)) => {
-            let kind = kind.text();
-            writeln!(notes, ": its {name} is not {kind}")
-        }
+        Fault::Count(count, wanted) => notes.write(
+            " has % items, and not %\n",
+            &[Count(*count as u64), Count(*wanted as u64)],
+        ),
+        Fault::Part(Part(name, kind)) => notes.write(
+            ": its % is not %\n",
+            &[Text(name), Text(kind.text())],
+        ),
     }
 }
 
 // Writes which member does not belong to an object.
-fn write_unknown(notes: &mut String, value: &Value, index: usize) -> Result<(), AllocError> {
+fn write_unknown(notes: &mut Page, value: &Value, index: usize) {
+    notes.push(" has a member that does not belong to it");
     if let Some(members) = value.as_object() {
         if let Some((name, _)) = members.get(index) {
             if is_plain(name.as_str()) {
-                return writeln!(notes, " has a member that does not belong to it: {name}");
+                notes.push(": ");
+                notes.push(name.as_str());
             }
         }
     }
-    writeln!(notes, " has a member that does not belong to it")
+    notes.push("\n");
 }
 
 // Writes that an array has the name of no event, and which names there are.
-fn write_unnamed(notes: &mut String, value: &Value) -> Result<(), AllocError> {
+fn write_unnamed(notes: &mut Page, value: &Value) {
     if let Some(name) = tag_of(value) {
         if is_plain(name) {
-            write!(notes, ", {name},")?;
+            notes.push(", ");
+            notes.push(name);
+            notes.push(",");
         }
     }
-    writeln!(
-        notes,
-        " has the name of no event: there are offer, fulfil, fail, fee, sign, deliver, keep, broadcast, close, blocks, look, take, release and reorg"
-    )
+    notes.push(
+        " has the name of no event: there are offer, fulfil, fail, fee, sign, deliver, keep, broadcast, close, blocks, look, take, release and reorg\n",
+    );
 }
 
 // What keeps an object from having exactly these members.

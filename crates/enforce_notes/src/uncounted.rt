@@ -1,29 +1,25 @@
 // Notes on events that `enforce node` neither plays nor counts.
 
+use page::Page;
+use page::Piece::Count;
 use scenario::Event;
-use std::alloc::AllocError;
-use std::fmt::Write;
 
 /// Notes how many updates, signatures and deliveries name a channel that there is not, if any does. There are this many channels.
-pub fn note_uncounted(
-    notes: &mut String,
-    channels: usize,
-    events: &[Event],
-) -> Result<(), AllocError> {
-    let channels = channels as u64;
-    let count = events
-        .iter()
-        .filter(|event| is_uncounted(event, channels))
-        .count();
-    match events
-        .iter()
-        .position(|event| is_uncounted(event, channels))
-    {
-        Some(first) => writeln!(
-            notes,
-            "note: updates, signatures and deliveries in a channel that there is not: {count}, the first is event {first}; none is played or counted"
-        ),
-        None => Ok(()),
+pub fn note_uncounted(notes: &mut Page, channels: usize, events: &[Event]) {
+    let (mut count, mut first) = (0u64, 0usize);
+    for (at, event) in events.iter().enumerate() {
+        if is_uncounted(event, channels as u64) {
+            if count == 0 {
+                first = at;
+            }
+            count = count.saturating_add(1);
+        }
+    }
+    if count > 0 {
+        notes.write(
+            "note: updates, signatures and deliveries in a channel that there is not: %, the first is event %; none is played or counted\n",
+            &[Count(count), Count(first as u64)],
+        );
     }
 }
 

@@ -35,6 +35,20 @@ pub fn noted_of(rt: &impl Abort, alloc: Global, code: &str, notes: &str) {
     are_notes(rt, notes_of(alloc, words.as_slice(), 0, None, &[]), notes);
 }
 
+/// Asserts the notes on a script, both in pieces.
+pub(crate) fn noted_of_pieces(rt: &impl Abort, alloc: Global, code: &[&str], notes: &[&str]) {
+    let code = joined(rt, alloc, code);
+    let notes = joined(rt, alloc, notes);
+    noted_of(rt, alloc, code.as_str(), notes.as_str());
+}
+
+/// Asserts the notes on scripts, each beside its own.
+pub(crate) fn noted_of_each(rt: &impl Abort, alloc: Global, rows: &[(&str, &str)]) {
+    for (code, notes) in rows {
+        noted_of(rt, alloc, code, notes);
+    }
+}
+
 /// Asserts the notes on a scenario that is not played, where `run` read these bytes.
 pub fn noted_on(rt: &impl Abort, alloc: Global, text: &[u8], notes: &str) {
     let words = words_of(rt, alloc, &["run"]);

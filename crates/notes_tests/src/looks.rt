@@ -1,7 +1,7 @@
 //! Notes on bytes and texts that are no witness script. The programs are those of addresses in BIP 173, BIP 341 and BIP 350, the
 //! transaction is the unsigned one of BIP 143's first example, and the PSBT begins as those of BIP 174 do.
 
-use crate::fixtures::{are_notes, joined, noted_of, words_of};
+use crate::fixtures::{are_notes, noted_of_each, noted_of_pieces, words_of};
 use enforce_notes::notes_of;
 use std::alloc::Global;
 use std::process::Abort;
@@ -182,44 +182,64 @@ fn has_the_examples_of_the_crate(rt: HostRuntime) {
     assert_eq!(rt; sequence_lock(65_536), SequenceLock::Blocks(0));
 }
 
-// Asserts the notes on the program of an output.
-fn noted_on_program(rt: &impl Abort, alloc: Global, pieces: &[&str], form: &str, rest: &str) {
-    let code = joined(rt, alloc, pieces);
-    let notes = joined(rt, alloc, &[FORM, form, rest]);
-    noted_of(rt, alloc, code.as_str(), notes.as_str());
-}
-
 #[test]
 fn tells_programs_of_outputs(rt: HostRuntime) {
     for (pieces, form, rest) in &PROGRAMS {
-        noted_on_program(&rt, rt.alloc(), pieces, form, rest);
+        noted_of_pieces(&rt, rt.alloc(), pieces, &[FORM, form, rest]);
     }
 }
 
-// A script of two keys with its length before it, and the empty script with a length of none: OP_VERIFY has the byte 69, and the byte 1 is a push.
+// A byte, and what follows it, with the notes.
+const LENGTHS: [(&[&str], &str); 5] = [
+    // OP_VERIFY before a script of three keys, and a push of the number 1
+    (
+        &["6952", LONE, LONE, LONE, "53ae"],
+        "note: these bytes begin with the length of the 105 bytes after it, as a script stands in serialisations: leave the length out\nnote: byte 0 is 69, OP_VERIFY in Bitcoin, which is not in the table\nnote: nothing is pushed before it\n",
+    ),
+    (
+        &["0151"],
+        "note: these bytes begin with the length of the 1 byte after it, as a script stands in serialisations: leave the length out\nnote: anyone can spend by path 0: no signature of a key that the script fixes is asked for\n",
+    ),
+    // a script of 100 bytes that begins with IF; IF before a script of 99 bytes; a script of 83 bytes that begins with the number 2
+    (
+        &[
+            "63a914333333333333333333333333333333333333333388",
+            CURVE,
+            "ac670160b275",
+            CURVE,
+            "ac68",
+        ],
+        "",
+    ),
+    (
+        &[
+            "6352",
+            CURVE,
+            CURVE,
+            "52ae76757675767576757675767576757675767576757675767576757675",
+        ],
+        "note: these bytes begin with the length of the 99 bytes after it, as a script stands in serialisations: leave the length out\nnote: the IF or NOTIF at opcode 0 has no ENDIF\n",
+    ),
+    (&["52", CURVE, SECOND, "52ae767576757675767576757675"], ""),
+];
+
+// Pushes of what has the form of a key, and of two keys.
+const LONE: &str = "21021111111111111111111111111111111111111111111111111111111111111111";
+
+const CURVE: &str = "21021212121212121212121212121212121212121212121212121212121212121212";
+
+const SECOND: &str = "21022222222222222222222222222222222222222222222222222222222222222222";
+
 #[test]
 fn tells_a_length_before_a_script(rt: HostRuntime) {
-    let key = "21021111111111111111111111111111111111111111111111111111111111111111";
-    let long = joined(&rt, rt.alloc(), &["6952", key, key, key, "53ae"]);
-    noted_of(
-        &rt,
-        rt.alloc(),
-        long.as_str(),
-        "note: these bytes begin with the length of the 105 bytes after it, as a script stands in serialisations: leave the length out\nnote: byte 0 is 69, OP_VERIFY in Bitcoin, which is not in the table\nnote: nothing is pushed before it\n",
-    );
-    noted_of(
-        &rt,
-        rt.alloc(),
-        "0151",
-        "note: these bytes begin with the length of the 1 byte after it, as a script stands in serialisations: leave the length out\nnote: anyone can spend by path 0: no signature of a key that the script fixes is asked for\n",
-    );
+    for (pieces, notes) in &LENGTHS {
+        noted_of_pieces(&rt, rt.alloc(), pieces, &[notes]);
+    }
 }
 
 #[test]
 fn tells_transactions(rt: HostRuntime) {
-    for (code, notes) in &ENVELOPES {
-        noted_of(&rt, rt.alloc(), code, notes);
-    }
+    noted_of_each(&rt, rt.alloc(), &ENVELOPES);
 }
 
 // Asserts the notes on a message that is to be hashed.
@@ -230,9 +250,7 @@ fn noted_on_message(rt: &impl Abort, alloc: Global, text: &str, notes: &str) {
 
 #[test]
 fn tells_what_is_not_hexadecimal(rt: HostRuntime) {
-    for (text, notes) in &TEXTS {
-        noted_of(&rt, rt.alloc(), text, notes);
-    }
+    noted_of_each(&rt, rt.alloc(), &TEXTS);
 }
 
 #[test]

@@ -105,6 +105,12 @@ const NOT_IN_1_EITHER: &str =
 const LEARNT: &str =
     "note: event 3: B learns by this fulfil in channel 1 the preimage of an HTLC in channel 0, and does not fulfil that one: a fulfil in one channel is not known in another\n";
 
+const GIVES_UP_AT_4: &str =
+    "note: event 4: B fails an HTLC in channel 1 whose preimage it has by its own fulfil in channel 0: it gives up what it could take\n";
+
+const GIVES_UP_AT_5: &str =
+    "note: event 5: B fails an HTLC in channel 1 whose preimage it has by its own fulfil in channel 0: it gives up what it could take\n";
+
 // Events, and the notes on them.
 const FULFILS: [(&[&str], &str); 28] = [
     // what is delivered is an earlier message of A, or a signature, and the fulfil after it
@@ -153,7 +159,7 @@ const FULFILS: [(&[&str], &str); 28] = [
             ",[\"fail\",\"B\",1,0]",
             CLOSE_1,
         ],
-        "",
+        GIVES_UP_AT_4,
     ),
     // another one is failed there: there is none of this number, or it was offered first
     (
@@ -184,7 +190,7 @@ const FULFILS: [(&[&str], &str); 28] = [
             ",[\"fail\",\"B\",1,1]",
             CLOSE_1,
         ],
-        "",
+        GIVES_UP_AT_5,
     ),
     // a fulfil there of a number that there is not, before the offer, and of another one's number
     (
@@ -292,8 +298,13 @@ const KNOWN_AT_6: &str =
 const LESS_IN_0: &str =
     ",[\"offer\",\"A\",0,11999999,\"66687aadf862bd776c8fc18b8e9f8e20089714856ee233b3902a591d0d5f2925\",60]";
 
-// Events, and the notes on a fail before its time.
-const FAILS: [(&[&str], &str); 15] = [
+const SECOND_BY_A: &str = ",[\"fail\",\"A\",1,1]";
+
+const FAILED_AT_5: &str =
+    "note: event 5: A fails an HTLC in channel 1 while it offers the same hash in channel 0: whoever fulfils that one is paid by A alone\n";
+
+// Events, and the notes on a fail at a side's own cost.
+const FAILS: [(&[&str], &str); 30] = [
     (&[OFFER_OF_B, OFFER_IN_0, FAIL_BY_A], FAILED),
     (&[OFFER_OF_B, OFFER_IN_0, FAIL_BY_A, FAIL_BY_B], FAILED),
     // the fail in channel 0 is not delivered, lacks the last revocation, and has it
@@ -333,25 +344,98 @@ const FAILS: [(&[&str], &str); 15] = [
     // two parts: what is left to A is as much as B may still take, or less by a millisatoshi
     (&[OFFER_OF_B, OFFER_OF_B, OFFER_IN_0, FAIL_BY_A], ""),
     (
+        &[OFFER_OF_B, OFFER_OF_B, OFFER_IN_0, FAIL_BY_A, SECOND_BY_A],
+        FAILED_AT_5,
+    ),
+    (
+        &[OFFER_OF_B, OFFER_OF_B, LESS_IN_0, OFFER_IN_0, FAIL_BY_A],
+        FAILED_AT_5,
+    ),
+    (&[OFFER_OF_B, OFFER_OF_B, LESS_IN_0, FAIL_BY_A], ""),
+    // of another number, and by who offers nothing
+    (&[OFFER_OF_B, OFFER_IN_0, SECOND_BY_A], ""),
+    (&[OFFER_OF_B, OFFER_IN_0, FAIL_BY_B], ""),
+    // A offers it after the fail: alone, after B offered it again, and more than that
+    (
+        &[OFFER_OF_B, FAIL_BY_A, OFFER_IN_0],
+        "note: event 3: A offers in channel 0 the hash of an HTLC that it failed in channel 1: whoever fulfils that one is paid by A alone\n",
+    ),
+    (&[OFFER_OF_B, FAIL_BY_A, OFFER_OF_B, OFFER_IN_0], ""),
+    (
+        &[OFFER_OF_B, FAIL_BY_A, OFFER_OF_B, LESS_IN_0, OFFER_IN_0],
+        "note: event 5: A offers in channel 0 the hash of an HTLC that it failed in channel 1: whoever fulfils that one is paid by A alone\n",
+    ),
+    (&[OFFER_OF_B, FAIL_BY_A, OTHER_HASH], ""),
+    // the offer was there first, or both are B's
+    (&[OFFER_IN_0, OFFER_OF_B, FAIL_BY_A], ""),
+    (&[OFFER_OF_B, OFFER_OF_B, FAIL_BY_A, OFFER_OF_B], ""),
+    // in one channel: A offers the hash, B fulfilled that, which A does not know and knows, and A fulfilled another one
+    (
+        &[OFFER_OF_B, OFFER_IN_1, FAIL_BY_A],
+        "note: event 3: A fails an HTLC in channel 1 while it offers the same hash in channel 1: whoever fulfils that one is paid by A alone\n",
+    ),
+    (
+        &[
+            OFFER_OF_B,
+            OFFER_IN_1,
+            FULFIL_IN_1,
+            ",[\"deliver\",\"A\",1]",
+            FAIL_BY_A,
+        ],
+        "note: event 5: A fails an HTLC in channel 1 while it offers the same hash in channel 1: whoever fulfils that one is paid by A alone\n",
+    ),
+    (
+        &[
+            OFFER_OF_B,
+            OFFER_IN_1,
+            FULFIL_IN_1,
+            ",[\"deliver\",\"A\",1],[\"deliver\",\"A\",1]",
+            FAIL_BY_A,
+        ],
+        "note: event 6: A fails an HTLC in channel 1 whose preimage it has by B's fulfil in channel 1: A alone pays there\n",
+    ),
+    (
+        &[OFFER_OF_B, OFFER_OF_B, BY_A_IN_1, SECOND_BY_A],
+        "note: event 4: A fails an HTLC in channel 1 whose preimage it has by its own fulfil in channel 1: it gives up what it could take\n",
+    ),
+    (&[OFFER_OF_B, OFFER_OF_B, SECOND_BY_A, BY_A_IN_1], ""),
+    // two parts, one of which pays for what B fulfilled
+    (
         &[
             OFFER_OF_B,
             OFFER_OF_B,
             OFFER_IN_0,
+            FULFIL_IN_0,
+            TO_A_IN_0,
             FAIL_BY_A,
-            ",[\"fail\",\"A\",1,1]",
         ],
-        "note: event 5: A fails an HTLC in channel 1 while it offers the same hash in channel 0: whoever fulfils that one is paid by A alone\n",
+        "note: event 6: A fails an HTLC in channel 1 whose preimage it has by B's fulfil in channel 0: it gives up what it could take\n",
+    ),
+    // channel 0 is closed: A may have taken its own back, also where it is fulfilled or failed
+    (
+        &[OFFER_OF_B, OFFER_IN_0, CLOSE_0, FAIL_BY_A],
+        FAILED_IN_CLOSED,
+    ),
+    (&[OFFER_OF_B, OFFER_IN_0, FAIL_BY_A, CLOSE_0], FAILED),
+    (
+        &[OFFER_OF_B, OFFER_IN_0, FAIL_BY_B, CLOSE_0, FAIL_BY_A],
+        "note: event 5: A fails an HTLC in channel 1 while it offers the same hash in channel 0, which is closed: whoever fulfils that one is paid by A alone, unless a transaction deep in the chain took it back or left it out\n",
     ),
     (
-        &[OFFER_OF_B, OFFER_OF_B, LESS_IN_0, OFFER_IN_0, FAIL_BY_A],
-        "note: event 5: A fails an HTLC in channel 1 while it offers the same hash in channel 0: whoever fulfils that one is paid by A alone\n",
+        &[
+            OFFER_OF_B,
+            OFFER_IN_0,
+            CLOSE_0,
+            FULFIL_IN_0,
+            TO_A_IN_0,
+            FAIL_BY_A,
+        ],
+        "note: event 6: A fails an HTLC in channel 1 whose preimage it has by B's fulfil in channel 0: it gives up what it could take\n",
     ),
-    (&[OFFER_OF_B, OFFER_OF_B, LESS_IN_0, FAIL_BY_A], ""),
-    // of another number, before the offer, and by who offers nothing
-    (&[OFFER_OF_B, OFFER_IN_0, ",[\"fail\",\"A\",1,1]"], ""),
-    (&[OFFER_OF_B, FAIL_BY_A, OFFER_IN_0], ""),
-    (&[OFFER_OF_B, OFFER_IN_0, FAIL_BY_B], ""),
 ];
+
+const FAILED_IN_CLOSED: &str =
+    "note: event 4: A fails an HTLC in channel 1 while it offers the same hash in channel 0, which is closed: whoever fulfils that one is paid by A alone, unless a transaction deep in the chain took it back or left it out\n";
 
 // Events, the lines of those that a play refused, and the notes.
 const REFUSED: [(&[&str], &str, &str); 6] = [
@@ -404,8 +488,21 @@ const REFUSED: [(&[&str], &str, &str); 6] = [
 const LATE: &str =
     "note: event 4: B fulfils an HTLC in channel 0 at height 61, and the channel is closed, and the HTLC expired at height 60: where A took it back on the chain, the fulfil takes nothing\n";
 
+const BLOCKS_60: &str = ",[\"blocks\",60]";
+
+const CLOSED_AFTER: &str =
+    "note: event 3: B fulfils an HTLC in channel 0, and event 4 closes the channel at height 60 before the fulfil is committed, and the HTLC expired at height 60: where A takes it back in the next block, the fulfil takes nothing\n";
+
+// What brings a fulfil of B's in channel 0 into the newest commitment of A, and then into that of B.
+const TO_A: &str = ",[\"sign\",\"B\",0],[\"deliver\",\"A\",0],[\"deliver\",\"A\",0]";
+
+const TO_B: &str =
+    ",[\"sign\",\"A\",0],[\"deliver\",\"B\",0],[\"deliver\",\"B\",0],[\"deliver\",\"B\",0]";
+
+const CLOSE_BY_A: &str = ",[\"close\",\"A\",0]";
+
 // Events, and the notes on a fulfil after the expiry.
-const LATE_ONES: [(&[&str], &str); 5] = [
+const LATE_ONES: [(&[&str], &str); 12] = [
     (
         &[OFFER_IN_0, CLOSE_0, ",[\"blocks\",61]", FULFIL_IN_0],
         LATE,
@@ -428,17 +525,38 @@ const LATE_ONES: [(&[&str], &str); 5] = [
         ],
         "note: event 5: B fulfils an HTLC in channel 0 at height 61, and the channel is closed, and the HTLC expired at height 60: where A took it back on the chain, the fulfil takes nothing\n",
     ),
+    // from the height of the expiry on what takes it back may be in the next block
+    (
+        &[OFFER_IN_0, CLOSE_0, BLOCKS_60, FULFIL_IN_0],
+        "note: event 4: B fulfils an HTLC in channel 0 at height 60, and the channel is closed, and the HTLC expired at height 60: where A takes it back in the next block, the fulfil takes nothing\n",
+    ),
     (
         &[
             OFFER_IN_0,
             CLOSE_0,
-            ",[\"blocks\",60]",
+            ",[\"blocks\",59]",
             FULFIL_IN_0,
-            ",[\"blocks\",1]",
+            ",[\"blocks\",2]",
         ],
         "",
     ),
-    (&[OFFER_IN_0, ",[\"blocks\",61]", FULFIL_IN_0, CLOSE_0], ""),
+    // the channel is closed after it, by either side, and has the HTLC or not
+    (&[OFFER_IN_0, BLOCKS_60, FULFIL_IN_0, CLOSE_0], CLOSED_AFTER),
+    (
+        &[OFFER_IN_0, FULFIL_IN_0, BLOCKS_60, CLOSE_BY_A],
+        "note: event 2: B fulfils an HTLC in channel 0, and event 4 closes the channel at height 60 before the fulfil is committed, and the HTLC expired at height 60: where A takes it back in the next block, the fulfil takes nothing\n",
+    ),
+    (&[OFFER_IN_0, FULFIL_IN_0, CLOSE_0, BLOCKS_60], ""),
+    (&[OFFER_IN_0, BLOCKS_60, FULFIL_IN_0, TO_A, CLOSE_BY_A], ""),
+    (
+        &[OFFER_IN_0, BLOCKS_60, FULFIL_IN_0, TO_A, CLOSE_0],
+        "note: event 3: B fulfils an HTLC in channel 0, and event 7 closes the channel at height 60 before the fulfil is committed, and the HTLC expired at height 60: where A takes it back in the next block, the fulfil takes nothing\n",
+    ),
+    (
+        &[OFFER_IN_0, BLOCKS_60, FULFIL_IN_0, TO_A, TO_B, CLOSE_0],
+        "",
+    ),
+    (&[OFFER_IN_0, BLOCKS_60, FULFIL_IN_0], ""),
 ];
 
 // Events, and the notes on those that are not counted in threads. Channels are 0 and 1.
@@ -504,7 +622,7 @@ fn names_a_fulfil_that_another_channel_lacks(rt: HostRuntime) {
 }
 
 #[test]
-fn names_a_fail_before_its_time(rt: HostRuntime) {
+fn names_a_fail_at_its_own_cost(rt: HostRuntime) {
     for (events, notes) in &FAILS {
         noted_after(&rt, rt.alloc(), &["run"], events, "", notes);
     }

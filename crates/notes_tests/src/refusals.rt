@@ -1,6 +1,6 @@
 //! Notes on what is refused: scripts that are not listed, scenarios beyond the limits, and wrong words.
 
-use crate::fixtures::{are_notes, joined, noted_of, noted_on, words_of};
+use crate::fixtures::{are_notes, joined, noted_of, noted_of_each, noted_on, words_of};
 use enforce_notes::notes_of;
 use std::alloc::Global;
 use std::process::Abort;
@@ -184,9 +184,7 @@ const WORDS: [Call; 8] = [
 
 #[test]
 fn tells_why_a_script_is_not_listed(rt: HostRuntime) {
-    for (code, notes) in &REFUSED {
-        noted_of(&rt, rt.alloc(), code, notes);
-    }
+    noted_of_each(&rt, rt.alloc(), &REFUSED);
 }
 
 // Asserts the notes on a piece of a script that stands there so often.

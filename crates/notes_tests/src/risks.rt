@@ -1,6 +1,6 @@
 //! Notes on what endangers money: who else can spend (BIP 141), locks that ask for less than they say (BIP 68, BIP 112), and locks that no transaction reaches (BIP 65).
 
-use crate::fixtures::{joined, noted_of};
+use crate::fixtures::noted_of_pieces;
 use std::alloc::Global;
 use std::process::Abort;
 
@@ -433,13 +433,6 @@ const WITHOUT_TIMEOUT: [&str; 9] = [
     "88ac6868",
 ];
 
-// Asserts the notes on a script.
-fn has_risks(rt: &impl Abort, alloc: Global, code: &[&str], notes: &[&str]) {
-    let code = joined(rt, alloc, code);
-    let notes = joined(rt, alloc, notes);
-    noted_of(rt, alloc, code.as_str(), notes.as_str());
-}
-
 // Bytes in the place of a hash, and what is noted of them.
 const ORIGINS: [(&str, &str); 10] = [
     (
@@ -478,18 +471,21 @@ const ORIGINS: [(&str, &str); 10] = [
     ),
 ];
 
-#[test]
-fn tells_who_else_can_spend(rt: HostRuntime) {
-    for case in &RISKS {
-        has_risks(&rt, rt.alloc(), case.code, case.notes);
+// Asserts the notes on scripts.
+fn has_risks(rt: &impl Abort, alloc: Global, cases: &[Case]) {
+    for case in cases {
+        noted_of_pieces(rt, alloc, case.code, case.notes);
     }
 }
 
 #[test]
+fn tells_who_else_can_spend(rt: HostRuntime) {
+    has_risks(&rt, rt.alloc(), &RISKS);
+}
+
+#[test]
 fn tells_what_a_lock_asks(rt: HostRuntime) {
-    for case in &LOCKS {
-        has_risks(&rt, rt.alloc(), case.code, case.notes);
-    }
+    has_risks(&rt, rt.alloc(), &LOCKS);
 }
 
 #[test]
@@ -499,7 +495,7 @@ fn tells_of_an_offered_htlc(rt: HostRuntime) {
         HASHED,
         TIMEOUT,
     ];
-    has_risks(&rt, rt.alloc(), &OFFERED, &notes);
+    noted_of_pieces(&rt, rt.alloc(), &OFFERED, &notes);
     let of_one = [
         "note: a key is taken by its hash on path 0",
         HASHED,
@@ -508,7 +504,7 @@ fn tells_of_an_offered_htlc(rt: HostRuntime) {
         TWICE,
         TIMEOUT,
     ];
-    has_risks(&rt, rt.alloc(), &OF_ONE, &of_one);
+    noted_of_pieces(&rt, rt.alloc(), &OF_ONE, &of_one);
     let without = [
         "note: a branch ends at opcode 18: ",
         NO_KEY,
@@ -516,13 +512,13 @@ fn tells_of_an_offered_htlc(rt: HostRuntime) {
         "note: a key is taken by its hash on path 0",
         HASHED,
     ];
-    has_risks(&rt, rt.alloc(), &WITHOUT_TIMEOUT, &without);
+    noted_of_pieces(&rt, rt.alloc(), &WITHOUT_TIMEOUT, &without);
 }
 
 #[test]
 fn tells_hashes_of_no_secret(rt: HostRuntime) {
     for (hash, notes) in &ORIGINS {
-        let code = joined(&rt, rt.alloc(), &["a914", hash, "8821", KEY, "ac"]);
-        noted_of(&rt, rt.alloc(), code.as_str(), notes);
+        let code = ["a914", hash, "8821", KEY, "ac"];
+        noted_of_pieces(&rt, rt.alloc(), &code, &[notes]);
     }
 }

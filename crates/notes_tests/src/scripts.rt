@@ -1,6 +1,6 @@
 //! Notes on scripts.
 
-use crate::fixtures::{joined, noted_of};
+use crate::fixtures::{joined, noted_of_each, noted_of_pieces};
 use std::alloc::Global;
 use std::process::Abort;
 
@@ -141,7 +141,7 @@ const DEAD_ENDS: [DeadEnd; 4] = [
 ];
 
 // Scripts with facts that no witness meets together, and the notes on them.
-const UNMET: [(&str, &str); 7] = [
+const UNMET: [(&str, &str); 10] = [
     // DUP 0 EQUALVERIFY SIZE 32 EQUALVERIFY
     (
         "76008882012088",
@@ -155,6 +155,19 @@ const UNMET: [(&str, &str); 7] = [
     (
         "7601aa88825288",
         "note: no witness meets path 0: 'is 0 aa yes' and 'size 0 2 yes' contradict each other\n",
+    ),
+    // SIZE 0 EQUALVERIFY, and what HASH160 gives: of nothing, and not; or DUP 0 EQUAL NOTIF DROP 1 ELSE DROP 0 ENDIF
+    (
+        "820088a914b472a266d0bd89c13706a4132ccfb16f7c3b9fcb87",
+        "note: whoever sees such a witness can spend too by path 0: what has a given hash is asked for, and no signature of a key that the script fixes\nnote: opcode 4: b472a266d0bd89c13706a4132ccfb16f7c3b9fcb is the hash of nothing: as a hash it keeps nobody out, or everybody\n",
+    ),
+    (
+        "820088a914333333333333333333333333333333333333333387",
+        "note: no witness meets path 0: 'size 0 0 yes' and 'hash 0 3333333333333333333333333333333333333333 yes' contradict each other\n",
+    ),
+    (
+        "82008876008764755167750068",
+        "note: nobody can spend by the branch after the ELSE at opcode 9: after the last opcode it leaves the empty item, which is false\nnote: no witness meets path 0: 'size 0 0 yes' and 'is 0 - no' contradict each other\n",
     ),
     // SIZE 1 EQUALVERIFY SIZE 2 EQUALVERIFY
     (
@@ -180,9 +193,7 @@ const UNMET: [(&str, &str); 7] = [
 
 #[test]
 fn names_opcodes_outside_the_table(rt: HostRuntime) {
-    for (code, notes) in &OPCODES {
-        noted_of(&rt, rt.alloc(), code, notes);
-    }
+    noted_of_each(&rt, rt.alloc(), &OPCODES);
 }
 
 // The note on a script whose branches all end as in consensus, and how the notes begin on its only branch and on one of several.
@@ -302,22 +313,12 @@ const ENDS: [End; 11] = [
     },
 ];
 
-// The notes on such a script.
-fn notes_on(rt: &impl Abort, alloc: Global, end: &End) -> String {
-    let at = joined(rt, alloc, end.at);
-    let note = "note: a branch ends at opcode ";
-    joined(
-        rt,
-        alloc,
-        &[end.before, note, at.as_str(), " is ", end.rule],
-    )
-}
-
 // Asserts the notes on such a script.
 fn ends_at(rt: &impl Abort, alloc: Global, end: &End) {
-    let code = joined(rt, alloc, end.code);
-    let notes = notes_on(rt, alloc, end);
-    noted_of(rt, alloc, code.as_str(), notes.as_str());
+    let at = joined(rt, alloc, end.at);
+    let note = "note: a branch ends at opcode ";
+    let notes = [end.before, note, at.as_str(), " is ", end.rule];
+    noted_of_pieces(rt, alloc, end.code, &notes);
 }
 
 #[test]
@@ -331,34 +332,24 @@ fn tells_ends(rt: HostRuntime) {
 #[test]
 fn tells_exact_ends(rt: HostRuntime) {
     for (code, end) in &EXACT {
-        let notes = joined(&rt, rt.alloc(), &[ALL_END, ONLY, end, "\n"]);
-        noted_of(&rt, rt.alloc(), code, notes.as_str());
+        noted_of_pieces(&rt, rt.alloc(), &[code], &[ALL_END, ONLY, end, "\n"]);
     }
     // a branch that is never run
-    let dead = joined(
+    noted_of_pieces(
         &rt,
         rt.alloc(),
         &["006341", LONG_KEY, "ac6721", KEY, "ac68"],
+        &[
+            "note: the branch after the IF at opcode 1 is never run, so nobody can spend by it: a constant decides the IF at opcode 1\n",
+        ],
     );
-    noted_of(
-        &rt,
-        rt.alloc(),
-        dead.as_str(),
-        "note: the branch after the IF at opcode 1 is never run, so nobody can spend by it: a constant decides the IF at opcode 1\n",
-    );
-}
-
-// Asserts the notes on a script of which nobody can spend by one branch.
-fn has_dead_end(rt: &impl Abort, alloc: Global, dead: &DeadEnd) {
-    let code = joined(rt, alloc, dead.code);
-    let notes = joined(rt, alloc, &[AFTER, dead.branch, ": ", dead.end, "\n"]);
-    noted_of(rt, alloc, code.as_str(), notes.as_str());
 }
 
 #[test]
 fn tells_branches_by_which_nobody_can_spend(rt: HostRuntime) {
     for dead in &DEAD_ENDS {
-        has_dead_end(&rt, rt.alloc(), dead);
+        let notes = [AFTER, dead.branch, ": ", dead.end, "\n"];
+        noted_of_pieces(&rt, rt.alloc(), dead.code, &notes);
     }
     // IF IF 1 ELSE 0 ENDIF ELSE 0 ENDIF, and 0 SWAP IF DROP ENDIF
     let anyone =
@@ -366,16 +357,12 @@ fn tells_branches_by_which_nobody_can_spend(rt: HostRuntime) {
     let end = ": after the last opcode it leaves the empty item, which is false\n";
     let inner = "IF at opcode 0, then the ELSE at opcode 3";
     let both = [AFTER, inner, end, AFTER, "ELSE at opcode 6", end, anyone];
-    let both = joined(&rt, rt.alloc(), &both);
-    noted_of(&rt, rt.alloc(), "636351670068670068", both.as_str());
+    noted_of_pieces(&rt, rt.alloc(), &["636351670068670068"], &both);
     let skipped = [AFTER, "ENDIF at opcode 4", end, anyone];
-    let skipped = joined(&rt, rt.alloc(), &skipped);
-    noted_of(&rt, rt.alloc(), "007c637568", skipped.as_str());
+    noted_of_pieces(&rt, rt.alloc(), &["007c637568"], &skipped);
 }
 
 #[test]
 fn tells_paths_that_nobody_meets(rt: HostRuntime) {
-    for (code, notes) in &UNMET {
-        noted_of(&rt, rt.alloc(), code, notes);
-    }
+    noted_of_each(&rt, rt.alloc(), &UNMET);
 }
