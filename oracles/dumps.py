@@ -213,26 +213,33 @@ def objects_of(dump):
 
 
 def lacking(channels):
-    """The received HTLCs of each channel, in its newest commitments, whose preimage another channel has alone."""
+    """The received HTLCs of each channel, in its newest commitments, whose preimage another channel has alone; or the channel itself, which failed them."""
     for index, channel in enumerate(channels):
         own = [sha256(it).hex() for it in channel.preimages]
         for other, one in enumerate(channels):
             others = [sha256(it).hex() for it in one.preimages]
             for htlc in channel.htlcs():
-                if htlc["direction"] == "received" and (htlc["ours"] or htlc["theirs"]) and htlc["hash"] in others and htlc["hash"] not in own:
+                if htlc["direction"] == "received" and (htlc["ours"] or htlc["theirs"]) and htlc["hash"] in others:
                     number = htlc["id"]
-                    if ["fail", number] in channel.updates[0]:
+                    is_failed = ["fail", number] in channel.updates[0]
+                    if htlc["hash"] in own and not (index == other and is_failed):
+                        continue
+                    if is_failed:
                         yield f"channel {index} failed the received HTLC {number}, whose preimage channel {other} has: it can't be fulfilled any more"
                         continue
                     yield f"channel {index} lacks the preimage of the received HTLC {number}, which channel {other} has: it can't be claimed before it is fulfilled in channel {index} too"
 
 
 def new_dumps():
-    """Dumps that oracles/histories.py makes anew: of two channels that are unlike in all their terms, by A, who closed the second one, by B, by A before the close, and by A once it failed what it has the preimage of, or another one; and of a channel whose funding output has another index than 0."""
+    """Dumps that oracles/histories.py makes anew: of two channels that are unlike in all their terms, by A, who closed the second one, by B, by A before the close, and by A once it failed what it has the preimage of, by the other channel or by the same, or another one; and of a channel whose funding output has another index than 0."""
     with open(f"{TOP}/oracles/unlike_channels.json", encoding="utf-8") as file:
         unlike = json.load(file)
     before = dict(unlike, events=[it for it in unlike["events"] if it[0] != "close"])
     failed = [dict(before, events=[*before["events"], ["fail", "A", *it]]) for it in ((1, 0), (0, 1))]
+    # the HTLC whose preimage A shows in channel 1 is offered twice there, and the second one is failed, or stands
+    at = before["events"].index(next(it for it in before["events"] if it[:4] == ["offer", "B", 1, 11_400_001])) + 2
+    twice = [*before["events"][:at], *before["events"][at - 2 :]]
+    failed += [dict(before, events=twice + rest) for rest in ([["fail", "A", 1, 2]], [])]
     return [Books(unlike).dump("A"), Books(unlike).dump("B"), Books(before).dump("A"), *(Books(it).dump("A") for it in failed), Books(dict(unlike, events=[]), 70_000).dump("B")]
 
 

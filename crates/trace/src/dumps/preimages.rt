@@ -1,4 +1,4 @@
-// Notes on preimages that one channel of a book has, and another one lacks.
+// Notes on preimages that one channel of a book has, and another one lacks, or that a channel has of what it failed.
 
 use crate::dumps::claims::hashes_of;
 use crate::dumps::standing::{Source, htlcs, is_new};
@@ -8,7 +8,7 @@ use std::alloc::{AllocError, Global};
 use std::fmt::Write;
 use updates::OwnUpdate;
 
-/// Notes the received HTLCs of each channel whose preimage another one has alone, and which of them this side failed.
+/// Notes the received HTLCs of each channel whose preimage another one has alone, and which of them this side failed; and those that it failed although that channel has the preimage.
 pub fn note_preimages(notes: &mut String, alloc: Global, book: &Book) -> Result<(), AllocError> {
     for index in 0..book.channel_count() {
         if let Some(channel) = book.channel(index) {
@@ -24,7 +24,7 @@ pub fn note_preimages(notes: &mut String, alloc: Global, book: &Book) -> Result<
     Ok(())
 }
 
-// Notes the HTLCs that a channel received whose hash stands among the second ones, and not among the first. The book has these entries.
+// Notes the HTLCs that a channel received whose hash stands among the second ones, and not among the first; where both are its own, those that it failed. The book has these entries.
 fn note_received(
     notes: &mut String,
     channel: &Channel,
@@ -36,10 +36,13 @@ fn note_received(
     let peer = channel.side().other();
     for source in [Source::Ours, Source::Theirs] {
         for htlc in htlcs(channel, source, peer) {
-            let is_lacking = others.contains(&htlc.hash) && !own.contains(&htlc.hash);
-            if is_lacking && is_new(channel, source, peer, htlc.id) {
+            let has_own = own.contains(&htlc.hash);
+            let is_noted = others.contains(&htlc.hash) && has_own == (index == other);
+            if is_noted && is_new(channel, source, peer, htlc.id) {
                 let is_failed = entries.iter().any(|entry| fails(entry, index, htlc.id));
-                write_lacking(notes, (index, other), htlc.id, is_failed)?;
+                if is_failed || !has_own {
+                    write_lacking(notes, (index, other), htlc.id, is_failed)?;
+                }
             }
         }
     }
