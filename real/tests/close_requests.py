@@ -208,6 +208,23 @@ def unlisted(told: dict[str, Any]) -> Iterator[tuple[dict[str, Any], list[str]]]
         yield {**whole, "whose": "peer"}, notes
 
 
+def low_values(told: dict[str, Any]) -> Iterator[tuple[dict[str, Any], list[str]]]:
+    """Feerates by which the first HTLC transaction leaves 330 satoshis, or one less, or nothing: of the received HTLC of
+    1,000 satoshis, and without preimages of the offered one of 2,000. Nothing hangs on it where the peer closed.
+    """
+    for value, weight, known in ((1_000, 703, {}), (2_000, 663, {"preimages": []})):
+        for feerate in (0, 953, 954, 955, 2_520, 2_521, 2**32 - 1):
+            left = max(value - weight * feerate // 1_000, 0)
+            note = (
+                f"claims[0]: by this feerate_per_kw its HTLC transaction leaves {left} of {value} satoshis, and nodes relay"
+                " no such output below 330: a commitment has no output for such an HTLC (BOLT 3), so its feerate is"
+                " another one"
+            )
+            asked = request(told, told["cases"][1], "own", feerate_per_kw=feerate, **known)
+            yield asked, [note] * (left < 330)
+            yield {**asked, "whose": "peer"}, []
+
+
 def faults(told: dict[str, Any]) -> Iterator[tuple[str, str, int, str]]:
     """Requests with a part at fault, each with its refusal and the note that names the part."""
     asked = request(told, told["cases"][1], "own")

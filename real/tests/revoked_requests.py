@@ -6,7 +6,7 @@ from typing import Any
 
 from real.lib.transaction import read_transaction, sha256, shown_id
 from real.tests.revoked_states import FUNDING_KEYS, SHARED, SHARED_HTLCS, htlc, with_anchors, with_outputs
-from real.tests.spend_requests import line, without
+from real.tests.spend_requests import again, line, without
 
 KEYS = {
     "revocation": "local_revocation_pubkey",
@@ -189,7 +189,9 @@ def faults(told: dict[str, Any]) -> Iterator[tuple[str, str, int, str]]:
     ):
         yield line({**asked, **members}), "BadShape", 2, note
     yield line(without(asked, "keys")), "BadShape", 2, "keys: it is missing"
-    twice = line(asked).replace('"delay_blocks":144', '"delay_blocks":143,"delay_blocks":144')
-    yield twice, "BadShape", 2, "delay_blocks: a member of this name stands twice in one object"
+    delays, remotes = '"delay_blocks":143,"delay_blocks":144', f'"remote":"","remote":"{keys["remote"]}"'
+    for name, one, twice in (("delay_blocks", delays[19:], delays), ("remote", remotes[12:], remotes)):
+        text = line(asked).replace(one, twice)
+        yield text, "BadShape", 2, f"{name}: {again(text, twice)}"
     yield "[]", "BadShape", 2, "the request: wanted: an object"
     yield "{", "NotJson", 1, "the text ends too early: line 1, column 1"

@@ -315,7 +315,10 @@ OPEN = [
 POINT_G = "79be667ef9dcbbac55a06295ce870b07029bfcdb2dce28d959f2815b16f81798"
 POINT_H = "50929b74c1a04954b78b4b6035e97a5e078a5a0f28ec96d547bfee9ace803ac0"
 # programs whose hash or key is nobody's secret: HASH160 of nothing, of 51 and of the key 1 (BIP 173), SHA-256 of nothing
-# and of 51; then HASH160 of the keys 1 and -1 in 65 bytes and of -1 in 33, and SHA-256 of 00, of 6a and of ff
+# and of 51; then HASH160 of the keys 1 and -1 in 65 bytes and of -1 in 33, and SHA-256 of 00, of 6a and of ff; P2SH-P2WPKH,
+# P2WSH and P2SH of P2PK, P2WSH of P2PKH, P2SH-P2WSH of P2PK and P2WSH of P2WPKH, all of the key 1, P2SH-P2WPKH of the key
+# -1, and P2WSH of P2PK of H; taproot by BIP 86
+SCRIPT_OF_G = "the hash of a script of the point G, whose private key is 1"
 ORIGINS = {
     "76a914" + "00" * 20 + "88ac": "zeros",
     "a914" + "00" * 20 + "87": "zeros",
@@ -335,8 +338,26 @@ ORIGINS = {
     "0014" + "ff" * 20: "bytes of ff",
     "a914" + "ff" * 20 + "87": "bytes of ff",
     "0020" + "ff" * 32: "bytes of ff",
+    "a914bcfeb728b584253d5f3f70bcb780e9ef218a68f487": SCRIPT_OF_G,
+    "00201863143c14c5166804bd19203356da136c985678cd4d27a1b8c6329604903262": SCRIPT_OF_G,
+    "a91423b0ad3477f2178bc0b3eed26e4e6316f4e83aa187": SCRIPT_OF_G,
+    "00203f4ae1eb3e75f3578491811d27eb59e23a512cf90c73b13c6acd4499f7c4d28b": SCRIPT_OF_G,
+    "a914e4300531190587e3880d4c3004f5355d88ff928d87": SCRIPT_OF_G,
+    "00208838f796bf4970b148779c05b74b8c49515b322d04035f7faa5d9b2375df2396": SCRIPT_OF_G,
+    "a91448cc1845ab9f5099d4b36f02e148f7459d439fee87": (
+        "the hash of a script of the point -G, whose private key all know"
+    ),
+    "0020640ca8e9b8198ffa70b7d96d252f9f464444b1403715ab23cb3155492fafa786": (
+        "the hash of a script of the point H of BIP 341, whose private key nobody knows"
+    ),
     "5120" + POINT_G: "it is the point G, whose private key is 1: anyone can sign for it",
     "5120" + POINT_H: "it is the point H of BIP 341, whose private key nobody knows: nobody can sign for it",
+    "5120da4710964f7852695de2da025290e24af6d8c281de5a0b902b7135fd9fd74d21": (
+        "it is what BIP 86 makes of the point G, whose private key is 1: anyone can sign for it"
+    ),
+    "5120192c2a30cbd7d0352f94d4c31a43f767f1ef43d7ff6438839880ec075d81a9f6": (
+        "it is what BIP 86 makes of the point H, whose private key nobody knows: nobody can sign for it"
+    ),
 }
 
 
@@ -596,6 +617,9 @@ def own_bytes(told: dict[str, Any]) -> Iterator[tuple[dict[str, Any], str, str]]
         ("0014" + hash160(x), "the hash of the x coordinate of a key of outputs[0]"),
         ("5120" + hash256(x), "the hash of the x coordinate of a key of outputs[0]"),
         ("0014" + hash160(key), ""),
+        (f"a914{hash160('0014' + hash160(key))}87", ""),
+        ("0020" + hash256("0014" + hash160(key)), "the hash of the P2WPKH program of a key of outputs[0]"),
+        (f"76a914{hash160('0014' + hash160(key))}88ac", "the hash of the P2WPKH program of a key of outputs[0]"),
         (f"76a914{hash160(key)}88ac", ""),
         (f"a914{hash160(key)}87", "the hash of a key of outputs[0]"),
         ("0020" + hash256(key), "the hash of a key of outputs[0]"),
@@ -629,6 +653,12 @@ def no_json() -> Iterator[tuple[str, str]]:
     yield "", "the text ends too early: line 1, column 0"
     yield "{", "the text ends too early: line 1, column 1"
     yield '{\n "outputs": [1,]}', "invalid JSON: line 2, column 16"
+
+
+def again(text: str, twice: str) -> str:
+    """What is said of a member that stands twice, where the text has this of both."""
+    at = text.index(twice) + twice.rindex(',"') + 1
+    return f"a member of this name stands twice in one object: again at byte {at}"
 
 
 def without(it: dict[str, Any], name: str) -> dict[str, Any]:
@@ -672,14 +702,13 @@ def bad_shapes(told: dict[str, Any]) -> Iterator[tuple[str, str]]:
     ):
         yield changed_request(asked, **members), note
     yield line(without(asked, "feerate_per_kw")), "feerate_per_kw: it is missing"
-    twice, paths = "a member of this name stands twice in one object", '"path":1,"path":2'
-    yield (
-        line(asked).replace('"feerate_per_kw":253', '"feerate_per_kw":500,"feerate_per_kw":253'),
-        f"feerate_per_kw: {twice}",
-    )
-    yield line(asked).replace('"path":2', paths, 1), f"outputs[0].path: {twice}"
-    second = line({**asked, "outputs": [both[0], both[1]]}).replace('"path":2', paths).replace(paths, '"path":2', 1)
-    yield second, f"outputs[1].path: {twice}"
+    paths, feerates = '"path":1,"path":2', '"feerate_per_kw":500,"feerate_per_kw":253'
+    text = line(asked).replace('"feerate_per_kw":253', feerates)
+    yield text, f"feerate_per_kw: {again(text, feerates)}"
+    text = line(asked).replace('"path":2', paths, 1)
+    yield text, f"outputs[0].path: {again(text, paths)}"
+    text = line({**asked, "outputs": [both[0], both[1]]}).replace('"path":2', paths).replace(paths, '"path":2', 1)
+    yield text, f"outputs[1].path: {again(text, paths)}"
     for members, note in (
         ({"value": 0.001}, "value: wanted: satoshis, as an integer without point, sign and quotes"),
         ({"value": "100000"}, "value: wanted: satoshis, as an integer without point, sign and quotes"),

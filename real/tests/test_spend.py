@@ -171,6 +171,11 @@ class CloseTest(CheckedCase):
             _, status, found = spend_answers(line(asked), "close")
             self.check((status, found) == (0, notes), f"notes on outputs that share a hash: {found}")
 
+    def test_low_values(self) -> None:
+        for asked, notes in close_requests.low_values(self.told):
+            _, status, found = spend_answers(line(asked), "close")
+            self.check((status, found) == (0, notes), f"notes on what HTLC transactions leave: {found}")
+
     def test_faults(self) -> None:
         for text, name, number, note in close_requests.faults(self.told):
             found = spend_answers(text, "close")

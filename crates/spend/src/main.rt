@@ -17,6 +17,7 @@ mod close_requests;
 mod destinations;
 mod dust;
 mod errors;
+mod htlc_values;
 mod inputs;
 mod notes;
 mod outputs;

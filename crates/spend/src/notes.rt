@@ -12,7 +12,7 @@ use crate::plans::{Plan, asked_fee};
 use crate::request_bytes::note_request_bytes;
 use crate::requests::{LEAST_FEERATE_PER_KW, MOST_FEERATE_PER_KW};
 use crate::shapes::{Member, note_shape, note_whole, said};
-use json_names::first_repeated_member;
+use json_names::{RepeatedMember, first_repeated_member};
 use json_value::Value;
 use page::Page;
 use page::Piece::{Count, Sum};
@@ -28,7 +28,7 @@ const NOTED_FEERATE_PER_KW: u32 = 2_500;
 const DEAR: u128 = 10;
 
 // Writes notes, if there are any and none was lost. Where that fails, nothing else changes.
-fn say(notes: &Page, err: &mut dyn Write) {
+pub(crate) fn say(notes: &Page, err: &mut dyn Write) {
     if let Some(text) = notes.whole() {
         if !text.is_empty() {
             let _ = written(err, text, 0);
@@ -219,7 +219,7 @@ pub fn say_commitment_input(
         Ok(value) => {
             if let PlanError::BadShape = error {
                 match first_repeated_member(alloc, bytes) {
-                    Ok(Some(member)) => note_repeated(&mut notes, member.name.as_str()),
+                    Ok(Some(member)) => note_repeated(&mut notes, &member, None),
                     _ => note_whole(alloc, &mut notes, &value, members),
                 }
             }
@@ -229,24 +229,23 @@ pub fn say_commitment_input(
     say(&notes, err);
 }
 
-// Notes a member that stands twice.
-fn note_repeated(notes: &mut Page, name: &str) {
+// Notes a member that stands twice, in an output if it is in one, and where it stands again.
+fn note_repeated(notes: &mut Page, member: &RepeatedMember, output: Option<u64>) {
     notes.push("note: ");
-    notes.push(said(name));
-    notes.push(": a member of this name stands twice in one object\n");
+    if let Some(output) = output {
+        notes.write("outputs[%].", &[Count(output)]);
+    }
+    notes.push(said(member.name.as_str()));
+    notes.write(
+        ": a member of this name stands twice in one object: again at byte %\n",
+        &[Count(member.at as u64)],
+    );
 }
 
 // Notes the member that stands twice, or the first part that does not have its shape.
 fn note_value(alloc: Global, notes: &mut Page, bytes: &[u8], value: &Value) {
     match first_repeated_member(alloc, bytes) {
-        Ok(Some(member)) => {
-            notes.push("note: ");
-            if let Some(output) = output_at(bytes, member.at) {
-                notes.write("outputs[%].", &[Count(output)]);
-            }
-            notes.push(said(member.name.as_str()));
-            notes.push(": a member of this name stands twice in one object\n");
-        }
+        Ok(Some(member)) => note_repeated(notes, &member, output_at(bytes, member.at)),
         _ => note_shape(alloc, notes, value),
     }
 }

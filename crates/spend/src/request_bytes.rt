@@ -169,7 +169,7 @@ fn note_place(notes: &mut Page, paid: &Paid<'_>, claim: &Claim, output: u64) -> 
     !is_script && note_found(notes, found, "the script of outputs[%]", &at)
 }
 
-// Notes a key, in another place than its own: its x coordinate in taproot, and its hash in P2PKH and P2WPKH.
+// Notes a key, in another place than its own: its x coordinate in taproot, and its hash in P2PKH and P2WPKH. Its P2WPKH program is nested in P2SH alone.
 fn note_key(notes: &mut Page, paid: &Paid<'_>, key: &[u8], output: u64) -> bool {
     let at = [Count(output)];
     let [sign, x @ ..] = key else {
@@ -177,6 +177,13 @@ fn note_key(notes: &mut Page, paid: &Paid<'_>, key: &[u8], output: u64) -> bool 
     };
     if x.len() != 32 || (*sign != 2 && *sign != 3) {
         return false;
+    }
+    let mut program = [0u8; 22];
+    program[1] = 20;
+    program[2..].copy_from_slice(&hash160(key));
+    let nested = "the P2WPKH program of a key of outputs[%]";
+    if !paid.is_short_hash() && note_found(notes, paid.hash_of(&program), nested, &at) {
+        return true;
     }
     let name = "the x coordinate of a key of outputs[%]";
     (!paid.is_key() && note_found(notes, paid.same_as(x), name, &at))

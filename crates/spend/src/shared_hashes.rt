@@ -1,5 +1,6 @@
 // Offered HTLCs of one hash. Their scripts are equal, so nothing tells which of their outputs is whose.
 
+use crate::notes::say;
 use claim::Claim;
 use page::Page;
 use page::Piece::{Count, Hash};
@@ -7,7 +8,6 @@ use revoked::{Direction, Revoked, RevokedHtlc, RevokedOutput};
 use std::alloc::{AllocError, Global};
 use std::collections::BTreeMap;
 use std::io::Write;
-use streams::written;
 
 // How many there are of each hash.
 type Counts = BTreeMap<[u8; 32], u64>;
@@ -76,10 +76,6 @@ pub fn say_shared_hashes(
 ) {
     let mut notes = Page::new(alloc);
     if let Ok(()) = note_shared_hashes(alloc, &mut notes, commitment, claims) {
-        if let Some(text) = notes.whole() {
-            if !text.is_empty() {
-                let _ = written(err, text, 0);
-            }
-        }
+        say(&notes, err);
     }
 }

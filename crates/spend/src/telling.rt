@@ -7,6 +7,7 @@ use crate::asking::{Asked, asked_in, read_in};
 use crate::close_answers::{close_answer_of, tell_close};
 use crate::close_requests::CloseRequest;
 use crate::errors::PlanError;
+use crate::htlc_values::say_low_values;
 use crate::notes::{say_commitment_input, say_input, say_plan, say_refusal};
 use crate::outputs::reversed;
 use crate::plans::{Plan, plan_of};
@@ -135,6 +136,7 @@ fn tell_unrevoked(alloc: Global, bytes: &[u8], out: &mut dyn Write, err: &mut dy
             let status = write_told(out, &mut line, 0);
             let claims = answer.found.claims.values();
             say_shared_hashes(alloc, &answer.close.commitment, claims, err);
+            say_low_values(alloc, claims, err);
             // not dropped: the program ends now, which frees all at once
             mem::forget(answer);
             status
