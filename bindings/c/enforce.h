@@ -107,10 +107,15 @@ enum {
     ENFORCE_NO_SUCH_DIRECTION = 0x803, /* There is no direction of this kind; the answer has the index of the HTLC. */
     ENFORCE_EXPIRY_TOO_LARGE = 0x804, /* The expiry of an HTLC is 500,000,000 or more, which is a time and not a height; the answer has the index of the HTLC. */
     ENFORCE_NO_SUCH_CLOSE = 0x805, /* It is neither one's own commitment nor the peer's. */
+    ENFORCE_NO_SIGNATURE = 0x901, /* A slot asks a signature, and the next one that is given is not of it; the answer has the input and the item that lack it. */
+    ENFORCE_SIGNATURE_OUT_OF_RANGE = 0x902, /* The row of a signature refers to bytes that are not there; the answer has its input and its item, as of the two below. */
+    ENFORCE_NOT_DER = 0x903, /* Bytes that are to be a signature are not in strict DER (BIP 66). */
+    ENFORCE_NOT_SIGHASH_ALL = 0x904, /* The hash type of a signature is not ALL, the byte 01. */
+    ENFORCE_NOT_ASKED = 0x905, /* A signature is given after that of the last slot that asks one; the answer has the input and the item of its row. */
 };
 
 enum {
-    ENFORCE_ABI = 3, /* What declarations mean together: it is raised whenever one changes its meaning. */
+    ENFORCE_ABI = 4, /* What declarations mean together: it is raised whenever one changes its meaning. */
 };
 
 /* How a claim fills a slot of its path. A field that the kind does not name is not read. */
@@ -185,6 +190,21 @@ typedef struct {
     size_t bytes;
     size_t number;
 } enforce_found_answer;
+
+/* A signature for an item of a witness that lacks one. */
+typedef struct {
+    size_t input; /* The index of the input, which is that of its claim. */
+    size_t item; /* The index of its item, as the row of the signature that is lacking has it. */
+    size_t bytes_at; /* Where its bytes begin among those that the call is given: strict DER (BIP 66), and the byte 01 (SIGHASH_ALL). */
+    size_t bytes_length; /* How many there are, from 9 to 73. */
+} enforce_signed_row;
+
+/* What the call that finishes a transaction tells beside its status. Each call writes all of it: the number of bytes, whether or not they were written, and of a refusal the number that it carries, of a signature the indices of its input and of its item. */
+typedef struct {
+    size_t bytes;
+    size_t number;
+    size_t item;
+} enforce_finish_answer;
 
 /* A form of BOLT 3 with what its script has. A field that the kind does not name is not read. */
 typedef struct {
@@ -292,6 +312,11 @@ uint32_t enforce_claim(const enforce_claim_row *claim, const enforce_slot_row *s
    Proved: AnswersSpend (record { claims = claims.now; slots = slots.now; outputs = outputs.now; bytes = bytes.now }) (preimages_in preimages.now) (record { bytes = tx.old; signatures = signatures.old }) (record { status = result; answer = answer.new; lists = record { bytes = tx.new; signatures = signatures.new } }) (crates/enforce_c/specs/Spent.antt) */
 uint32_t enforce_unsigned_spend(const enforce_claim_row *claims, size_t claims_length, const enforce_slot_row *slots, size_t slots_length, const enforce_output_row *outputs, size_t outputs_length, const enforce_preimage_row *preimages, size_t preimages_length, const uint8_t *bytes, size_t bytes_length, uint8_t *tx, size_t tx_length, enforce_signature_row *signatures, size_t signatures_length, enforce_spend_answer *answer);
 
+/* Writes the transaction of claims with the signatures that are given, which are tested for their form and their place, and not for the curve: whether one is valid for its key, nothing here asks. It is the transaction of `enforce_unsigned_spend` for the same claims, outputs and preimages, with a signature at each item that lacks one. There has to be a row for each signature that it lacks, in the order in which that call tells them, with the same input and item. The bytes of a row are strict DER (BIP 66) and the byte 01 (SIGHASH_ALL). Where each is the key's over the digest, each input runs clean. The statuses of refusals are those of `enforce_unsigned_spend`, then family 9, signature by signature; and `TOO_SMALL` if the buffer is too short.
+
+   Proved: AnswersFinish (record { claims = claims.now; slots = slots.now; outputs = outputs.now; bytes = bytes.now }) (preimages_in preimages.now) signed_rows.now tx.old (record { status = result; answer = answer.new; bytes = tx.new }) (crates/enforce_c/specs/Finished.antt) */
+uint32_t enforce_finish(const enforce_claim_row *claims, size_t claims_length, const enforce_slot_row *slots, size_t slots_length, const enforce_output_row *outputs, size_t outputs_length, const enforce_preimage_row *preimages, size_t preimages_length, const enforce_signed_row *signed_rows, size_t signed_rows_length, const uint8_t *bytes, size_t bytes_length, uint8_t *tx, size_t tx_length, enforce_finish_answer *answer);
+
 /* Finds all that a revoked commitment lets its owner's peer claim of a transaction: the commitment, one of its HTLC transactions, or any other, with witnesses or without. Writes a claim on each output whose script is one of the commitment's, in the order of the outputs, with what `enforce_unsigned_spend` takes: rows of slots, and the bytes that both refer to. Of each claim it writes which output it is on, and the first block in which the owner can take that, where a block of `confirmed_height` has the transaction. Of each other output it writes the index, and what it is. The statuses of refusals are those of family 8 in this order: the type of the channel, each key, each HTLC; then those of family 6, of the first fault of the transaction; and `TOO_SMALL` if one of the five buffers is too short.
 
    Proved: AnswersFound (asked_of_revoked commitment.now htlcs.now tx.now confirmed_height) (record { claims = claims.old; found = found_outputs.old; slots = slots.old; others = others.old; bytes = bytes.old }) (record { status = result; answer = answer.new; lists = record { claims = claims.new; found = found_outputs.new; slots = slots.new; others = others.new; bytes = bytes.new } }) (crates/enforce_c/specs/Found.antt) */
@@ -346,6 +371,11 @@ static inline const char *enforce_name(uint32_t status) {
     case ENFORCE_NO_SUCH_DIRECTION: return "NoSuchDirection";
     case ENFORCE_EXPIRY_TOO_LARGE: return "ExpiryTooLarge";
     case ENFORCE_NO_SUCH_CLOSE: return "NoSuchClose";
+    case ENFORCE_NO_SIGNATURE: return "NoSignature";
+    case ENFORCE_SIGNATURE_OUT_OF_RANGE: return "SignatureOutOfRange";
+    case ENFORCE_NOT_DER: return "NotDer";
+    case ENFORCE_NOT_SIGHASH_ALL: return "NotSighashAll";
+    case ENFORCE_NOT_ASKED: return "NotAsked";
     default: return "Unknown";
     }
 }
@@ -404,6 +434,15 @@ _Static_assert(offsetof(enforce_found_answer, slots) == 8, "the layout of enforc
 _Static_assert(offsetof(enforce_found_answer, others) == 16, "the layout of enforce_found_answer");
 _Static_assert(offsetof(enforce_found_answer, bytes) == 24, "the layout of enforce_found_answer");
 _Static_assert(offsetof(enforce_found_answer, number) == 32, "the layout of enforce_found_answer");
+_Static_assert(sizeof(enforce_signed_row) == 32, "the layout of enforce_signed_row");
+_Static_assert(offsetof(enforce_signed_row, input) == 0, "the layout of enforce_signed_row");
+_Static_assert(offsetof(enforce_signed_row, item) == 8, "the layout of enforce_signed_row");
+_Static_assert(offsetof(enforce_signed_row, bytes_at) == 16, "the layout of enforce_signed_row");
+_Static_assert(offsetof(enforce_signed_row, bytes_length) == 24, "the layout of enforce_signed_row");
+_Static_assert(sizeof(enforce_finish_answer) == 24, "the layout of enforce_finish_answer");
+_Static_assert(offsetof(enforce_finish_answer, bytes) == 0, "the layout of enforce_finish_answer");
+_Static_assert(offsetof(enforce_finish_answer, number) == 8, "the layout of enforce_finish_answer");
+_Static_assert(offsetof(enforce_finish_answer, item) == 16, "the layout of enforce_finish_answer");
 _Static_assert(sizeof(enforce_form) == 144, "the layout of enforce_form");
 _Static_assert(offsetof(enforce_form, kind) == 0, "the layout of enforce_form");
 _Static_assert(offsetof(enforce_form, expiry_height) == 4, "the layout of enforce_form");

@@ -52,6 +52,12 @@ type MissingSignature struct {
 	Digest      [32]byte
 }
 
+// Signed is a signature for an item that lacks one: the input and the item of the MissingSignature, and strict DER (BIP 66) with the byte 01 after it.
+type Signed struct {
+	Input, Item uint64
+	Signature   []byte
+}
+
 // The rows of slots, and the bytes that rows refer to.
 type given struct {
 	slots []C.enforce_slot_row
@@ -93,6 +99,25 @@ func (g *given) claim(claim *Claim) C.enforce_claim_row {
 	return row
 }
 
+func (g *given) output(output *Output) C.enforce_output_row {
+	at, length := g.put(output.Script)
+	return C.enforce_output_row{value: C.uint64_t(output.Value), script_at: at, script_length: length}
+}
+
+func (g *given) signed(signed *Signed) C.enforce_signed_row {
+	at, length := g.put(signed.Signature)
+	return C.enforce_signed_row{input: C.size_t(signed.Input), item: C.size_t(signed.Item), bytes_at: at, bytes_length: length}
+}
+
+// Each of some values as a row.
+func rowsOf[T, R any](values []T, row func(*T) R) []R {
+	found := make([]R, len(values))
+	for i := range values {
+		found[i] = row(&values[i])
+	}
+	return found
+}
+
 // Accept accepts a claim by one path of its script, and says when it is due.
 //
 // Proved of enforce_claim: whatever fills the slots as they say spends the output, in a transaction of version 2 with this sequence, whose lock time is a height (below 500,000,000) and not below this one. Signatures
@@ -111,18 +136,10 @@ func (claim *Claim) Accept() (Due, error) {
 
 // UnsignedSpend is the transaction (BIP 144) that spends the outputs of claims, with the empty item in the place of each signature, and the signatures that it lacks.
 //
-// Proved of enforce_unsigned_spend: with the token of each missing signature in its place, each input runs clean. Put the signature by the key over the digest, and the byte 01 after it, in its place.
+// Proved of enforce_unsigned_spend: with the token of each missing signature in its place, each input runs clean. Finish puts in the signature by the key over the digest, with the byte 01 after it.
 func UnsignedSpend(claims []Claim, outputs []Output, preimages [][32]byte) ([]byte, []MissingSignature, error) {
 	var g given
-	var claimRows []C.enforce_claim_row
-	var outputRows []C.enforce_output_row
-	for i := range claims {
-		claimRows = append(claimRows, g.claim(&claims[i]))
-	}
-	for _, it := range outputs {
-		at, length := g.put(it.Script)
-		outputRows = append(outputRows, C.enforce_output_row{value: C.uint64_t(it.Value), script_at: at, script_length: length})
-	}
+	claimRows, outputRows := rowsOf(claims, g.claim), rowsOf(outputs, g.output)
 	data, size := bytesOf(g.bytes)
 	secrets := (*C.enforce_preimage_row)(unsafe.Pointer(first(preimages)))
 	tx, signatures := make([]byte, 1024), make([]C.enforce_signature_row, 16)
@@ -143,6 +160,32 @@ func UnsignedSpend(claims []Claim, outputs []Output, preimages [][32]byte) ([]by
 			tx, signatures = make([]byte, answer.bytes), make([]C.enforce_signature_row, answer.signatures)
 		default:
 			return nil, nil, refused(status, answer.number)
+		}
+	}
+}
+
+// Finish is the transaction of UnsignedSpend with signatures, one for each that it lacks, in their order. Each is tested for its form and its place, and not for the curve: whether one is valid for its key, nothing here
+// asks.
+//
+// Proved of enforce_finish: where each is the key's over the digest, each input runs clean.
+func Finish(claims []Claim, outputs []Output, preimages [][32]byte, signed []Signed) ([]byte, error) {
+	var g given
+	claimRows, outputRows, signedRows := rowsOf(claims, g.claim), rowsOf(outputs, g.output), rowsOf(signed, g.signed)
+	data, size := bytesOf(g.bytes)
+	secrets := (*C.enforce_preimage_row)(unsafe.Pointer(first(preimages)))
+	tx := make([]byte, 1024)
+	for {
+		var answer C.enforce_finish_answer
+		room, length := bytesOf(tx)
+		status := C.enforce_finish(first(claimRows), C.size_t(len(claimRows)), first(g.slots), C.size_t(len(g.slots)), first(outputRows), C.size_t(len(outputRows)),
+			secrets, C.size_t(len(preimages)), first(signedRows), C.size_t(len(signedRows)), data, size, room, length, &answer)
+		switch status {
+		case C.ENFORCE_DONE:
+			return tx[:answer.bytes], nil
+		case C.ENFORCE_TOO_SMALL:
+			tx = make([]byte, answer.bytes)
+		default:
+			return nil, refusedAt(status, answer.number, answer.item)
 		}
 	}
 }

@@ -1,9 +1,9 @@
-// Package enforce has the ways through a version 0 witness script (BIP 141), the scripts of BOLT 3, and the unsigned spend of claims, by a library that is proved.
+// Package enforce has the ways through a version 0 witness script (BIP 141), the scripts of BOLT 3, and the spend of claims, unsigned and signed, by a library that is proved.
 //
 //	paths, err := enforce.Paths([]byte{0x63, 0x51, 0x67, 0x52, 0x68}) // IF 1 ELSE 2 ENDIF
 //	fmt.Println(len(paths), err)                                      // 2 <nil>
 //
-// Nothing here signs, and nothing checks a signature. The keys are the caller's, and none is derived. Wants CGO_CFLAGS and CGO_LDFLAGS to name the folders of enforce.h and libenforce.a, as
+// Nothing here signs, and nothing checks a signature but for its form. The keys are the caller's, and none is derived. Wants CGO_CFLAGS and CGO_LDFLAGS to name the folders of enforce.h and libenforce.a, as
 // `pkg-config --cflags enforce` and `pkg-config --libs-only-L enforce` do. cgo, and the copies between the rows of C and the types here, are trusted.
 package enforce
 
@@ -18,23 +18,29 @@ import (
 	"unsafe"
 )
 
-// Refused is why a call gives nothing: the status, its word, and the number that some refusals carry.
+// Refused is why a call gives nothing: the status, its word, and the number that some refusals carry. Of a signature the number is the input, and Item its item.
 type Refused struct {
-	Status uint32
-	Name   string
-	Number uint64
+	Status       uint32
+	Name         string
+	Number, Item uint64
 }
 
 func (r *Refused) Error() string {
 	switch r.Status {
 	case C.ENFORCE_BAD_OPCODE, C.ENFORCE_TRUNCATED, C.ENFORCE_UNDECIDED, C.ENFORCE_NOT_A_COMMITMENT_KEY, C.ENFORCE_NO_SUCH_DIRECTION, C.ENFORCE_EXPIRY_TOO_LARGE:
 		return fmt.Sprintf("%s %d", r.Name, r.Number)
+	case C.ENFORCE_NO_SIGNATURE, C.ENFORCE_SIGNATURE_OUT_OF_RANGE, C.ENFORCE_NOT_DER, C.ENFORCE_NOT_SIGHASH_ALL, C.ENFORCE_NOT_ASKED:
+		return fmt.Sprintf("%s %d %d", r.Name, r.Number, r.Item)
 	}
 	return r.Name
 }
 
 func refused(status C.uint32_t, number C.size_t) error {
-	return &Refused{uint32(status), C.GoString(C.enforce_name(status)), uint64(number)}
+	return refusedAt(status, number, 0)
+}
+
+func refusedAt(status C.uint32_t, number, item C.size_t) error {
+	return &Refused{uint32(status), C.GoString(C.enforce_name(status)), uint64(number), uint64(item)}
 }
 
 func init() {

@@ -1,6 +1,6 @@
-"""The ways through a version 0 witness script (BIP 141), the scripts of BOLT 3, and the unsigned spend of claims, by a library that is proved.
+"""The ways through a version 0 witness script (BIP 141), the scripts of BOLT 3, and the spend of claims, unsigned and signed, by a library that is proved.
 
-Nothing here signs, and nothing checks a signature. The keys are the caller's, and none is derived.
+Nothing here signs, and nothing checks a signature but for its form. The keys are the caller's, and none is derived.
 
     >>> import enforce
     >>> [path.arity for path in enforce.paths(bytes.fromhex("6351675268"))]   # IF 1 ELSE 2 ENDIF
@@ -26,13 +26,19 @@ if _library.enforce_abi() != raw.ABI:
 _NUMBERED = (raw.BAD_OPCODE, raw.TRUNCATED, raw.UNDECIDED, raw.NOT_A_COMMITMENT_KEY, raw.NO_SUCH_DIRECTION, raw.EXPIRY_TOO_LARGE)
 
 
-class Refused(Exception):
-    """Why a call gives nothing: the status, its name, and the number that some refusals carry."""
+# those of signatures, which carry an input and an item
+_PLACED = (raw.NO_SIGNATURE, raw.SIGNATURE_OUT_OF_RANGE, raw.NOT_DER, raw.NOT_SIGHASH_ALL, raw.NOT_ASKED)
 
-    def __init__(self, status: int, number: int) -> None:
+
+class Refused(Exception):
+    """Why a call gives nothing: the status, its name, the number that some refusals carry, and of a signature the input and the item that it is about."""
+
+    def __init__(self, status: int, number: int, item: int = 0) -> None:
         self.status, self.name = status, raw.NAMES.get(status, "Unknown")
         self.number = number if status in _NUMBERED else None
-        super().__init__(self.name if self.number is None else f"{self.name} {number}")
+        self.place = (number, item) if status in _PLACED else None
+        told = (self.number,) if self.place is None else self.place
+        super().__init__(" ".join([self.name, *(str(it) for it in told if it is not None)]))
 
 
 @dataclass(frozen=True)
@@ -298,7 +304,7 @@ class _Given:
         return _rows(raw.SlotRow, self.slots) + (_buffer(bytes(self.bytes)), len(self.bytes))
 
 
-_Row = TypeVar("_Row", raw.SlotRow, raw.ClaimRow, raw.OutputRow, raw.PreimageRow, raw.HtlcRow)
+_Row = TypeVar("_Row", raw.SlotRow, raw.ClaimRow, raw.OutputRow, raw.PreimageRow, raw.SignedRow, raw.HtlcRow)
 
 
 def _rows(kind: Type[_Row], rows: Sequence[_Row]) -> Tuple["ctypes.Array[_Row]", int]:
@@ -309,6 +315,11 @@ def _preimage(data: bytes) -> raw.PreimageRow:
     row = raw.PreimageRow()
     _fill(row.bytes, data, "a preimage")
     return row
+
+
+def _signed(given: _Given, row: Tuple[int, int, bytes]) -> raw.SignedRow:
+    at, length = given.put(row[2])
+    return raw.SignedRow(input=_number(row[0], 64, "input"), item=_number(row[1], 64, "item"), bytes_at=at, bytes_length=length)
 
 
 def accept(claim: Claim) -> Due:
@@ -328,7 +339,7 @@ def accept(claim: Claim) -> Due:
 def unsigned_spend(claims: Sequence[Claim], outputs: Sequence[Tuple[int, bytes]], preimages: Sequence[bytes] = ()) -> UnsignedSpend:
     """The transaction that spends the outputs of claims, in which nothing is signed, and the signatures that it lacks. An output is a value in satoshis and a script. Raises Refused.
 
-    Proved of enforce_unsigned_spend: with the token of each missing signature in its place, each input runs clean. Put the signature by the key over the digest, and the byte 01 after it, in its place.
+    Proved of enforce_unsigned_spend: with the token of each missing signature in its place, each input runs clean. finish puts in the signature by the key over the digest, with the byte 01 after it.
     """
     given, answer = _Given(), raw.SpendAnswer()
     rows = _rows(raw.ClaimRow, [given.claim(it) for it in claims]), _rows(raw.OutputRow, [given.output(*it) for it in outputs])
@@ -346,6 +357,25 @@ def unsigned_spend(claims: Sequence[Claim], outputs: Sequence[Tuple[int, bytes]]
         if status != raw.TOO_SMALL:
             raise Refused(status, answer.number)
         size, count = answer.bytes, answer.signatures
+
+
+def finish(claims: Sequence[Claim], outputs: Sequence[Tuple[int, bytes]], preimages: Sequence[bytes], signed: Sequence[Tuple[int, int, bytes]]) -> bytes:
+    """The transaction of unsigned_spend with signatures: the input, the item, and strict DER (BIP 66) with the byte 01 after it, one for each that it lacks, in their order. Raises Refused.
+
+    Each is tested for its form and its place, and not for the curve: whether one is valid for its key, nothing here asks. Proved of enforce_finish: where each is the key's over the digest, each input runs clean.
+    """
+    given, answer, size = _Given(), raw.FinishAnswer(), 1024
+    rows = _rows(raw.ClaimRow, [given.claim(it) for it in claims]), _rows(raw.OutputRow, [given.output(*it) for it in outputs])
+    secrets, signatures = _rows(raw.PreimageRow, [_preimage(it) for it in preimages]), _rows(raw.SignedRow, [_signed(given, it) for it in signed])
+    slots, slots_length, data, data_length = given.rows()
+    while True:
+        tx = (ctypes.c_uint8 * size)()
+        status = _library.enforce_finish(*rows[0], slots, slots_length, *rows[1], *secrets, *signatures, data, data_length, tx, size, ctypes.byref(answer))
+        if status == raw.DONE:
+            return bytes(tx[: answer.bytes])
+        if status != raw.TOO_SMALL:
+            raise Refused(status, answer.number, answer.item)
+        size = answer.bytes
 
 
 @dataclass(frozen=True)

@@ -155,9 +155,19 @@ NO_SUCH_DIRECTION = 0x803
 EXPIRY_TOO_LARGE = 0x804
 # It is neither one's own commitment nor the peer's.
 NO_SUCH_CLOSE = 0x805
+# A slot asks a signature, and the next one that is given is not of it; the answer has the input and the item that lack it.
+NO_SIGNATURE = 0x901
+# The row of a signature refers to bytes that are not there; the answer has its input and its item, as of the two below.
+SIGNATURE_OUT_OF_RANGE = 0x902
+# Bytes that are to be a signature are not in strict DER (BIP 66).
+NOT_DER = 0x903
+# The hash type of a signature is not ALL, the byte 01.
+NOT_SIGHASH_ALL = 0x904
+# A signature is given after that of the last slot that asks one; the answer has the input and the item of its row.
+NOT_ASKED = 0x905
 
 # What declarations mean together: it is raised whenever one changes its meaning.
-ABI = 0x3
+ABI = 0x4
 
 NAMES = {
     DONE: "Done",
@@ -201,6 +211,11 @@ NAMES = {
     NO_SUCH_DIRECTION: "NoSuchDirection",
     EXPIRY_TOO_LARGE: "ExpiryTooLarge",
     NO_SUCH_CLOSE: "NoSuchClose",
+    NO_SIGNATURE: "NoSignature",
+    SIGNATURE_OUT_OF_RANGE: "SignatureOutOfRange",
+    NOT_DER: "NotDer",
+    NOT_SIGHASH_ALL: "NotSighashAll",
+    NOT_ASKED: "NotAsked",
 }
 
 
@@ -298,6 +313,27 @@ class FoundAnswer(Structure):
         ("others", c_size_t),
         ("bytes", c_size_t),
         ("number", c_size_t),
+    ]
+
+
+class SignedRow(Structure):
+    """A signature for an item of a witness that lacks one."""
+
+    _fields_ = [
+        ("input", c_size_t),
+        ("item", c_size_t),
+        ("bytes_at", c_size_t),
+        ("bytes_length", c_size_t),
+    ]
+
+
+class FinishAnswer(Structure):
+    """What the call that finishes a transaction tells beside its status. Each call writes all of it: the number of bytes, whether or not they were written, and of a refusal the number that it carries, of a signature the indices of its input and of its item."""
+
+    _fields_ = [
+        ("bytes", c_size_t),
+        ("number", c_size_t),
+        ("item", c_size_t),
     ]
 
 
@@ -405,6 +441,8 @@ LAYOUTS = {
     FoundRow: (24, [0, 4, 8, 16]),
     OtherRow: (8, [0, 4]),
     FoundAnswer: (40, [0, 8, 16, 24, 32]),
+    SignedRow: (32, [0, 8, 16, 24]),
+    FinishAnswer: (24, [0, 8, 16]),
     Form: (144, [0, 4, 8, 10, 43, 76, 109]),
     PathRow: (56, [0, 8, 16, 24, 32, 40, 48, 52, 53]),
     FactRow: (48, [0, 4, 5, 8, 16, 24, 32, 40]),
@@ -439,6 +477,9 @@ def declare(library: CDLL) -> None:
     # proved: AnswersSpend (record { claims = claims.now; slots = slots.now; outputs = outputs.now; bytes = bytes.now }) (preimages_in preimages.now) (record { bytes = tx.old; signatures = signatures.old }) (record { status = result; answer = answer.new; lists = record { bytes = tx.new; signatures = signatures.new } }) (crates/enforce_c/specs/Spent.antt)
     library.enforce_unsigned_spend.argtypes = [POINTER(ClaimRow), c_size_t, POINTER(SlotRow), c_size_t, POINTER(OutputRow), c_size_t, POINTER(PreimageRow), c_size_t, POINTER(c_uint8), c_size_t, POINTER(c_uint8), c_size_t, POINTER(SignatureRow), c_size_t, POINTER(SpendAnswer)]
     library.enforce_unsigned_spend.restype = c_uint32
+    # proved: AnswersFinish (record { claims = claims.now; slots = slots.now; outputs = outputs.now; bytes = bytes.now }) (preimages_in preimages.now) signed_rows.now tx.old (record { status = result; answer = answer.new; bytes = tx.new }) (crates/enforce_c/specs/Finished.antt)
+    library.enforce_finish.argtypes = [POINTER(ClaimRow), c_size_t, POINTER(SlotRow), c_size_t, POINTER(OutputRow), c_size_t, POINTER(PreimageRow), c_size_t, POINTER(SignedRow), c_size_t, POINTER(c_uint8), c_size_t, POINTER(c_uint8), c_size_t, POINTER(FinishAnswer)]
+    library.enforce_finish.restype = c_uint32
     # proved: AnswersFound (asked_of_revoked commitment.now htlcs.now tx.now confirmed_height) (record { claims = claims.old; found = found_outputs.old; slots = slots.old; others = others.old; bytes = bytes.old }) (record { status = result; answer = answer.new; lists = record { claims = claims.new; found = found_outputs.new; slots = slots.new; others = others.new; bytes = bytes.new } }) (crates/enforce_c/specs/Found.antt)
     library.enforce_revoked.argtypes = [POINTER(Commitment), POINTER(HtlcRow), c_size_t, POINTER(c_uint8), c_size_t, c_uint32, POINTER(ClaimRow), c_size_t, POINTER(FoundRow), c_size_t, POINTER(SlotRow), c_size_t, POINTER(OtherRow), c_size_t, POINTER(c_uint8), c_size_t, POINTER(FoundAnswer)]
     library.enforce_revoked.restype = c_uint32

@@ -6,13 +6,14 @@
      form KIND KEY OTHER LOCAL PAYMENT_HASH EXPIRY DELAY the script of a form
      claim CLAIM                                         when a claim is due
      spend CLAIM;.. VALUE/SCRIPT;.. PREIMAGE,..          the transaction of claims, and the signatures that it lacks
+     finish CLAIM;.. VALUE/SCRIPT;.. PREIMAGE,.. INPUT/ITEM/SIGNATURE,..  that transaction with these signatures
      revoked COMMITMENT HTLC;.. TX HEIGHT                what a revoked commitment lets its owner's peer claim of a transaction
      close WHOSE COMMITMENT HTLC;.. FEERATE PREIMAGE,.. TX HEIGHT  what one that is not revoked lets one claim
 
    A CLAIM is SCRIPT/PROGRAM/TXID/INDEX/VALUE/PATH/SLOT,.. and a slot is s=KEY, p=HASH or e=ITEM, or in an answer g=KEY:DIGEST:TX. A COMMITMENT is TYPE/DELAY/ and its five keys and both of the funding output with / between them,
    an HTLC DIRECTION/EXPIRY/HASH. What is empty, or not told, is a hyphen.
 
-   answers             the answers. Each call is made again with buffers of just their lengths, and with each of them one shorter; each claim also with rows that name what is not there
+   answers             the answers. Each call is made again with buffers of just their lengths, and with each of them one shorter; each claim also with rows that name what is not there, and each signature
    answers --threads   the answers, made by four threads at once as well, which must be the same
    answers --refuse    the answers, after each allocation of each call was refused once, of one in 32 of those that find claims (with refusing.c)
 
@@ -54,7 +55,7 @@ typedef struct {
     uint8_t bytes[BYTES];
     enforce_due due;
     rooms sizes;
-    size_t number;
+    size_t number, item;
     uint32_t status;
 } state;
 
@@ -113,7 +114,8 @@ static size_t read_hex(const char *from, uint8_t *bytes, size_t room) {
 static void put_status(text *to, const state *s) {
     put(to, "refused %s", enforce_name(s->status));
     switch (s->status) {
-    case ENFORCE_BAD_OPCODE: case ENFORCE_TRUNCATED: case ENFORCE_UNDECIDED: case ENFORCE_NOT_A_COMMITMENT_KEY: case ENFORCE_NO_SUCH_DIRECTION: case ENFORCE_EXPIRY_TOO_LARGE: put(to, " %zu", s->number);
+    case ENFORCE_BAD_OPCODE: case ENFORCE_TRUNCATED: case ENFORCE_UNDECIDED: case ENFORCE_NOT_A_COMMITMENT_KEY: case ENFORCE_NO_SUCH_DIRECTION: case ENFORCE_EXPIRY_TOO_LARGE: put(to, " %zu", s->number); break;
+    case ENFORCE_NO_SIGNATURE: case ENFORCE_SIGNATURE_OUT_OF_RANGE: case ENFORCE_NOT_DER: case ENFORCE_NOT_SIGHASH_ALL: case ENFORCE_NOT_ASKED: put(to, " %zu %zu", s->number, s->item);
     }
     put(to, "\n");
 }
@@ -180,7 +182,8 @@ typedef struct {
     enforce_slot_row slots[SLOTS];
     enforce_output_row outputs[OUTPUTS];
     enforce_preimage_row preimages[PREIMAGES];
-    size_t claims_length, slots_length, outputs_length, preimages_length, htlcs_length;
+    enforce_signed_row signed_rows[SIGNATURES];
+    size_t claims_length, slots_length, outputs_length, preimages_length, signed_length, htlcs_length;
     enforce_commitment commitment;
     enforce_htlc_row htlcs[HTLCS];
     uint32_t confirmed_height, whose, feerate_per_kw;
@@ -194,6 +197,15 @@ static uint32_t call_spend(const request *r, state *s, const rooms *room) {
     uint32_t status = enforce_unsigned_spend(r->claims, r->claims_length, r->slots, r->slots_length, r->outputs, r->outputs_length, r->preimages, r->preimages_length, r->bytes, r->length, s->bytes,
                                              room->of[AT_BYTES], s->signatures, room->of[AT_ROWS], &answer);
     s->sizes = (rooms){{[AT_BYTES] = answer.bytes, [AT_ROWS] = answer.signatures}}, s->number = answer.number;
+    return status;
+}
+
+static uint32_t call_finish(const request *r, state *s, const rooms *room) {
+    enforce_finish_answer answer;
+    memset(&answer, FILL, sizeof answer);
+    uint32_t status = enforce_finish(r->claims, r->claims_length, r->slots, r->slots_length, r->outputs, r->outputs_length, r->preimages, r->preimages_length, r->signed_rows, r->signed_length, r->bytes,
+                                     r->length, s->bytes, room->of[AT_BYTES], &answer);
+    s->sizes = (rooms){{[AT_BYTES] = answer.bytes}}, s->number = answer.number, s->item = answer.item;
     return status;
 }
 
@@ -236,7 +248,7 @@ static void call(const request *r, state *s, rooms room) {
     for (size_t i = 0; i < FACTS; i++) s->facts[i].holds = s->facts[i].key_is_slot = false;
     for (size_t i = 0; i < FOUND; i++) s->found[i].has_deadline = false;
     asked = 0;
-    s->status = is_named(r, "spend") ? call_spend(r, s, &room) : finds(r) ? call_found(r, s, &room) : call_script(r, s, &room);
+    s->status = is_named(r, "spend") ? call_spend(r, s, &room) : is_named(r, "finish") ? call_finish(r, s, &room) : finds(r) ? call_found(r, s, &room) : call_script(r, s, &room);
 }
 
 static rooms most(const request *r) {
@@ -382,6 +394,32 @@ static void change_rows(work *w, const request *r, state *other) {
     free(changed);
 }
 
+/* Signatures whose rows name what is not there, or another place: refused with the place that lacks one, but for those before it. */
+static void change_signed(work *w, const request *r, state *other) {
+    request *changed = malloc(sizeof *changed);
+    if (!changed) fail("no memory");
+    for (size_t i = 0; i < r->signed_length; i++) {
+        const enforce_signed_row *row = &r->signed_rows[i];
+        const struct { size_t input, item, at, length; uint32_t status; } cases[] = {
+            {row->input, row->item, r->length - row->bytes_length + 1, row->bytes_length, ENFORCE_SIGNATURE_OUT_OF_RANGE},
+            {row->input, row->item, SIZE_MAX, 1, ENFORCE_SIGNATURE_OUT_OF_RANGE},
+            {row->input, row->item, row->bytes_at, SIZE_MAX, ENFORCE_SIGNATURE_OUT_OF_RANGE},
+            {row->input, row->item, row->bytes_at, row->bytes_length - 1, ENFORCE_NOT_DER},
+            {row->input, row->item, row->bytes_at, 0, ENFORCE_NOT_DER},
+            {row->input + 1, row->item, row->bytes_at, row->bytes_length, ENFORCE_NO_SIGNATURE},
+            {row->input, SIZE_MAX, SIZE_MAX, 0, ENFORCE_NO_SIGNATURE},
+        };
+        for (size_t k = 0; k < sizeof cases / sizeof *cases; k++) {
+            *changed = *r;
+            changed->signed_rows[i] = (enforce_signed_row){cases[k].input, cases[k].item, cases[k].at, cases[k].length};
+            call(changed, other, most(changed));
+            if (other->status != cases[k].status || !is_left(other) || !are_none(&other->sizes) || other->number != row->input || other->item != row->item) w->wrong++;
+            w->short_calls++;
+        }
+    }
+    free(changed);
+}
+
 /* Refuses each allocation in turn: the call says so, and writes nothing else. */
 static void refuse_each(work *w, const request *r, state *other) {
     for (refused_number = 1;; refused_number++) {
@@ -445,6 +483,15 @@ static void read_output(request *r, char *text) {
     if (r->outputs_length > OUTPUTS) fail("too many outputs");
     output->value = strtoull(first_part(text, "/", &rest), NULL, 10);
     output->script_at = put_bytes(r, word(&rest, "/"), &output->script_length);
+}
+
+static void read_signed(request *r, char *text) {
+    char *rest;
+    if (r->signed_length == SIGNATURES) fail("too many signatures");
+    enforce_signed_row *row = &r->signed_rows[r->signed_length++];
+    row->input = strtoull(first_part(text, "/", &rest), NULL, 10);
+    row->item = strtoull(word(&rest, "/"), NULL, 10);
+    row->bytes_at = put_bytes(r, word(&rest, "/"), &row->bytes_length);
 }
 
 static void read_preimage(request *r, char *text) {
@@ -552,6 +599,8 @@ static void tell(work *w, const request *r, state *s, state *other) {
         put(to, "due %llu %u\n", (unsigned long long)s->due.height, s->due.sequence);
     } else if (is_named(r, "spend")) {
         put_spend(to, s);
+    } else if (is_named(r, "finish")) {
+        put(to, "tx "), put_hex(to, s->bytes, s->sizes.of[AT_BYTES]), put(to, "\n");
     } else if (finds(r)) {
         put_found(to, s);
     } else if (is_named(r, "list")) {
@@ -565,6 +614,7 @@ static void tell(work *w, const request *r, state *s, state *other) {
     if (w->refuses) return;
     call_again(w, r, s, other);
     if (is_named(r, "claim") && s->status == ENFORCE_DONE) change_rows(w, r, other);
+    if (is_named(r, "finish") && s->status == ENFORCE_DONE) change_signed(w, r, other);
 }
 
 static void read_request(request *r, char *line) {
@@ -574,11 +624,12 @@ static void read_request(request *r, char *line) {
         read_form(r, &rest);
     } else if (is_named(r, "claim")) {
         read_claim(r, word(&rest, " "));
-    } else if (is_named(r, "spend")) {
-        char *claims = word(&rest, " "), *outputs = word(&rest, " "), *preimages = word(&rest, " ");
+    } else if (is_named(r, "spend") || is_named(r, "finish")) {
+        char *claims = word(&rest, " "), *outputs = word(&rest, " "), *preimages = word(&rest, " "), *signatures = is_named(r, "finish") ? word(&rest, " ") : "-";
         read_each(r, claims, ";", read_claim);
         read_each(r, outputs, ";", read_output);
         read_each(r, preimages, ",", read_preimage);
+        read_each(r, signatures, ",", read_signed);
     } else if (finds(r)) {
         char *preimages = "-";
         if (is_named(r, "close")) r->whose = (uint32_t)strtoul(word(&rest, " "), NULL, 10);

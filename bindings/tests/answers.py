@@ -66,6 +66,16 @@ def spend(claims: str, outputs: str, preimages: str) -> str:
     return "\n".join([f"tx {found.tx.hex()}", *(f"sign {it.input} {it.item} {it.key.hex()} {it.digest.hex()}" for it in found.signatures)])
 
 
+def signed(text: str) -> Tuple[int, int, bytes]:
+    index, item, signature = text.split("/")
+    return int(index), int(item), data(signature)
+
+
+def finish(claims: str, outputs: str, preimages: str, signatures: str) -> str:
+    given = list(map(claim, parts(claims, ";"))), list(map(output, parts(outputs, ";"))), list(map(data, parts(preimages, ",")))
+    return f"tx {enforce.finish(*given, list(map(signed, parts(signatures, ',')))).hex()}"
+
+
 def due_line(text: str) -> str:
     found = enforce.accept(claim(text))
     return f"due {found.height} {found.sequence}"
@@ -118,6 +128,8 @@ def answer(name: str, *words: str) -> str:
         return due_line(*words)
     if name == "spend":
         return spend(*words)
+    if name == "finish":
+        return finish(*words)
     if name == "form":
         keys = list(map(data, words[1:5]))
         return enforce.form_script(int(words[0]), *keys, int(words[5]), int(words[6])).hex()

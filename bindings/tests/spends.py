@@ -5,6 +5,8 @@ signature's slot for each item that the record has as a valid signature. The tra
 empty item in the place of each signature, and with the digests of BIP 143. Where the claims ask for the sequence and the lock time that the signed one has, it is the signed transaction, whose signatures are over
 these digests.
 
+Each transaction is finished with the signatures that it was signed with: the answer has to be the signed transaction of others, byte by byte, where the claims ask for its sequence and its lock time.
+
 The plans that the pages show are taken apart alike, and each of their digests is worked out again. The penalties of the dumps in examples/ wait for nothing (BOLT 5).
 """
 import copy
@@ -135,9 +137,34 @@ def unsigned_transaction(transaction, inputs):
     return whole, f"tx {whole.bytes().hex()}\n" + "".join(lines)
 
 
-def spend(claims, outputs, preimages):
+def asked(claims, outputs, preimages):
     shown = ";".join(f"{it.value}/{digits(it.program)}" for it in outputs)
-    return f"spend {';'.join(it.text() for it in claims) or '-'} {shown or '-'} {','.join(preimages) or '-'}"
+    return f"{';'.join(it.text() for it in claims) or '-'} {shown or '-'} {','.join(preimages) or '-'}"
+
+
+def spend(*asked_for):
+    return f"spend {asked(*asked_for)}"
+
+
+def finish(claims, outputs, preimages, signed):
+    """With signatures, each an input, the place of an item and the item."""
+    shown = ",".join(f"{index}/{place}/{digits(item)}" for index, place, item in signed)
+    return f"finish {asked(claims, outputs, preimages)} {shown or '-'}"
+
+
+def signatures_of(inputs):
+    """The signatures of a signed transaction: by input, the top of the stack first."""
+    return [(index, place, it.items[place]) for index, it in enumerate(inputs) for place in sorted(it.keys, reverse=True)]
+
+
+def finished(transaction, inputs):
+    """The transaction that is made of the claims, with the signatures that were given: where all claims ask for what was signed, that of the signer."""
+    whole, _ = unsigned_transaction(transaction, inputs)
+    for made, it in zip(whole.inputs, inputs):
+        made.witness = it.items + it.last
+    if all(it.kind in AS_SIGNED for it in inputs) and whole.bytes() != transaction.bytes():
+        raise SystemExit("library: the transaction that was finished is another one")
+    return f"tx {whole.bytes().hex()}\n"
 
 
 def signed_spends():
@@ -146,7 +173,9 @@ def signed_spends():
     for transaction, inputs in signed_inputs(Recorded.read(RECORD)):
         _, told = unsigned_transaction(transaction, inputs)
         preimages = [preimage for it in inputs for preimage in it.preimages()]
-        found[spend([it.claim for it in inputs], transaction.outputs, preimages)] = told
+        claims = [it.claim for it in inputs]
+        found[spend(claims, transaction.outputs, preimages)] = told
+        found[finish(claims, transaction.outputs, preimages, signatures_of(inputs))] = finished(transaction, inputs)
         for it in inputs:
             height, sequence = needs(it.kind, it, transaction.lock_time)
             found[f"claim {it.claim.text()}"] = f"due {height} {sequence}\n"
@@ -282,7 +311,75 @@ def refused_spends(first):
     return {spend(claims, given, shown): f"refused {word}\n" for claims, given, shown, word in faults}
 
 
+def der(r, s, hash_type=1):
+    """Two numbers in DER, with a hash type (BIP 66)."""
+    numbers = b"".join(bytes([2, len(it)]) + it for it in (r, s))
+    return bytes([0x30, len(numbers)]) + numbers + bytes([hash_type])
+
+
+def longest(r_size, s_size):
+    """Numbers of these sizes, each with the byte 00 that it needs before it."""
+    return b"\x00" + (r_size - 1) * b"\x80", b"\x00" + (s_size - 1) * b"\x80"
+
+
+ONE = b"\x01"
+# by BIP 66: the shortest and the longest, a byte of 00 where it is needed and where it is the number, and a number whose first bit is not set
+STRICT = [der(ONE, ONE), der(*longest(33, 33)), der(*longest(34, 32)), der(b"\x00\x80", b"\x00"), der(b"\x7f\xff", b"\x01\x00")]
+NOT_STRICT = [
+    b"",
+    b"\x30",
+    der(b"", ONE),
+    der(ONE, b""),
+    der(*longest(34, 33)),
+    der(b"\x80", ONE),
+    der(ONE, b"\x80"),
+    der(b"\x00\x7f", ONE),
+    der(ONE, b"\x00\x00"),
+    der(ONE, ONE) + b"\x01",
+    der(ONE, ONE)[:-1],
+    b"\x31" + der(ONE, ONE)[1:],
+    b"\x30\x05" + der(ONE, ONE)[2:],
+    b"\x30\x06\x03" + der(ONE, ONE)[3:],
+    b"\x30\x06\x02\x02" + der(ONE, ONE)[4:],
+    b"\x30\x06\x02\x01\x01\x02\x00\x01\x01",
+    # a token, which stands for a signature in the proofs
+    bytes.fromhex(KEY) + bytes(32) + b"\x01",
+]
+
+
+def refused_finishes(first):
+    """Signatures that are refused for the first of their faults, and those on the other side of each bound."""
+    signed, transaction = first["success"]
+    claims, outputs, preimages = [signed.claim], transaction.outputs, signed.preimages()
+    (_, top, first_item), (_, below, second) = given = signatures_of([signed])
+    found, late = {}, (0, below, second)
+    for item in STRICT:
+        whole, _ = unsigned_transaction(transaction, [signed])
+        whole.inputs[0].witness = [item if place == top else it for place, it in enumerate(signed.items)] + signed.last
+        found[finish(claims, outputs, preimages, [(0, top, item), late])] = f"tx {whole.bytes().hex()}\n"
+    cases = [([(0, top, item), late], f"NotDer 0 {top}") for item in NOT_STRICT]
+    cases += [([(0, top, first_item[:-1] + bytes([it])), late], f"NotSighashAll 0 {top}") for it in (0, 2, 3, 0x81, 0x82, 0x83, 0xFF)]
+    cases += [
+        ([], f"NoSignature 0 {top}"),
+        (given[:1], f"NoSignature 0 {below}"),
+        (given[1:], f"NoSignature 0 {top}"),
+        (given[::-1], f"NoSignature 0 {top}"),
+        ([given[0], given[0]], f"NoSignature 0 {below}"),
+        ([(1, top, first_item), late], f"NoSignature 0 {top}"),
+        ([(0, top + 1, first_item), late], f"NoSignature 0 {top}"),
+        ([*given, late], f"NotAsked 0 {below}"),
+        ([*given, (7, 9, b"")], "NotAsked 7 9"),
+        ([(0, top, b""), (0, below, b"")], f"NotDer 0 {top}"),
+        ([given[0], (0, below, second[:-1])], f"NotDer 0 {below}"),
+    ]
+    found.update({finish(claims, outputs, preimages, rows): f"refused {word}\n" for rows, word in cases})
+    # the spend is refused before its signatures
+    before = [([], outputs, preimages, "NoInputs"), (claims, [Output(signed.claim.value + 1, outputs[0].program)], preimages, "OutputsExceed"), (claims, outputs, [], "NoPreimage")]
+    found.update({finish(*spent, []): f"refused {word}\n" for *spent, word in before})
+    return found
+
+
 def wanted_answers():
     """Each line that callers read, with what they must print."""
     found, first = signed_spends()
-    return {**found, **from_pages(), **refused_claims(first), **refused_spends(first)}
+    return {**found, **from_pages(), **refused_claims(first), **refused_spends(first), **refused_finishes(first)}

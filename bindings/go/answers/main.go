@@ -118,10 +118,8 @@ func claim(text string) enforce.Claim {
 	return found
 }
 
-func spend(words []string) (string, error) {
-	var claims []enforce.Claim
-	var outputs []enforce.Output
-	var preimages [][32]byte
+// The claims, the outputs and the preimages of a spend.
+func asked(words []string) (claims []enforce.Claim, outputs []enforce.Output, preimages [][32]byte) {
 	for _, it := range parts(words[0], ";") {
 		claims = append(claims, claim(it))
 	}
@@ -132,7 +130,22 @@ func spend(words []string) (string, error) {
 	for _, it := range parts(words[2], ",") {
 		preimages = append(preimages, hash(it))
 	}
-	tx, signatures, err := enforce.UnsignedSpend(claims, outputs, preimages)
+	return
+}
+
+func finish(words []string) (string, error) {
+	claims, outputs, preimages := asked(words)
+	var signed []enforce.Signed
+	for _, it := range parts(words[3], ",") {
+		p := strings.Split(it, "/")
+		signed = append(signed, enforce.Signed{Input: number(p[0]), Item: number(p[1]), Signature: data(p[2])})
+	}
+	tx, err := enforce.Finish(claims, outputs, preimages, signed)
+	return fmt.Sprintf("tx %x\n", tx), err
+}
+
+func spend(words []string) (string, error) {
+	tx, signatures, err := enforce.UnsignedSpend(asked(words))
 	text := fmt.Sprintf("tx %x\n", tx)
 	for _, it := range signatures {
 		text += fmt.Sprintf("sign %d %d %x %x\n", it.Input, it.Item, it.Key, it.Digest)
@@ -219,6 +232,8 @@ func answer(words []string) (string, error) {
 		return fmt.Sprintf("due %d %d\n", due.Height, due.Sequence), err
 	case "spend":
 		return spend(words[1:])
+	case "finish":
+		return finish(words[1:])
 	case "revoked":
 		return revoked(words[1:])
 	case "close":

@@ -1,5 +1,5 @@
 //! Makes the calls that standard input names, a line each, and prints what each answers, as `bindings/tests/answers.c` does.
-use enforce::{ChannelType, Claim, Commitment, Direction, Fact, Form, Found, FoundClaim, FundingKeys, Htlc, KeySource, Output, OutputKind, Path, Refused, Slot, Stated, Whose};
+use enforce::{ChannelType, Claim, Commitment, Direction, Fact, Form, Found, FoundClaim, FundingKeys, Htlc, KeySource, Output, OutputKind, Path, Refused, Signed, Slot, Stated, Whose};
 use std::io::{self, BufRead};
 
 fn hex(bytes: &[u8]) -> String {
@@ -104,6 +104,16 @@ fn spend(claims: &str, outputs: &str, preimages: &str) -> Result<String, Refused
     let found = enforce::unsigned_spend(&each(claims, ';', claim), &each(outputs, ';', output), &each(preimages, ',', array))?;
     let lines = found.signatures.iter().map(|it| format!("sign {} {} {} {}\n", it.input, it.item, hex(&it.key), hex(&it.digest)));
     Ok(format!("tx {}\n", hex(&found.tx)) + &lines.collect::<String>())
+}
+
+fn signed(text: &str) -> Signed {
+    let parts: Vec<&str> = text.split('/').collect();
+    Signed { input: parts[0].parse().expect("an input"), item: parts[1].parse().expect("an item"), signature: bytes(parts[2]) }
+}
+
+fn finish(words: &[&str]) -> Result<String, Refused> {
+    let tx = enforce::finish(&each(words[0], ';', claim), &each(words[1], ';', output), &each(words[2], ',', array), &each(words[3], ',', signed))?;
+    Ok(format!("tx {}\n", hex(&tx)))
 }
 
 fn htlc(text: &str) -> Option<Htlc> {
@@ -213,6 +223,7 @@ fn answer(line: &str) -> Result<String, Refused> {
         "program" => Ok(hex(&enforce::program(&bytes(words[1]))) + "\n"),
         "claim" => claim(words[1]).accept().map(|due| format!("due {} {}\n", due.height, due.sequence)),
         "spend" => spend(words[1], words[2], words[3]),
+        "finish" => finish(&words[1..]),
         "revoked" => revoked(&words[1..]),
         "close" => close(&words[1..]),
         _ => match form(&words[1..]) {

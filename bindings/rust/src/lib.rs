@@ -1,6 +1,6 @@
-//! The ways through a version 0 witness script (BIP 141), the scripts of BOLT 3, and the unsigned spend of claims, by a library that is proved.
+//! The ways through a version 0 witness script (BIP 141), the scripts of BOLT 3, and the spend of claims, unsigned and signed, by a library that is proved.
 //!
-//! Nothing here signs, and nothing checks a signature. The keys are the caller's, and none is derived.
+//! Nothing here signs, and nothing checks a signature but for its form. The keys are the caller's, and none is derived.
 //!
 //! ```
 //! let paths = enforce::paths(&[0x63, 0x51, 0x67, 0x52, 0x68])?; // IF 1 ELSE 2 ENDIF
@@ -67,6 +67,14 @@ pub enum Refused {
     NotACommitmentKey(usize),
     /// The expiry of the HTLC at this index is 500,000,000 or more, which is a time and not a height.
     ExpiryTooLarge(usize),
+    /// The item lacks a signature, and the next one that is given is not of it.
+    NoSignature { input: usize, item: usize },
+    /// The signature is not in strict DER (BIP 66).
+    NotDer { input: usize, item: usize },
+    /// The hash type of the signature is not ALL, the byte 01.
+    NotSighashAll { input: usize, item: usize },
+    /// A signature is given after that of the last item that lacks one.
+    NotAsked { input: usize, item: usize },
     /// A status that these declarations do not have.
     Unknown(u32),
 }
@@ -79,6 +87,10 @@ impl fmt::Display for Refused {
             Refused::Undecided(at) => write!(f, "Undecided {at}"),
             Refused::NotACommitmentKey(at) => write!(f, "NotACommitmentKey {at}"),
             Refused::ExpiryTooLarge(at) => write!(f, "ExpiryTooLarge {at}"),
+            Refused::NoSignature { input, item } => write!(f, "NoSignature {input} {item}"),
+            Refused::NotDer { input, item } => write!(f, "NotDer {input} {item}"),
+            Refused::NotSighashAll { input, item } => write!(f, "NotSighashAll {input} {item}"),
+            Refused::NotAsked { input, item } => write!(f, "NotAsked {input} {item}"),
             Refused::Unknown(status) => write!(f, "Unknown {status:#x}"),
             other => write!(f, "{other:?}"),
         }
@@ -120,6 +132,18 @@ fn refused(status: u32, number: usize) -> Refused {
         raw::NOT_A_COMMITMENT_KEY => Refused::NotACommitmentKey(number),
         raw::EXPIRY_TOO_LARGE => Refused::ExpiryTooLarge(number),
         other => Refused::Unknown(other),
+    }
+}
+
+/// The refusal of a signature, or of what comes before it.
+fn refused_finish(status: u32, answer: &raw::FinishAnswer) -> Refused {
+    let (input, item) = (answer.number, answer.item);
+    match status {
+        raw::NO_SIGNATURE => Refused::NoSignature { input, item },
+        raw::NOT_DER => Refused::NotDer { input, item },
+        raw::NOT_SIGHASH_ALL => Refused::NotSighashAll { input, item },
+        raw::NOT_ASKED => Refused::NotAsked { input, item },
+        other => refused(other, answer.number),
     }
 }
 
@@ -414,6 +438,16 @@ pub struct UnsignedSpend {
     pub signatures: Vec<MissingSignature>,
 }
 
+/// A signature for an item that lacks one.
+#[derive(Clone, Debug, PartialEq, Eq)]
+pub struct Signed {
+    /// The input and the item of the [`MissingSignature`].
+    pub input: usize,
+    pub item: usize,
+    /// Strict DER (BIP 66), and the byte 01 (SIGHASH_ALL).
+    pub signature: Vec<u8>,
+}
+
 /// Rows of slots, and the bytes that rows refer to.
 #[derive(Default)]
 struct Given {
@@ -456,6 +490,11 @@ impl Given {
         let (script_at, script_length) = self.put(&output.script);
         raw::OutputRow { value: output.value, script_at, script_length }
     }
+
+    fn signed(&mut self, signed: &Signed) -> raw::SignedRow {
+        let (bytes_at, bytes_length) = self.put(&signed.signature);
+        raw::SignedRow { input: signed.input, item: signed.item, bytes_at, bytes_length }
+    }
 }
 
 impl Claim {
@@ -479,8 +518,8 @@ impl Claim {
 
 /// The transaction that spends the outputs of claims, in which nothing is signed, and the signatures that it lacks.
 ///
-/// Proved (`enforce_unsigned_spend`): with the token of each missing signature in its place, each input runs clean. Put the signature by the key over the digest, and the byte 01 after
-/// it, in its place. A refusal is the first that holds: of the numbers of claims and outputs, of an output, of a claim, of the spend.
+/// Proved (`enforce_unsigned_spend`): with the token of each missing signature in its place, each input runs clean. [`finish`] puts in the signature by the key over the digest, with the byte 01
+/// after it. A refusal is the first that holds: of the numbers of claims and outputs, of an output, of a claim, of the spend.
 pub fn unsigned_spend(claims: &[Claim], outputs: &[Output], preimages: &[[u8; 32]]) -> Result<UnsignedSpend, Refused> {
     let mut given = Given::default();
     let claims: Vec<_> = claims.iter().map(|it| given.claim(it)).collect();
@@ -509,6 +548,37 @@ pub fn unsigned_spend(claims: &[Claim], outputs: &[Output], preimages: &[[u8; 32
                 signatures.resize(answer.signatures, blank);
             }
             other => return Err(refused(other, answer.number)),
+        }
+    }
+}
+
+/// The transaction of [`unsigned_spend`] with signatures, one for each that it lacks, in their order. Each is tested for its form and its place, and not for the curve: whether one is valid for
+/// its key, nothing here asks.
+///
+/// Proved (`enforce_finish`): where each is the key's over the digest, each input runs clean. A refusal is the first that holds: of [`unsigned_spend`], then signature by signature.
+pub fn finish(claims: &[Claim], outputs: &[Output], preimages: &[[u8; 32]], signed: &[Signed]) -> Result<Vec<u8>, Refused> {
+    let mut given = Given::default();
+    let claims: Vec<_> = claims.iter().map(|it| given.claim(it)).collect();
+    let outputs: Vec<_> = outputs.iter().map(|it| given.output(it)).collect();
+    let preimages: Vec<_> = preimages.iter().map(|it| raw::PreimageRow { bytes: *it }).collect();
+    let signed: Vec<_> = signed.iter().map(|it| given.signed(it)).collect();
+    let mut tx = vec![0; 1024];
+    loop {
+        let mut answer = raw::FinishAnswer { bytes: 0, number: 0, item: 0 };
+        // SAFETY: each pointer is of a slice that lives over the call, with that slice's length, or of `answer`.
+        let status = unsafe {
+            raw::enforce_finish(
+                claims.as_ptr(), claims.len(), given.slots.as_ptr(), given.slots.len(), outputs.as_ptr(), outputs.len(), preimages.as_ptr(), preimages.len(),
+                signed.as_ptr(), signed.len(), given.bytes.as_ptr(), given.bytes.len(), tx.as_mut_ptr(), tx.len(), &mut answer,
+            )
+        };
+        match status {
+            raw::DONE => {
+                tx.truncate(answer.bytes);
+                return Ok(tx);
+            }
+            raw::TOO_SMALL => tx.resize(answer.bytes, 0),
+            other => return Err(refused_finish(other, &answer)),
         }
     }
 }

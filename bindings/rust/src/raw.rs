@@ -155,9 +155,19 @@ pub const NO_SUCH_DIRECTION: u32 = 0x803;
 pub const EXPIRY_TOO_LARGE: u32 = 0x804;
 /// It is neither one's own commitment nor the peer's.
 pub const NO_SUCH_CLOSE: u32 = 0x805;
+/// A slot asks a signature, and the next one that is given is not of it; the answer has the input and the item that lack it.
+pub const NO_SIGNATURE: u32 = 0x901;
+/// The row of a signature refers to bytes that are not there; the answer has its input and its item, as of the two below.
+pub const SIGNATURE_OUT_OF_RANGE: u32 = 0x902;
+/// Bytes that are to be a signature are not in strict DER (BIP 66).
+pub const NOT_DER: u32 = 0x903;
+/// The hash type of a signature is not ALL, the byte 01.
+pub const NOT_SIGHASH_ALL: u32 = 0x904;
+/// A signature is given after that of the last slot that asks one; the answer has the input and the item of its row.
+pub const NOT_ASKED: u32 = 0x905;
 
 /// What declarations mean together: it is raised whenever one changes its meaning.
-pub const ABI: u32 = 0x3;
+pub const ABI: u32 = 0x4;
 
 /// How a claim fills a slot of its path. A field that the kind does not name is not read.
 #[repr(C)]
@@ -355,6 +365,44 @@ const _: () = {
     assert!(core::mem::offset_of!(FoundAnswer, others) == 16);
     assert!(core::mem::offset_of!(FoundAnswer, bytes) == 24);
     assert!(core::mem::offset_of!(FoundAnswer, number) == 32);
+};
+
+/// A signature for an item of a witness that lacks one.
+#[repr(C)]
+#[derive(Clone, Copy, Debug, PartialEq, Eq)]
+pub struct SignedRow {
+    /// The index of the input, which is that of its claim.
+    pub input: usize,
+    /// The index of its item, as the row of the signature that is lacking has it.
+    pub item: usize,
+    /// Where its bytes begin among those that the call is given: strict DER (BIP 66), and the byte 01 (SIGHASH_ALL).
+    pub bytes_at: usize,
+    /// How many there are, from 9 to 73.
+    pub bytes_length: usize,
+}
+
+const _: () = {
+    assert!(size_of::<SignedRow>() == 32);
+    assert!(core::mem::offset_of!(SignedRow, input) == 0);
+    assert!(core::mem::offset_of!(SignedRow, item) == 8);
+    assert!(core::mem::offset_of!(SignedRow, bytes_at) == 16);
+    assert!(core::mem::offset_of!(SignedRow, bytes_length) == 24);
+};
+
+/// What the call that finishes a transaction tells beside its status. Each call writes all of it: the number of bytes, whether or not they were written, and of a refusal the number that it carries, of a signature the indices of its input and of its item.
+#[repr(C)]
+#[derive(Clone, Copy, Debug, PartialEq, Eq)]
+pub struct FinishAnswer {
+    pub bytes: usize,
+    pub number: usize,
+    pub item: usize,
+}
+
+const _: () = {
+    assert!(size_of::<FinishAnswer>() == 24);
+    assert!(core::mem::offset_of!(FinishAnswer, bytes) == 0);
+    assert!(core::mem::offset_of!(FinishAnswer, number) == 8);
+    assert!(core::mem::offset_of!(FinishAnswer, item) == 16);
 };
 
 /// A form of BOLT 3 with what its script has. A field that the kind does not name is not read.
@@ -569,6 +617,10 @@ unsafe extern "C" {
     ///
     /// Proved: `AnswersSpend (record { claims = claims.now; slots = slots.now; outputs = outputs.now; bytes = bytes.now }) (preimages_in preimages.now) (record { bytes = tx.old; signatures = signatures.old }) (record { status = result; answer = answer.new; lists = record { bytes = tx.new; signatures = signatures.new } }) (crates/enforce_c/specs/Spent.antt)`
     pub fn enforce_unsigned_spend(claims: *const ClaimRow, claims_length: usize, slots: *const SlotRow, slots_length: usize, outputs: *const OutputRow, outputs_length: usize, preimages: *const PreimageRow, preimages_length: usize, bytes: *const u8, bytes_length: usize, tx: *mut u8, tx_length: usize, signatures: *mut SignatureRow, signatures_length: usize, answer: *mut SpendAnswer) -> u32;
+    /// Writes the transaction of claims with the signatures that are given, which are tested for their form and their place, and not for the curve: whether one is valid for its key, nothing here asks. It is the transaction of `enforce_unsigned_spend` for the same claims, outputs and preimages, with a signature at each item that lacks one. There has to be a row for each signature that it lacks, in the order in which that call tells them, with the same input and item. The bytes of a row are strict DER (BIP 66) and the byte 01 (SIGHASH_ALL). Where each is the key's over the digest, each input runs clean. The statuses of refusals are those of `enforce_unsigned_spend`, then family 9, signature by signature; and `TOO_SMALL` if the buffer is too short.
+    ///
+    /// Proved: `AnswersFinish (record { claims = claims.now; slots = slots.now; outputs = outputs.now; bytes = bytes.now }) (preimages_in preimages.now) signed_rows.now tx.old (record { status = result; answer = answer.new; bytes = tx.new }) (crates/enforce_c/specs/Finished.antt)`
+    pub fn enforce_finish(claims: *const ClaimRow, claims_length: usize, slots: *const SlotRow, slots_length: usize, outputs: *const OutputRow, outputs_length: usize, preimages: *const PreimageRow, preimages_length: usize, signed_rows: *const SignedRow, signed_rows_length: usize, bytes: *const u8, bytes_length: usize, tx: *mut u8, tx_length: usize, answer: *mut FinishAnswer) -> u32;
     /// Finds all that a revoked commitment lets its owner's peer claim of a transaction: the commitment, one of its HTLC transactions, or any other, with witnesses or without. Writes a claim on each output whose script is one of the commitment's, in the order of the outputs, with what `enforce_unsigned_spend` takes: rows of slots, and the bytes that both refer to. Of each claim it writes which output it is on, and the first block in which the owner can take that, where a block of `confirmed_height` has the transaction. Of each other output it writes the index, and what it is. The statuses of refusals are those of family 8 in this order: the type of the channel, each key, each HTLC; then those of family 6, of the first fault of the transaction; and `TOO_SMALL` if one of the five buffers is too short.
     ///
     /// Proved: `AnswersFound (asked_of_revoked commitment.now htlcs.now tx.now confirmed_height) (record { claims = claims.old; found = found_outputs.old; slots = slots.old; others = others.old; bytes = bytes.old }) (record { status = result; answer = answer.new; lists = record { claims = claims.new; found = found_outputs.new; slots = slots.new; others = others.new; bytes = bytes.new } }) (crates/enforce_c/specs/Found.antt)`
@@ -623,6 +675,11 @@ pub fn name(status: u32) -> &'static str {
         NO_SUCH_DIRECTION => "NoSuchDirection",
         EXPIRY_TOO_LARGE => "ExpiryTooLarge",
         NO_SUCH_CLOSE => "NoSuchClose",
+        NO_SIGNATURE => "NoSignature",
+        SIGNATURE_OUT_OF_RANGE => "SignatureOutOfRange",
+        NOT_DER => "NotDer",
+        NOT_SIGHASH_ALL => "NotSighashAll",
+        NOT_ASKED => "NotAsked",
         _ => "Unknown",
     }
 }

@@ -2,6 +2,7 @@ pub mod Answering
 mod StatusExamples
 mod FoundExamples
 mod SpendExamples
+mod FinishExamples
 mod RowExamples
 mod RangeExamples
 mod KindExamples
@@ -14,3 +15,5 @@ pub mod Parts
 pub mod SlotRows
 pub mod ClaimRows
 pub mod FoundClaims
+pub mod SignedSpends
+pub mod DerForms

@@ -6,6 +6,8 @@ pub mod FormScripts
 pub mod Ranges
 pub mod Claimed
 pub mod Spent
+pub mod Der
+pub mod Finished
 pub mod ClaimLists
 pub mod Commitments
 pub mod Found

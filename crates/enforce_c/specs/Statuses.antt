@@ -15,7 +15,7 @@ use Rattle.claim.specs.declared.errors.AcceptError.TheVariants.{NoMemory as Acce
 use Rattle.filling.specs.declared.errors.SpendError.{SpendError}
 use Rattle.filling.specs.declared.errors.SpendError.TheVariants.{NoMemory as SpendMemory, FixedTransaction, SameOutpoint, OutputsExceed, MeasuredSignature, NoPreimage}
 use Rattle.enforce_c.specs.declared.statuses.Refusal.{Refusal}
-use Rattle.enforce_c.specs.declared.statuses.Refusal.TheVariants.{NoMemory, Parse, Check, NoSuchForm, NotAKey, NotAHeight, OutOfRange, NoSuchSlot, ItemTooLong, Accept, Field, Spend, Encode, Decode, NoSuchChannelType, NotACommitmentKey, NoSuchDirection, ExpiryTooLarge, NoSuchClose}
+use Rattle.enforce_c.specs.declared.statuses.Refusal.TheVariants.{NoMemory, Parse, Check, NoSuchForm, NotAKey, NotAHeight, OutOfRange, NoSuchSlot, ItemTooLong, Accept, Field, Spend, Encode, Decode, NoSuchChannelType, NotACommitmentKey, NoSuchDirection, ExpiryTooLarge, NoSuchClose, NoSignature, SignatureOutOfRange, NotDer, NotSighashAll, NotAsked}
 
 -- of a script's bytes
 abbrev pub parse_status : ParseError → ℕ
@@ -93,6 +93,11 @@ status_of (NotACommitmentKey number) = 2050
 status_of (NoSuchDirection index) = 2051
 status_of (ExpiryTooLarge index) = 2052
 status_of NoSuchClose = 2053
+status_of (NoSignature place) = 2305
+status_of (SignatureOutOfRange place) = 2306
+status_of (NotDer place) = 2307
+status_of (NotSighashAll place) = 2308
+status_of (NotAsked place) = 2309
 
 -- the number that a refusal carries
 abbrev pub parse_number : ParseError → ℕ
@@ -110,4 +115,18 @@ number_of (Check e) = check_number e
 number_of (NotACommitmentKey number) = number
 number_of (NoSuchDirection index) = index
 number_of (ExpiryTooLarge index) = index
+number_of (NoSignature place) = place.input
+number_of (SignatureOutOfRange place) = place.input
+number_of (NotDer place) = place.input
+number_of (NotSighashAll place) = place.input
+number_of (NotAsked place) = place.input
 number_of e = 0
+
+-- the item of an input that a refusal is about
+abbrev pub item_of : Refusal → ℕ
+item_of (NoSignature place) = place.item
+item_of (SignatureOutOfRange place) = place.item
+item_of (NotDer place) = place.item
+item_of (NotSighashAll place) = place.item
+item_of (NotAsked place) = place.item
+item_of e = 0

@@ -6,11 +6,13 @@ ghost use Rattle.enforce_c.specs.Answers.{left_by_rows, left_by_bytes, bytes_ans
 ghost use Rattle.enforce_c.specs.Claimed.{due_of};
 ghost use Rattle.enforce_c.specs.Spent.{left_by_lists, spend_refused};
 ghost use Rattle.enforce_c.specs.Found.{left_by_found, found_refused};
+ghost use Rattle.enforce_c.specs.Finished.{left_by_finish, finish_refused};
 
 use crate::buffers::put;
 use crate::claim_rows::{ClaimRow, Due, SlotRow};
 use crate::commitment_rows::{FoundAnswer, FoundRow, OtherRow};
 use crate::finding::Finding;
+use crate::finish_rows::FinishAnswer;
 use crate::rows::{Answer, FactRow, PathRow};
 use crate::spend_rows::{SignatureRow, SpendAnswer};
 use crate::spending::Spending;
@@ -184,6 +186,36 @@ pub(crate) fn refuse_found(refusal: &Refusal, answer: &mut FoundAnswer) -> u32
         others: 0,
         bytes: 0,
         number: refusal.number(),
+    };
+    refusal.status()
+}
+
+/// Writes the bytes of a transaction if there is room for them, and how many there are. Gives the status.
+pub(crate) fn write_finish(tx: &[u8], room: &mut [u8], answer: &mut FinishAnswer) -> u32
+    ensures { left_by_finish tx.now room.old ≡ record { status = result; answer = answer.new; bytes = room.new } }
+{
+    *answer = FinishAnswer {
+        bytes: tx.len(),
+        number: 0,
+        item: 0,
+    };
+    if tx.len() <= room.len() {
+        put(room, tx);
+        DONE
+    } else {
+        TOO_SMALL
+    }
+}
+
+/// Writes the answer of a refused signature, or of what comes before it. Gives its status.
+pub(crate) fn refuse_finish(refusal: &Refusal, answer: &mut FinishAnswer) -> u32
+    ensures status { result ≡ status_of refusal.now }
+    ensures answer { answer.new ≡ finish_refused refusal.now }
+{
+    *answer = FinishAnswer {
+        bytes: 0,
+        number: refusal.number(),
+        item: refusal.item(),
     };
     refusal.status()
 }

@@ -1,4 +1,4 @@
-//! The ways through a script, the scripts of BOLT 3, the claims that a commitment lets one make, revoked or not, and their unsigned spend, for programs in C, as a static library.
+//! The ways through a script, the scripts of BOLT 3, the claims that a commitment lets one make, revoked or not, and their spend, unsigned and signed, for programs in C, as a static library.
 //!
 //! Each export writes only to what it is given by a pointer that is not const, keeps no pointer, and may be called
 //! from several threads at once. No export has a `requires`: whatever bytes and lengths a caller gives, it is
@@ -6,7 +6,7 @@
 //! A buffer that is too short is left as it was, and the [`Answer`] says how long it has to be.
 //!
 //! `paths` lists the ways through a script, and `script_words` has the text of a listing. `terms` defines the scripts of BOLT 3 and
-//! `forms` their ways; `sighash` has the program of a script. `claim` accepts claims, `revoked` and `unilateral` find them, and `filling` makes their spend. Signatures are not among the arguments:
+//! `forms` their ways; `sighash` has the program of a script. `claim` accepts claims, `revoked` and `unilateral` find them, and `filling` makes their spend. Signatures are tested for their form alone:
 //! an accepted claim can't fail with tokens, or with valid signatures where none is measured. No crate depends on this one.
 //! `docs/BINDINGS.md` has the header, and callers in C and in other languages.
 //!
@@ -26,6 +26,7 @@ ghost use Rattle.enforce_c.specs.Claimed.{AnswersClaim};
 ghost use Rattle.enforce_c.specs.Spent.{AnswersSpend, preimages_in};
 ghost use Rattle.enforce_c.specs.declared.commitment_rows.Question.TheVariants.{OfClose};
 ghost use Rattle.enforce_c.specs.Found.{asked_of_revoked, AnswersFound};
+ghost use Rattle.enforce_c.specs.Finished.{AnswersFinish};
 
 mod answers;
 mod buffers;
@@ -34,7 +35,10 @@ mod claim_rows;
 mod claims_of_c;
 mod commitment_rows;
 mod commitments_of_c;
+mod der;
 mod finding;
+mod finish_rows;
+mod finishing;
 mod forms_of_c;
 mod listing;
 mod ranges;
@@ -46,11 +50,12 @@ mod statuses;
 mod telling;
 
 use crate::answers::{
-    refuse, refuse_found, refuse_spend, write_bytes, write_due, write_found, write_rows,
-    write_spend,
+    refuse, refuse_finish, refuse_found, refuse_spend, write_bytes, write_due, write_finish,
+    write_found, write_rows, write_spend,
 };
 use crate::claims_of_c::claimed;
 use crate::finding::found;
+use crate::finishing::finished;
 use crate::forms_of_c::form_bytes;
 use crate::listing::{text_of, told};
 use crate::spending::spent;
@@ -65,6 +70,7 @@ pub use commitment_rows::{
     OUTPUT_UNKNOWN, OtherRow,
 };
 use digest::sha256;
+pub use finish_rows::{FinishAnswer, SignedRow};
 pub use forms_of_c::{
     FORM_FUNDING, FORM_KEY_HASH, FORM_OFFERED, FORM_RECEIVED, FORM_TO_LOCAL, Form,
 };
@@ -74,7 +80,7 @@ pub use statuses::DONE;
 use std::alloc::Global;
 
 /// What declarations mean together: it is raised whenever one changes its meaning.
-pub const ABI: u32 = 3;
+pub const ABI: u32 = 4;
 
 /// The library's `ABI`, to be compared with that of the declarations once, at the start.
 #[unsafe(no_mangle)]
@@ -198,6 +204,32 @@ pub extern "C" fn enforce_unsigned_spend(
     match spent(alloc, claims, slots, outputs, preimages, bytes) {
         Ok(spending) => write_spend(&spending, tx, signatures, answer),
         Err(refusal) => refuse_spend(&refusal, answer),
+    }
+}
+
+/// Writes the transaction of claims with the signatures that are given, which are tested for their form and their place, and not for the curve: whether one is valid for its key, nothing here asks.
+/// It is the transaction of `enforce_unsigned_spend` for the same claims, outputs and preimages, with a signature at each item that lacks one. There has to be a row for each signature that it lacks, in the order in which that call tells them, with the same input and item. The bytes of a row are strict DER (BIP 66) and the byte 01 (SIGHASH_ALL).
+/// Where each is the key's over the digest, each input runs clean. The statuses of refusals are those of `enforce_unsigned_spend`, then family 9, signature by signature; and `TOO_SMALL` if the buffer is too short.
+#[unsafe(no_mangle)]
+#[tactic(auto, using(crate::proofs::SignedSpends::finished_bytes, crate::proofs::SignedSpends::refused_finish))]
+pub extern "C" fn enforce_finish(
+    alloc: Global,
+    claims: &[ClaimRow],
+    slots: &[SlotRow],
+    outputs: &[OutputRow],
+    preimages: &[PreimageRow],
+    signed_rows: &[SignedRow],
+    bytes: &[u8],
+    tx: &mut [u8],
+    answer: &mut FinishAnswer,
+) -> u32
+    ensures { AnswersFinish
+        (record { claims = claims.now; slots = slots.now; outputs = outputs.now; bytes = bytes.now }) (preimages_in preimages.now) signed_rows.now tx.old
+        (record { status = result; answer = answer.new; bytes = tx.new }) }
+{
+    match finished(alloc, claims, slots, outputs, preimages, signed_rows, bytes) {
+        Ok(bytes) => write_finish(bytes.bytes(), tx, answer),
+        Err(refusal) => refuse_finish(&refusal, answer),
     }
 }
 

@@ -142,16 +142,16 @@ fn counted(claims: usize, outputs: usize) -> Result<(), Refusal>
     Ok(())
 }
 
-// The claims and the outputs that rows ask for.
+/// The claims and the outputs that rows ask for.
 #[derive(Drop)]
-struct Parts {
-    claims: Vec<Claim>,
-    outputs: Vec<TxOut>,
+pub(crate) struct Parts {
+    pub(crate) claims: Vec<Claim>,
+    pub(crate) outputs: Vec<TxOut>,
 }
 
-// What rows say.
+/// What rows say.
 #[tactic(auto, using(crate::proofs::Spends::unread_number, crate::proofs::Spends::unread_output, crate::proofs::Spends::unread_claim))]
-fn read(
+pub(crate) fn read(
     alloc: Global,
     claims: &[ClaimRow],
     slots: &[SlotRow],
@@ -171,9 +171,9 @@ fn read(
     Ok(Parts { claims, outputs })
 }
 
-// The unsigned spend of claims.
+/// The unsigned spend of claims.
 #[tactic(auto, using(crate::proofs::Spends::unspent))]
-fn spend_of(
+pub(crate) fn spend_of(
     alloc: Global,
     claims: &[Claim],
     outputs: Vec<TxOut>,
@@ -193,9 +193,9 @@ fn spend_of(
     }
 }
 
-// The bytes of a transaction.
+/// The bytes of a transaction.
 #[tactic(auto, using(crate::proofs::Spends::not_encoded))]
-fn encoded(alloc: Global, tx: &Tx) -> Result<Vec<u8>, Refusal>
+pub(crate) fn encoded(alloc: Global, tx: &Tx) -> Result<Vec<u8>, Refusal>
     ensures { MatchResult result (λ v. IsTransaction tx.now v.items)
         (λ e. UnlessMemory e (IsNotEncoded tx.now e)) }
 {

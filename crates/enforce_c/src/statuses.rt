@@ -1,7 +1,7 @@
 // Why a call gives nothing: the statuses.
 
 ghost use Rattle.std.specs.Prelude.{◌≡◌, ◌<◌};
-ghost use Rattle.enforce_c.specs.Statuses.{parse_status, check_status, accept_status, spend_status, field_status, encode_status, decode_status, status_of, number_of};
+ghost use Rattle.enforce_c.specs.Statuses.{parse_status, check_status, accept_status, spend_status, field_status, encode_status, decode_status, status_of, number_of, item_of};
 ghost use Rattle.enforce_c.specs.declared.statuses.Refusal.TheVariants.{NoMemory};
 
 use claim::AcceptError;
@@ -93,6 +93,23 @@ pub const NO_SUCH_DIRECTION: u32 = 0x803;
 pub const EXPIRY_TOO_LARGE: u32 = 0x804;
 /// It is neither one's own commitment nor the peer's.
 pub const NO_SUCH_CLOSE: u32 = 0x805;
+/// A slot asks a signature, and the next one that is given is not of it; the answer has the input and the item that lack it.
+pub const NO_SIGNATURE: u32 = 0x901;
+/// The row of a signature refers to bytes that are not there; the answer has its input and its item, as of the two below.
+pub const SIGNATURE_OUT_OF_RANGE: u32 = 0x902;
+/// Bytes that are to be a signature are not in strict DER (BIP 66).
+pub const NOT_DER: u32 = 0x903;
+/// The hash type of a signature is not ALL, the byte 01.
+pub const NOT_SIGHASH_ALL: u32 = 0x904;
+/// A signature is given after that of the last slot that asks one; the answer has the input and the item of its row.
+pub const NOT_ASKED: u32 = 0x905;
+
+/// The place of a signature: an item of an input's witness, the deepest item of the stack first.
+#[derive(Clone, Copy, Drop)]
+pub struct SignaturePlace {
+    pub input: usize,
+    pub item: usize,
+}
 
 /// Why a call gives nothing.
 #[derive(Drop)]
@@ -119,6 +136,11 @@ pub enum Refusal {
     /// Which HTLC it is of.
     ExpiryTooLarge(usize),
     NoSuchClose,
+    NoSignature(SignaturePlace),
+    SignatureOutOfRange(SignaturePlace),
+    NotDer(SignaturePlace),
+    NotSighashAll(SignaturePlace),
+    NotAsked(SignaturePlace),
 }
 
 // The status of a refused claim.
@@ -247,10 +269,15 @@ impl Refusal {
             Refusal::NoSuchDirection(_) => NO_SUCH_DIRECTION,
             Refusal::ExpiryTooLarge(_) => EXPIRY_TOO_LARGE,
             Refusal::NoSuchClose => NO_SUCH_CLOSE,
+            Refusal::NoSignature(_) => NO_SIGNATURE,
+            Refusal::SignatureOutOfRange(_) => SIGNATURE_OUT_OF_RANGE,
+            Refusal::NotDer(_) => NOT_DER,
+            Refusal::NotSighashAll(_) => NOT_SIGHASH_ALL,
+            Refusal::NotAsked(_) => NOT_ASKED,
         }
     }
 
-    /// The number that the refusal carries: a byte's position, or the index of an opcode, a key or an HTLC, from 0; else 0.
+    /// The number that the refusal carries: a byte's position, or the index of an opcode, a key, an HTLC or an input, from 0; else 0.
     pub fn number(&self) -> usize
         ensures { result ≡ number_of self.now }
     {
@@ -261,6 +288,25 @@ impl Refusal {
             Refusal::NotACommitmentKey(number) => *number,
             Refusal::NoSuchDirection(index) => *index,
             Refusal::ExpiryTooLarge(index) => *index,
+            Refusal::NoSignature(place) => place.input,
+            Refusal::SignatureOutOfRange(place) => place.input,
+            Refusal::NotDer(place) => place.input,
+            Refusal::NotSighashAll(place) => place.input,
+            Refusal::NotAsked(place) => place.input,
+            _ => 0,
+        }
+    }
+
+    /// The index of the item that the refusal is about, from the deepest; 0 where it is about none.
+    pub fn item(&self) -> usize
+        ensures { result ≡ item_of self.now }
+    {
+        match self {
+            Refusal::NoSignature(place) => place.item,
+            Refusal::SignatureOutOfRange(place) => place.item,
+            Refusal::NotDer(place) => place.item,
+            Refusal::NotSighashAll(place) => place.item,
+            Refusal::NotAsked(place) => place.item,
             _ => 0,
         }
     }
