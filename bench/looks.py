@@ -1,6 +1,6 @@
 #!/usr/bin/env python3
 """Times how a side reads blocks after a revoked commitment closed a channel, in processor seconds, without the scenario up to there. Then how a reader of 1,000 open channels reads a block of 3,000
-transactions, beside a reader of one. And how a reader that knows 10,000 preimages reads a close and 100 empty blocks, beside one that knows ten of them.
+transactions, beside a reader of one, and sights of as many. And how a reader that knows 10,000 preimages reads a close and 100 empty blocks, beside one that knows ten of them.
 
   bench/looks.py                    proves and builds what it runs; wants the toolchain's `rt`
   bench/looks.py PROGRAM READER     times these builds of crates/enforce and of bench/programs/reader_costs
@@ -89,11 +89,22 @@ def time_preimages(reader):
     check_bound("100 empty blocks after a close, with 10,000 known preimages to 10", many_after / few_after, 1.5)
 
 
+def time_sights(reader):
+    """Sights of a block of 3,000 transactions for 1,000 open channels, beside a reader. And of a close with 480 HTLCs and the empty blocks after it."""
+    others, took = (numbers(reader, f"{word} 1000")[-1] for word in ("channels", "sights"))
+    print(f"a block of 3,000 transactions, 1,000 open channels: {others / 1e3:.1f} us by a reader, {took / 1e3:.1f} us by sights")
+    check_bound("a block of 3,000 transactions for 1,000 channels, by sights to by a reader", took / others, 1.2)
+    one, many = (numbers(reader, f"after {blocks}")[-1] for blocks in (1, 1000))
+    print(f"sights of a close, {HTLCS} HTLCs: {one / 1e6:.2f} ms with 1 block after it, {many / 1e6:.2f} ms with 1,000")
+    check_bound("sights of 1,000 blocks after a close to one", many / one, 2)
+
+
 def main(words):
     program, reader = words or (built_program("enforce"), built_program("reader_costs"))
     time_looks(program)
     time_channels(reader)
     time_preimages(reader)
+    time_sights(reader)
 
 
 if __name__ == "__main__":

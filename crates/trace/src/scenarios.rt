@@ -26,6 +26,7 @@ mod openings;
 mod outputs;
 mod playing;
 mod pool;
+mod standing;
 mod wishes;
 
 use crate::formats::Form;
@@ -179,11 +180,12 @@ fn refuse_scenario<D: Display>(
     status
 }
 
-// Writes what is wished of a scenario that was read from these bytes, of which `value` is the JSON, and returns the status.
+// Writes what is wished of a scenario that was read from these bytes, of which `value` is the JSON, by a state that is new, and returns the status.
 fn tell_scenario(
     alloc: Global,
     out: &mut dyn Write,
     err: &mut dyn Write,
+    told: &mut Told,
     scenario: &Scenario,
     value: &Value,
     notes: &str,
@@ -195,9 +197,8 @@ fn tell_scenario(
     match World::new(alloc, &scenario.seeds, scenario.channels.values()) {
         Ok(mut world) => {
             let (events, words) = (scenario.events.values(), words_in(value));
-            let mut told = Told::new(alloc);
             let status = tell_world(
-                alloc, out, err, &mut world, &mut told, events, words, notes, wish,
+                alloc, out, err, &mut world, told, events, words, notes, wish,
             );
             world.leak();
             let refused = told.refused.as_slice();
@@ -224,7 +225,12 @@ fn tell_read(
     ensures { result ≤ 1 }
 {
     match Value::from_slice(alloc, bytes) {
-        Ok(value) => tell_scenario(alloc, out, err, scenario, &value, notes, bytes, wish),
+        Ok(value) => match Told::new(alloc) {
+            Ok(mut told) => tell_scenario(
+                alloc, out, err, &mut told, scenario, &value, notes, bytes, wish,
+            ),
+            Err(_) => refuse_memory(out),
+        },
         Err(_) => refuse_memory(out),
     }
 }

@@ -1,9 +1,10 @@
 //! What was written so far, as far as later lines depend on it: the outputs on the chain and the pool, and how to undo the changes of a block that is
 //! disconnected.
 
+use crate::scenarios::standing::Standing;
 use page::Page;
 use page::Piece::{Count, Hash};
-use std::alloc::Global;
+use std::alloc::{AllocError, Global};
 use std::collections::BTreeMap;
 use terms::Side;
 use tx::OutPoint;
@@ -57,6 +58,8 @@ pub struct Told {
     coins: BTreeMap<OutPoint, Coin>,
     changes: Vec<Change>,
     pub waiting: Vec<[u8; 32]>,
+    /// What was read of closes, and the claims on what they pay.
+    pub standing: Standing,
     /// The satoshis on the chain that only A can ever spend, and at once.
     pub of_a: u64,
     /// The same of B.
@@ -71,9 +74,10 @@ pub struct Told {
 }
 
 impl Told {
-    /// Nothing yet. Does not allocate.
-    pub fn new(alloc: Global) -> Told {
-        Told {
+    /// Nothing yet. The only error is that memory ran out.
+    pub fn new(alloc: Global) -> Result<Told, AllocError> {
+        Ok(Told {
+            standing: Standing::new(alloc)?,
             coins: BTreeMap::new(alloc),
             changes: Vec::new(alloc),
             waiting: Vec::new(alloc),
@@ -83,7 +87,7 @@ impl Told {
             refused: Vec::new(alloc),
             told_a: 0,
             told_b: 0,
-        }
+        })
     }
 
     /// The output that was at an outpoint.

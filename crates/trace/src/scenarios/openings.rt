@@ -43,6 +43,7 @@ fn tell_channel(line: &mut Page, told: &mut Told, channel: u64, terms: &Terms) {
         due: 0,
     };
     told.begin(line, &terms.funding, coin);
+    told.standing.open(line, &terms.funding);
 }
 
 /// Writes the opening: the terms of each channel, whose funding outputs are on the chain,

@@ -17,6 +17,15 @@ use std::alloc::{AllocError, Global};
 use std::slice;
 use world::{Outcome, World};
 
+// The channel of an event by which a side may come to know more of it.
+fn talk_of(event: &Event) -> Option<u64> {
+    match *event {
+        Event::Own { channel, .. } | Event::Sign { channel, .. } | Event::Deliver { channel, .. } =>
+            Some(channel),
+        _ => None,
+    }
+}
+
 impl Told {
     // Writes what a reorganisation changed, above this height.
     fn tell_reorganised(&mut self, alloc: Global, line: &mut Page, world: &World, above: u64) {
@@ -26,6 +35,7 @@ impl Told {
         self.back_to(line, above);
         line.push("]");
         tell_mined(alloc, world, self, line, above);
+        self.standing.tell_blocks(line, world, above);
     }
 
     // Writes what an accepted event changed, and at last what it put into the pool. The chain had height `before` when it came.
@@ -60,12 +70,16 @@ impl Told {
             Event::Blocks { .. } => {
                 self.tell_left(line, world.pool());
                 tell_mined(alloc, world, self, line, before);
+                self.standing.tell_blocks(line, world, before);
             }
             Event::Reorg { depth, .. } => {
                 self.tell_reorganised(alloc, line, world, before.saturating_sub(depth))
             }
             Event::Close { side, channel } => tell_closed(line, world, side, channel),
             Event::Broadcast { .. } | Event::BroadcastHtlc { .. } => {}
+        }
+        if let Some(channel) = talk_of(event) {
+            self.standing.tell_channel(line, world, channel);
         }
         self.tell_joined(line, world.pool());
     }
