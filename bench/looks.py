@@ -95,7 +95,7 @@ def time_sights(reader):
     print(f"a block of 3,000 transactions, 1,000 open channels: {others / 1e3:.1f} us by a reader, {took / 1e3:.1f} us by sights")
     check_bound("a block of 3,000 transactions for 1,000 channels, by sights to by a reader", took / others, 1.2)
     one, many = (numbers(reader, f"after {blocks}")[-1] for blocks in (1, 1000))
-    print(f"sights of a close, {HTLCS} HTLCs: {one / 1e6:.2f} ms with 1 block after it, {many / 1e6:.2f} ms with 1,000")
+    print(f"sights of a close, {HTLCS} HTLCs: {one / 1e3:.1f} us with 1 block after it, {many / 1e3:.1f} us with 1,000")
     check_bound("sights of 1,000 blocks after a close to one", many / one, 2)
 
 
