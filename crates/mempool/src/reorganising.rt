@@ -1,6 +1,6 @@
 //! Replaces the newest blocks by others.
 
-ghost use Rattle.std.specs.Prelude.{◌≡◌, ◌||◌, ◌<◌, ◌+◌, ℕ, List, length, OnOk, IfOk, IfErr, MatchResult, Ok, Err};
+ghost use Rattle.std.specs.Prelude.{◌≡◌, ◌||◌, ℕ, List, length, OnOk, IfOk, IfErr, MatchResult, Ok, Err};
 ghost use Rattle.std.specs.List.{list_any};
 ghost use Rattle.std.specs.Str.{bytes_eq};
 ghost use Rattle.std.specs.Ordering.{nat_cmp};
@@ -13,7 +13,7 @@ ghost use Rattle.mempool.specs.Reorganising.{IsRefusal, reorg_refusal, IsTakenOf
 
 use crate::errors::ReorgError;
 use crate::mining::mine;
-use chain::{Block, ChainError, Coins, Index};
+use chain::{ChainError, Coins, Index};
 use std::alloc::{AllocError, Global};
 use std::collections::BTreeSet;
 use tx::{Tx, txid};
@@ -122,14 +122,6 @@ fn branch_of(
     })
 }
 
-// One more than a number of blocks above the first.
-fn one_more(depth: u64, blocks: &[Block]) -> u64
-    requires { depth < length blocks.now }
-    ensures { result ≡ depth + 1 }
-{
-    depth + 1
-}
-
 /// Replaces the newest `depth` blocks of a copy of the chain by one block more. The last `forgotten` of their transactions are forgotten, and the others wait
 /// before those of the pool. Each filling that was ever released and is on neither waits after them. The new blocks then take what the chain allows, as those
 /// of [`mine`](crate::mine()) do. The error is TooDeep where `depth` is 0 or that many blocks cannot be taken off, and NoSuchTx where they hold fewer than
@@ -150,12 +142,9 @@ pub fn reorganise(
         chain: mut branch,
         pool: waiting,
     } = branch_of(alloc, chain, pool, released, depth, forgotten)?;
-    let mined = mine(
-        alloc,
-        &mut branch,
-        &waiting,
-        one_more(depth, chain.blocks()),
-    )?;
+    // The proof learns from the number of blocks that one more can be counted.
+    let _count = chain.blocks().len();
+    let mined = mine(alloc, &mut branch, &waiting, depth + 1)?;
     Ok(Reorganised {
         chain: branch,
         pool: mined.waiting,
