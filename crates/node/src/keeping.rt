@@ -30,10 +30,8 @@ fn keep_set_of<R: Wait>(
         (calls_in seat.old) (calls_in seat.new) }
     ensures err { OnErr result (calls_in seat.new ≡ calls_in seat.old) }
 {
-    match penalties(alloc, patterns, state) {
-        Ok(set) => desk.keep_set(rt, seat, channel, number, set),
-        Err(_) => Err(KeepError::NoMemory),
-    }
+    let set = penalties(alloc, patterns, state)?;
+    desk.keep_set(rt, seat, channel, number, set)
 }
 
 // Keeps the penalties of the peer's revoked commitment of this number.
@@ -52,10 +50,8 @@ fn try_to_keep<R: Wait>(
         (calls_in seat.old) (calls_in seat.new) }
     ensures err { OnErr result (calls_in seat.new ≡ calls_in seat.old) }
 {
-    match desk.revoked(rt, seat, channel, number) {
-        Ok(state) => keep_set_of(rt, alloc, patterns, desk, seat, channel, number, &state),
-        Err(error) => Err(error),
-    }
+    let state = desk.revoked(rt, seat, channel, number)?;
+    keep_set_of(rt, alloc, patterns, desk, seat, channel, number, &state)
 }
 
 /// Keeps the penalties of the peer's revoked commitment of this number, unless the book refuses. Retries until memory suffices.

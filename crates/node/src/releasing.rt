@@ -74,10 +74,8 @@ fn try_to_release<R: Wait>(
     ensures err { OnErr result (calls_in seat.new ≡ calls_in seat.old) }
 {
     let one = [due];
-    match batch_of(alloc, payment, &one, value) {
-        Ok(batch) => filled_by(rt, desk, seat, due.channel, batch),
-        Err(_) => Err(ReleaseError::Unfilled(FillError::NoMemory)),
-    }
+    let batch = batch_of(alloc, payment, &one, value)?;
+    filled_by(rt, desk, seat, due.channel, batch)
 }
 
 // The value of a claim in satoshis, if it can be released.
