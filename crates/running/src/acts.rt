@@ -46,13 +46,10 @@ fn send_message(reply: Reply, inbox: &mut VecDeque<Message>) -> Result<bool, All
     ensures own { IfOk result (λ _. ran_out (reply_form reply) ≡ false) }
 {
     match message_of(reply) {
-        Ok(Some(message)) => match inbox.push_back(message) {
-            Ok(()) => Ok(true),
-            Err(back) => {
-                drop(back);
-                Err(AllocError)
-            }
-        },
+        Ok(Some(message)) => {
+            inbox.push_back(message)?;
+            Ok(true)
+        }
         Ok(None) => Ok(true),
         Err(refused) => {
             let wants = refused.is_out_of_memory();
@@ -180,15 +177,13 @@ fn receive<R: Wait>(
 {
     let reply = side.desk.call(rt, &mut me.seat, call);
     let revoked = revoked_by(&reply);
-    match send_message(reply, inbox) {
-        Ok(true) => {
-            drop(me.inbox.pop_front());
-            put_keep(rt, side, &me.sender, &mut me.pass, channel, revoked);
-            Ok(true)
-        }
-        Ok(false) => Ok(false),
-        Err(error) => Err(error),
+    let is_done = send_message(reply, inbox)?;
+    if !is_done {
+        return Ok(false);
     }
+    drop(me.inbox.pop_front());
+    put_keep(rt, side, &me.sender, &mut me.pass, channel, revoked);
+    Ok(true)
 }
 
 // Receives the oldest message, if there is one.
@@ -204,13 +199,11 @@ fn deliver<R: Wait>(
     ensures delivered { IfOk result (IsDelivered channel (slice_get me.old.inbox.items 0) me.old
         me.new inbox.old.items inbox.new.items) }
 {
-    match me.inbox.front() {
-        Some(message) => match call_of(channel, message) {
-            Ok(call) => receive(rt, side, me, inbox, channel, call),
-            Err(error) => Err(error),
-        },
-        None => Ok(false),
-    }
+    let Some(message) = me.inbox.front() else {
+        return Ok(false);
+    };
+    let call = call_of(channel, message)?;
+    receive(rt, side, me, inbox, channel, call)
 }
 
 /// Does what a side does in a channel; what it sends goes into its peer's inbox. Returns whether it was done and not refused. The only error

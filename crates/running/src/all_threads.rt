@@ -249,13 +249,8 @@ fn prepare_channel_thread(
     ensures b_left { OnOk result (length b.new.seats.items + 1 ≡ length b.old.seats.items) }
 {
     let a = prepare_endpoint(alloc, &shared.a, &closing_seats.a, a)?;
-    match prepare_endpoint(alloc, &shared.b, &closing_seats.b, b) {
-        Ok(b) => Ok(ChannelThread { channel, a, b }),
-        Err(error) => {
-            drop(a);
-            Err(error)
-        }
-    }
+    let b = prepare_endpoint(alloc, &shared.b, &closing_seats.b, b)?;
+    Ok(ChannelThread { channel, a, b })
 }
 
 // What the threads of `count` channels have of their own. The only error is that memory ran out.
@@ -405,7 +400,7 @@ pub(crate) fn prepare_threads(
     let mut a = a;
     let mut b = b;
     let mut board_seats = board_seats;
-    let threads = prepare_threads_from(
+    prepare_threads_from(
         alloc,
         shared,
         closing_seats,
@@ -414,9 +409,5 @@ pub(crate) fn prepare_threads(
         &mut board_seats,
         channels,
         workers,
-    );
-    drop(a);
-    drop(b);
-    drop(board_seats);
-    threads
+    )
 }

@@ -172,11 +172,6 @@ pub(crate) fn open_side<R: Wait>(
     ensures payments { IfOk result (λ o. map (λ k. k.bytes) o.side.payments.items
         ≡ payments_in (replay book)) }
 {
-    match told_by(alloc, &book) {
-        Ok(told) => open_with(rt, alloc, book, told, seats, workers),
-        Err(error) => {
-            drop(book);
-            Err(error)
-        }
-    }
+    let told = told_by(alloc, &book)?;
+    open_with(rt, alloc, book, told, seats, workers)
 }

@@ -180,10 +180,8 @@ fn found_by<R: Wait>(
 ) -> Result<Result<Tx, EventError>, AllocError>
     ensures { IfOk result (IsFoundBy known.now broadcast.now.choice) }
 {
-    match tx_by(rt, alloc, side, known, broadcast) {
-        Ok(tx) => Ok(tx.ok_or(EventError::NoSuchTx)),
-        Err(error) => Err(error),
-    }
+    let tx = tx_by(rt, alloc, side, known, broadcast)?;
+    Ok(tx.ok_or(EventError::NoSuchTx))
 }
 
 // What is broadcast where nothing is known of the channel.
@@ -236,10 +234,10 @@ fn send<R: Wait>(
     ensures { IfOk result (λ outcome. outcome ≡ refusal_by answer) }
 {
     match answer {
-        Ok(tx) => match publish(rt, chain, tx) {
-            Ok(()) => Ok(None),
-            Err(error) => Err(error),
-        },
+        Ok(tx) => {
+            publish(rt, chain, tx)?;
+            Ok(None)
+        }
         Err(error) => Ok(Some(error)),
     }
 }
@@ -258,10 +256,8 @@ fn play_broadcast<R: Wait>(
     ensures since { GoesOn (last_in seat.old) (last_in seat.new) }
     ensures outcome { IfOk result (IsBroadcastOutcome (last_in seat.new) broadcast.now) }
 {
-    match tx_of(rt, alloc, side, seat, broadcast) {
-        Ok(answer) => send(rt, chain, answer),
-        Err(error) => Err(error),
-    }
+    let answer = tx_of(rt, alloc, side, seat, broadcast)?;
+    send(rt, chain, answer)
 }
 
 // Raises the board to the height of the chain and the number of its reorganisations.
@@ -376,10 +372,10 @@ fn play_mining<R: Wait>(
 {
     match reorg_in(event) {
         Some(reorg) => play_reorg(rt, alloc, shared, board_seat, &reorg),
-        None => match play_making(rt, alloc, shared, board_seat, event) {
-            Ok(()) => Ok(None),
-            Err(error) => Err(error),
-        },
+        None => {
+            play_making(rt, alloc, shared, board_seat, event)?;
+            Ok(None)
+        }
     }
 }
 

@@ -142,16 +142,17 @@ fn play_event<R: Wait>(
             refused: 0,
         });
     };
-    match play_turn(rt, shared, channel_thread, &turn) {
-        Ok(true) => Ok(Counts {
+    let is_done = play_turn(rt, shared, channel_thread, &turn)?;
+    if is_done {
+        Ok(Counts {
             played: 1,
             refused: 0,
-        }),
-        Ok(false) => Ok(Counts {
+        })
+    } else {
+        Ok(Counts {
             played: 0,
             refused: 1,
-        }),
-        Err(error) => Err(error),
+        })
     }
 }
 
@@ -184,15 +185,7 @@ fn play_all<R: Wait>(
 fn seat_of(endpoint: Endpoint) -> Seat
     ensures { result ≡ endpoint.seat }
 {
-    let Endpoint {
-        seat,
-        sender,
-        pass,
-        inbox,
-    } = endpoint;
-    drop(sender);
-    drop(pass);
-    drop(inbox);
+    let Endpoint { seat, .. } = endpoint;
     seat
 }
 
@@ -223,11 +216,6 @@ pub(crate) fn play_channel<R: Wait>(
     ensures seats { IfOk result (IsLonePair shared.now) }
 {
     let mut channel_thread = mine;
-    match play_all(rt, shared, events, &mut channel_thread) {
-        Ok(counts) => Ok(give_back(channel_thread, counts)),
-        Err(error) => {
-            drop(channel_thread);
-            Err(error)
-        }
-    }
+    let counts = play_all(rt, shared, events, &mut channel_thread)?;
+    Ok(give_back(channel_thread, counts))
 }

@@ -75,9 +75,7 @@ fn seat_in(served: Served) -> Seat
 {
     match served {
         Served::Worked(_, hands) => {
-            let Hands { seat, place, pass } = hands;
-            drop(place);
-            drop(pass);
+            let Hands { seat, .. } = hands;
             seat
         }
         Served::Watched(seat) => seat,
@@ -111,8 +109,7 @@ fn absorb_chain_seats(
     ensures b { TakesEach shared.now.b.desk closing_seats.old.b (chain_thread.b ∷ [])
         closing_seats.new.b }
 {
-    let ChainThread { a, b, board_seat } = chain_thread;
-    drop(board_seat);
+    let ChainThread { a, b, .. } = chain_thread;
     shared.a.desk.absorb(&mut closing_seats.a, a);
     shared.b.desk.absorb(&mut closing_seats.b, b);
 }

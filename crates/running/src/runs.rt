@@ -102,24 +102,13 @@ fn play_events<R: Threads + Wait + Sync>(
     ensures { IfOk result (HavePlayed shared.now events.now channel_threads.items chain_thread) }
 {
     let mut chain_thread = chain_thread;
-    match play_channels(rt, alloc, shared, events, channel_threads) {
-        Ok(channels) => match play_chain(rt, alloc, shared, events, &mut chain_thread) {
-            Ok(outcomes) => Ok(PlayedEvents {
-                channels,
-                chain_thread,
-                outcomes,
-            }),
-            Err(error) => {
-                drop(channels);
-                drop(chain_thread);
-                Err(error)
-            }
-        },
-        Err(error) => {
-            drop(chain_thread);
-            Err(error)
-        }
-    }
+    let channels = play_channels(rt, alloc, shared, events, channel_threads)?;
+    let outcomes = play_chain(rt, alloc, shared, events, &mut chain_thread)?;
+    Ok(PlayedEvents {
+        channels,
+        chain_thread,
+        outcomes,
+    })
 }
 
 // The same, beside the workers and the watcher of B. The error is that memory ran out, or that a thread could not be started.
@@ -176,7 +165,7 @@ fn run_threads<R: Threads + Wait + Sync, G: Gate + Sync>(
         channel_threads,
         chain_thread,
     } = threads;
-    match run_beside(
+    let ((played, side_threads_b), side_threads_a) = run_beside(
         rt,
         alloc,
         shared,
@@ -202,14 +191,12 @@ fn run_threads<R: Threads + Wait + Sync, G: Gate + Sync>(
                 chain_thread,
             )
         },
-    ) {
-        Ok(((played, side_threads_b), side_threads_a)) => Ok(Returned {
-            played,
-            side_threads_a,
-            side_threads_b,
-        }),
-        Err(error) => Err(error),
-    }
+    )?;
+    Ok(Returned {
+        played,
+        side_threads_a,
+        side_threads_b,
+    })
 }
 
 // Prepares all threads of a node, and runs them. The error is that memory ran out, or that a thread could not be started.
@@ -339,20 +326,10 @@ fn report_of<R: Wait>(
     ensures outcomes { IfOk result (λ r. r.outcomes.items ≡ returned.played.outcomes.items) }
 {
     if shared.chain.has_failed() {
-        drop(shared);
-        drop(closing_seats);
-        drop(returned);
         return Err(AllocError);
     }
-    match counts_of(alloc, &returned.played.channels) {
-        Ok(counts) => Ok(absorb_and_report(rt, shared, closing_seats, returned, counts)),
-        Err(error) => {
-            drop(shared);
-            drop(closing_seats);
-            drop(returned);
-            Err(error)
-        }
-    }
+    let counts = counts_of(alloc, &returned.played.channels)?;
+    Ok(absorb_and_report(rt, shared, closing_seats, returned, counts))
 }
 
 // Runs a node whose sides are opened. The error is that memory ran out, or that a thread could not be started.
@@ -373,56 +350,41 @@ fn run_sides<R: Threads + Wait + Sync, G: Gate + Sync>(
     ensures { IfOk result
         (IsRun (opening_in a.closing_seat) (opening_in b.closing_seat) channels events.now) }
 {
-    match Board::new(alloc, 2 * workers + 3) {
-        Ok((board, board_seats)) => {
-            let Opened {
-                side: side_a,
-                closing_seat: closing_seat_a,
-                resources: resources_a,
-            } = a;
-            let Opened {
-                side: side_b,
-                closing_seat: closing_seat_b,
-                resources: resources_b,
-            } = b;
-            let closing_seats = ClosingSeats {
-                a: closing_seat_a,
-                b: closing_seat_b,
-            };
-            let shared = SharedState {
-                a: side_a,
-                b: side_b,
-                board,
-                chain: SharedChain::new(alloc, chain),
-            };
-            match prepare_and_run(
-                rt,
-                alloc,
-                &shared,
-                &closing_seats,
-                events,
-                channels,
-                workers,
-                gate,
-                resources_a,
-                resources_b,
-                board_seats,
-            ) {
-                Ok(returned) => report_of(rt, alloc, shared, closing_seats, returned),
-                Err(error) => {
-                    drop(shared);
-                    drop(closing_seats);
-                    Err(error)
-                }
-            }
-        }
-        Err(error) => {
-            drop(a);
-            drop(b);
-            drop(chain);
-            Err(error)
-        }
-    }
+    let (board, board_seats) = Board::new(alloc, 2 * workers + 3)?;
+    let Opened {
+        side: side_a,
+        closing_seat: closing_seat_a,
+        resources: resources_a,
+    } = a;
+    let Opened {
+        side: side_b,
+        closing_seat: closing_seat_b,
+        resources: resources_b,
+    } = b;
+    let closing_seats = ClosingSeats {
+        a: closing_seat_a,
+        b: closing_seat_b,
+    };
+    let shared = SharedState {
+        a: side_a,
+        b: side_b,
+        board,
+        chain: SharedChain::new(alloc, chain),
+    };
+    let returned = prepare_and_run(
+        rt,
+        alloc,
+        &shared,
+        &closing_seats,
+        events,
+        channels,
+        workers,
+        gate,
+        resources_a,
+        resources_b,
+        board_seats,
+    )?;
+    report_of(rt, alloc, shared, closing_seats, returned)
 }
 
 /// Plays a scenario in threads: one for each channel, a watcher and `workers` workers for each side, and one for the events of the chain.
@@ -450,19 +412,7 @@ pub fn run_node<R: Threads + Wait + Sync, G: Gate + Sync>(
     let seats = channels + workers + 3;
     let BooksAndChain { a, b, chain } = begin(alloc, scenario)?;
     let events = scenario.events.values();
-    match open_side(rt, alloc, a, seats, workers) {
-        Ok(a) => match open_side(rt, alloc, b, seats, workers) {
-            Ok(b) => run_sides(rt, alloc, events, channels, workers, gate, a, b, chain),
-            Err(error) => {
-                drop(a);
-                drop(chain);
-                Err(error)
-            }
-        },
-        Err(error) => {
-            drop(b);
-            drop(chain);
-            Err(error)
-        }
-    }
+    let a = open_side(rt, alloc, a, seats, workers)?;
+    let b = open_side(rt, alloc, b, seats, workers)?;
+    run_sides(rt, alloc, events, channels, workers, gate, a, b, chain)
 }

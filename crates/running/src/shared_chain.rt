@@ -31,9 +31,7 @@ impl SharedChain {
 
     /// Tells all threads that no block follows.
     pub(crate) fn end<R: Wait>(&self, rt: &R) {
-        let mut pool = self.pool.lock(rt);
-        pool.is_over = true;
-        drop(pool);
+        self.pool.lock(rt).is_over = true;
         self.notify();
     }
 
@@ -58,9 +56,6 @@ impl SharedChain {
     /// The height of the chain. All threads must have ended.
     pub(crate) fn into_height(self) -> u64 {
         let SharedChain { pool, .. } = self;
-        let pool = pool.into_inner();
-        let height = pool.chain.height();
-        drop(pool);
-        height
+        pool.into_inner().chain.height()
     }
 }

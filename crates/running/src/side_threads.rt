@@ -135,13 +135,7 @@ where
             let value = f();
             shared.chain.end(rt);
             let served = join_all(rt, side, threads, served);
-            match value {
-                Ok(value) => Ok((value, served)),
-                Err(error) => {
-                    drop(served);
-                    Err(error)
-                }
-            }
+            Ok((value?, served))
         },
     )
 }

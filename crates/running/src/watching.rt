@@ -75,26 +75,18 @@ fn read_next(
     ensures follows { IfOk result (IsSight (length follower.reader.seen)) }
     ensures next { IfOk result (IsNext height (reverse block.now.transactions) follower) }
 {
-    let channels = match follower.reader.to_ask(alloc, block) {
-        Ok(channels) => channels,
-        Err(error) => {
-            drop(follower);
-            return Err(error);
-        }
-    };
+    let channels = follower.reader.to_ask(alloc, block)?;
     if !channels.is_empty() {
         return Ok(Sight::Asks(follower, channels));
     }
     let Follower { reader, round, .. } = follower;
-    match reader.read(alloc, height, block) {
-        Ok(reader) => Ok(Sight::Read(Follower {
-            reader,
-            round,
-            height,
-            is_done: false,
-        })),
-        Err(error) => Err(error),
-    }
+    let reader = reader.read(alloc, height, block)?;
+    Ok(Sight::Read(Follower {
+        reader,
+        round,
+        height,
+        is_done: false,
+    }))
 }
 
 // The block of a chain at a height, if it is there and not above the top.
@@ -205,18 +197,13 @@ fn answer_follower<R: Wait>(
         height,
         is_done,
     } = before;
-    match answer_each(rt, side, seat, &mut reader, channels) {
-        Ok(()) => Ok(Follower {
-            reader,
-            round,
-            height,
-            is_done,
-        }),
-        Err(error) => {
-            drop(reader);
-            Err(error)
-        }
-    }
+    answer_each(rt, side, seat, &mut reader, channels)?;
+    Ok(Follower {
+        reader,
+        round,
+        height,
+        is_done,
+    })
 }
 
 // ---- what fell due
@@ -281,14 +268,8 @@ fn reader_from<R: Wait>(
         (map (seen_up_to height) watches.items) learnt.items) }
 {
     let mut watches = watches;
-    match teach_and_forget(rt, alloc, side, &mut watches, &learnt, height) {
-        Ok(fundings) => Reader::new(alloc, fundings, watches, learnt),
-        Err(error) => {
-            drop(watches);
-            drop(learnt);
-            Err(error)
-        }
-    }
+    let fundings = teach_and_forget(rt, alloc, side, &mut watches, &learnt, height)?;
+    Reader::new(alloc, fundings, watches, learnt)
 }
 
 // Puts claims as a job, if there are any.
@@ -326,18 +307,13 @@ fn renew_reader<R: Wait>(
         (hand_of watcher.new.pass)) }
 {
     let _shared = shared;
-    match reader.into_parts() {
-        Ok(parts) => {
-            let ReadParts {
-                watches,
-                learnt,
-                due,
-            } = parts;
-            put_claims(rt, side, &watcher.sender, &mut watcher.pass, due);
-            reader_from(rt, alloc, side, watches, learnt, height)
-        }
-        Err(error) => Err(error),
-    }
+    let ReadParts {
+        watches,
+        learnt,
+        due,
+    } = reader.into_parts()?;
+    put_claims(rt, side, &watcher.sender, &mut watcher.pass, due);
+    reader_from(rt, alloc, side, watches, learnt, height)
 }
 
 // ---- the thread
@@ -360,15 +336,13 @@ fn go_back<R: Wait>(
     ensures back { IfOk result (ReadsAgain side.now.fundings.items fork round follower) }
 {
     let Follower { reader, .. } = follower;
-    match renew_reader(rt, alloc, shared, side, watcher, reader, fork) {
-        Ok(reader) => Ok(Follower {
-            reader,
-            round,
-            height: fork,
-            is_done: false,
-        }),
-        Err(error) => Err(error),
-    }
+    let reader = renew_reader(rt, alloc, shared, side, watcher, reader, fork)?;
+    Ok(Follower {
+        reader,
+        round,
+        height: fork,
+        is_done: false,
+    })
 }
 
 // Looks for the next block up to the top, and does what has to be done before it is read. The only error is that memory ran out.
@@ -388,15 +362,15 @@ fn go_on<R: Wait>(
     ensures reads { IfOk result (GoesOnReading side.now.fundings.items
         (last_in watcher.old.seat) (last_in watcher.new.seat) top follower) }
 {
-    match look(rt, alloc, shared, top, follower) {
-        Ok(Sight::Read(follower)) => Ok(follower),
-        Ok(Sight::Asks(follower, channels)) => {
+    let sight = look(rt, alloc, shared, top, follower)?;
+    match sight {
+        Sight::Read(follower) => Ok(follower),
+        Sight::Asks(follower, channels) => {
             answer_follower(rt, side, &mut watcher.seat, follower, &channels)
         }
-        Ok(Sight::Back(follower, fork, round)) => {
+        Sight::Back(follower, fork, round) => {
             go_back(rt, alloc, shared, side, watcher, follower, fork, round)
         }
-        Err(error) => Err(error),
     }
 }
 
@@ -422,15 +396,13 @@ fn wait_for_block<R: Wait>(
         height,
         ..
     } = follower;
-    match renew_reader(rt, alloc, shared, side, watcher, reader, height) {
-        Ok(reader) => Ok(Follower {
-            reader,
-            round,
-            height,
-            is_done: shared.chain.wait_at(rt, round, height),
-        }),
-        Err(error) => Err(error),
-    }
+    let reader = renew_reader(rt, alloc, shared, side, watcher, reader, height)?;
+    Ok(Follower {
+        reader,
+        round,
+        height,
+        is_done: shared.chain.wait_at(rt, round, height),
+    })
 }
 
 // Goes on by one step. It looks at the board first, so that the chain is not locked if nothing is new, and reads up to the height found there. The only error is that memory ran out.
@@ -499,7 +471,6 @@ fn follow<R: Wait>(
     for _ in rt.forever() {
         follower = step(rt, alloc, shared, side, watcher, follower)?;
         if follower.is_done {
-            drop(follower);
             return Ok(());
         }
     }
@@ -522,14 +493,6 @@ pub(crate) fn watch<R: Wait>(
     if follow(rt, alloc, shared, side, &mut watcher).is_err() {
         shared.chain.fail();
     }
-    let Watcher {
-        seat,
-        board_seat,
-        sender,
-        pass,
-    } = watcher;
-    drop(board_seat);
-    drop(sender);
-    drop(pass);
+    let Watcher { seat, .. } = watcher;
     seat
 }
