@@ -1,6 +1,6 @@
 -- What a channel's thread does: a turn of one of its sides, the message that it takes, the job that it puts, and all of its events.
 use Rattle.std.proofs.Common.{◌≡◌, ◌+◌, Bool, true, false, List, [], ◌∷◌, ◌++◌, drop, length, Some, None, Ok, sym, ap, ◌∙◌, refl, subst, arith}
-use Rattle.std.specs.Prelude.{slice_get, option_map}
+use Rattle.std.specs.Prelude.{slice_get}
 use Rattle.std.proofs.lemmas.Bool.{true≢false}
 use Rattle.terms.specs.declared.sides.Side.TheVariants.{A, B}
 use Rattle.channel.specs.declared.messages.Message.{Message}
@@ -17,14 +17,13 @@ use Rattle.desk.specs.Histories.{History}
 use Rattle.desk.specs.Seats.{calls_in, last_in}
 use Rattle.node.specs.declared.work.Job.TheVariants.{Keep}
 use Rattle.running.specs.declared.counts.Counts.{Counts}
-use Rattle.running.specs.Events.{turn_of, turn_in}
-use Rattle.running.specs.Acting.{IsPutOrDropped, IsOwnReply, IsSent, IsReceived, IsIdle, IsMade, IsDelivered, IsActed, HasTurned, IsTurnOf, IsTurn, no_counts, Plays}
+use Rattle.running.specs.Events.{turn_in}
+use Rattle.running.specs.Acting.{IsPutOrDropped, IsOwnReply, IsSent, IsReceived, IsIdle, IsMade, IsDelivered, IsActed, HasTurned, IsTurnOf, no_counts, Plays}
 use Rattle.running.specs.Playing.{PlaysAll, none_left, IsPlayed, ArePlayed, no_more, one_more, IsFirstEndpoint, IsFirstChannelThread}
 use Rattle.running.specs.Reports.{IsCounted}
-use Rattle.safety.proofs.Lists.{some_is}
 use Rattle.law_examples.proofs.Samples.{argument_of}
 
--- an endpoint of a channel, and a channel's thread with both; what its thread gives back; and what it is asked to do
+-- an endpoint of a channel, and a channel's thread with both; and what its thread gives back
 abbrev pub Endpoint : Type 0
 Endpoint = argument_of (IsFirstEndpoint [])
 
@@ -33,16 +32,6 @@ ChannelThread = argument_of (IsFirstChannelThread [] [])
 
 abbrev pub PlayedChannel : Type 0
 PlayedChannel = argument_of IsCounted
-
-abbrev pub Turn : Type 0
-Turn = argument_of IsTurn
-
-abbrev pub Act : Type 0
-Act = argument_of (IsTurnOf A)
-
--- an event asks for this
-abbrev pub Asks : Event → Act → Type 0
-Asks e act = option_map (λ t. t.act) (turn_of e) ≡ Some act
 
 -- ---- endpoints that have made no call
 
@@ -104,22 +93,25 @@ module _ (x y : Endpoint) (inbox newer : List Message) where
   delivered_nothing : IsDelivered 1 None x y inbox newer true → ⊥
   delivered_nothing i = true≢false i.done_is
 
-  module _ (act : Act) where
-    -- a signature and a close are calls in the channel, and take no message
-    -- yes: IsActed
-    signs : Asks (events.Sign B 3) act → IsMade (Signing 3) x y inbox newer true → IsActed 3 act x y inbox newer true
-    signs asks m = subst (λ (a : Act). IsActed 3 a x y inbox newer true) (some_is _ act asks) m
+  -- a signature and a close are calls in the channel, and take no message
+  -- yes: IsActed
+  signs : IsMade (Signing 3) x y inbox newer true → IsActed 3 (events.Sign B 3) x y inbox newer true
+  signs m = m
 
-    -- yes: IsActed
-    closes : Asks (events.Close A 3) act → IsMade (Closing 3) x y inbox newer true → IsActed 3 act x y inbox newer true
-    closes asks m = subst (λ (a : Act). IsActed 3 a x y inbox newer true) (some_is _ act asks) m
+  -- yes: IsActed
+  closes : IsMade (Closing 3) x y inbox newer true → IsActed 3 (events.Close A 3) x y inbox newer true
+  closes m = m
 
-    -- no: IsActed
-    takes_nothing : Asks (events.Deliver A 3) act → x.inbox.items ≡ [] → IsActed 3 act x y inbox newer true → ⊥
-    takes_nothing asks e a =
-        let d : IsDelivered 3 (slice_get x.inbox.items 0) x y inbox newer true = subst (λ (b : Act). IsActed 3 b x y inbox newer true) (sym (some_is _ act asks)) a in
-        let i : IsDelivered 3 None x y inbox newer true = subst (λ (ms : List Message). IsDelivered 3 (slice_get ms 0) x y inbox newer true) e d in
-        true≢false i.done_is
+  -- no: IsActed
+  takes_nothing : x.inbox.items ≡ [] → IsActed 3 (events.Deliver A 3) x y inbox newer true → ⊥
+  takes_nothing e d =
+      let i : IsDelivered 3 None x y inbox newer true = subst (λ (ms : List Message). IsDelivered 3 (slice_get ms 0) x y inbox newer true) e d in
+      true≢false i.done_is
+
+  -- nor is a block an act of a side
+  -- no: IsActed
+  makes_blocks : IsActed 3 (events.Blocks 6) x y inbox newer true → ⊥
+  makes_blocks i = true≢false i.done_is
 
 -- ---- turns
 
@@ -132,51 +124,51 @@ module _ (l m : ChannelThread) where
   first_channel_thread : (h i : History) → IsFirstEndpoint h l.a → IsFirstEndpoint i l.b → IsFirstChannelThread h i l
   first_channel_thread h i a b = record { a_first = a; b_first = b }
 
-  module _ (act : Act) where
+  module _ (event : Event) where
     -- B's turn: of A the inbox alone changes
     -- yes: HasTurned
-    turned : IsActed 1 act l.b m.b l.a.inbox.items m.a.inbox.items true → m.a.seat ≡ l.a.seat → hand_of m.a.pass ≡ hand_of l.a.pass → HasTurned 1 act l.b m.b l.a m.a true
+    turned : IsActed 1 event l.b m.b l.a.inbox.items m.a.inbox.items true → m.a.seat ≡ l.a.seat → hand_of m.a.pass ≡ hand_of l.a.pass → HasTurned 1 event l.b m.b l.a m.a true
     turned a s j = record { acted = a; seat = s; jobs = j }
 
     -- no: HasTurned
-    peer_called : calls_in l.a.seat ≡ [] → length (calls_in m.a.seat) ≡ 1 → HasTurned 1 act l.b m.b l.a m.a true → ⊥
+    peer_called : calls_in l.a.seat ≡ [] → length (calls_in m.a.seat) ≡ 1 → HasTurned 1 event l.b m.b l.a m.a true → ⊥
     peer_called e f t =
         let g = ap length e in
         let h = ap (λ (s : Seat). length (calls_in s)) t.seat in
         omega (arith, f, g, h)
 
-    -- yes: IsTurn, IsTurnOf
-    turn_of_b : HasTurned l.channel act l.b m.b l.a m.a true → IsTurn (record { side = B; channel = 1; act = act }) l m true × IsTurnOf B act l m true
-    turn_of_b t = (t, t)
+    -- yes: IsTurnOf
+    turn_of_b : HasTurned l.channel event l.b m.b l.a m.a true → IsTurnOf B event l m true
+    turn_of_b t = t
 
-    -- no: IsTurn, IsTurnOf
-    not_of_a : calls_in l.b.seat ≡ [] → length (calls_in m.b.seat) ≡ 1 → IsTurn (record { side = A; channel = 1; act = act }) l m true × IsTurnOf A act l m true → ⊥
+    -- no: IsTurnOf
+    not_of_a : calls_in l.b.seat ≡ [] → length (calls_in m.b.seat) ≡ 1 → IsTurnOf A event l m true → ⊥
     not_of_a e f t =
         let g = ap length e in
-        let h = ap (λ (s : Seat). length (calls_in s)) t.0.seat in
+        let h = ap (λ (s : Seat). length (calls_in s)) t.seat in
         omega (arith, f, g, h)
 
-    -- a turn of channel 1 is one of it, and none of channel 0
-    -- yes: Plays
-    plays_turn : Asks (events.Sign B 1) act → IsTurnOf B act l m true → Plays (turn_in 1 (events.Sign B 1)) l m (record { played = 1; refused = 0 })
-    plays_turn asks t = (true, subst (λ (a : Act). IsTurnOf B a l m true) (sym (some_is _ act asks)) t, refl)
-
-    -- yes: Plays
-    refuses_turn : Asks (events.Close B 1) act → IsTurnOf B act l m false → Plays (turn_in 1 (events.Close B 1)) l m (record { played = 0; refused = 1 })
-    refuses_turn asks t = (false, subst (λ (a : Act). IsTurnOf B a l m false) (sym (some_is _ act asks)) t, refl)
+  -- a turn of channel 1 is one of it, and none of channel 0
+  -- yes: Plays
+  plays_turn : IsTurnOf B (events.Sign B 1) l m true → Plays (turn_in 1 (events.Sign B 1)) (events.Sign B 1) l m (record { played = 1; refused = 0 })
+  plays_turn t = (true, t, refl)
 
   -- yes: Plays
-  plays_nothing : Plays (turn_in 0 (events.Sign B 1)) l l no_counts
+  refuses_turn : IsTurnOf B (events.Close B 1) l m false → Plays (turn_in 1 (events.Close B 1)) (events.Close B 1) l m (record { played = 0; refused = 1 })
+  refuses_turn t = (false, t, refl)
+
+  -- yes: Plays
+  plays_nothing : Plays (turn_in 0 (events.Sign B 1)) (events.Sign B 1) l l no_counts
   plays_nothing = (refl, refl)
 
   -- no: Plays
-  plays_uncounted : (t : Turn) → Plays (Some t) l m no_counts → ⊥
-  plays_uncounted t (true, turn, e) = let n : 0 ≡ 1 = ap (λ (c : Counts). c.played) e in omega (arith, n)
-  plays_uncounted t (false, turn, e) = let n : 0 ≡ 1 = ap (λ (c : Counts). c.refused) e in omega (arith, n)
+  plays_uncounted : Plays (turn_in 1 (events.Sign B 1)) (events.Sign B 1) l m no_counts → ⊥
+  plays_uncounted (true, turn, e) = let n : 0 ≡ 1 = ap (λ (c : Counts). c.played) e in omega (arith, n)
+  plays_uncounted (false, turn, e) = let n : 0 ≡ 1 = ap (λ (c : Counts). c.refused) e in omega (arith, n)
 
   -- no: Plays
-  counts_no_turn : Plays None l m (record { played = 1; refused = 0 }) → ⊥
-  counts_no_turn p = let n : 1 ≡ 0 = ap (λ (c : Counts). c.played) p.1 in omega (arith, n)
+  counts_no_turn : (e : Event) → Plays None e l m (record { played = 1; refused = 0 }) → ⊥
+  counts_no_turn e p = let n : 1 ≡ 0 = ap (λ (c : Counts). c.played) p.1 in omega (arith, n)
 
   -- two channels, each from its own endpoints
   -- yes: ArePlayed

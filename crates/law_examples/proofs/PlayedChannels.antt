@@ -20,8 +20,8 @@ use Rattle.running.specs.Events.{turn_in, count_of, turns_at, turns_in}
 use Rattle.running.specs.Acting.{IsMade, IsTurnOf, no_counts, Plays}
 use Rattle.running.specs.Playing.{sum_of, PlaysAll, IsPlayed, ArePlayed, IsFirstChannelThread, AreAllPlayed}
 use Rattle.running.specs.Reports.{total_of}
-use Rattle.safety.proofs.Lists.{some_is}
-use Rattle.law_examples.proofs.ChannelThreads.{Endpoint, ChannelThread, PlayedChannel, Turn, Act, Asks}
+use Rattle.law_examples.proofs.Samples.{argument_of}
+use Rattle.law_examples.proofs.ChannelThreads.{Endpoint, ChannelThread, PlayedChannel}
 
 abbrev by : ℕ → Call → Entry
 by seat call = record { seat = seat; call = call }
@@ -35,28 +35,22 @@ counts_of played refused = record { played = played; refused = refused }
 abbrev three_turns : List Event
 three_turns = events.Sign B 4 ∷ events.Blocks 6 ∷ events.Sign A 4 ∷ events.Sign B 2 ∷ events.Close A 4 ∷ []
 
-module _ (j l m n : ChannelThread) (sign close : Act) (signing : Asks (events.Sign B 4) sign) (closing : Asks (events.Close A 4) close) (of_j : j.channel ≡ 4) (of_l : l.channel ≡ 4) (of_m : m.channel ≡ 4) (of_n : n.channel ≡ 4) where
+module _ (j l m n : ChannelThread) (of_j : j.channel ≡ 4) (of_l : l.channel ≡ 4) (of_m : m.channel ≡ 4) (of_n : n.channel ≡ 4) where
   -- an event of no turn of the channel
-  passes : (e : Event) (x : ChannelThread) → x.channel ≡ 4 → Plays (turn_in 4 e) x x no_counts → Plays (turn_in x.channel e) x x no_counts
-  passes e x of_x p = subst (λ (c : ℕ). Plays (turn_in c e) x x no_counts) (sym of_x) p
+  passes : (e : Event) (x : ChannelThread) → x.channel ≡ 4 → Plays (turn_in 4 e) e x x no_counts → Plays (turn_in x.channel e) e x x no_counts
+  passes e x of_x p = subst (λ (c : ℕ). Plays (turn_in c e) e x x no_counts) (sym of_x) p
 
-  b_signs : IsTurnOf B sign j l true → Plays (turn_in j.channel (events.Sign B 4)) j l (counts_of 1 0)
-  b_signs t =
-      subst (λ (c : ℕ). Plays (turn_in c (events.Sign B 4)) j l (counts_of 1 0)) (sym of_j)
-      (true, subst (λ (a : Act). IsTurnOf B a j l true) (sym (some_is _ sign signing)) t, refl)
+  b_signs : IsTurnOf B (events.Sign B 4) j l true → Plays (turn_in j.channel (events.Sign B 4)) (events.Sign B 4) j l (counts_of 1 0)
+  b_signs t = subst (λ (c : ℕ). Plays (turn_in c (events.Sign B 4)) (events.Sign B 4) j l (counts_of 1 0)) (sym of_j) (true, t, refl)
 
-  a_signs : IsTurnOf A sign l m true → Plays (turn_in l.channel (events.Sign A 4)) l m (counts_of 1 0)
-  a_signs t =
-      subst (λ (c : ℕ). Plays (turn_in c (events.Sign A 4)) l m (counts_of 1 0)) (sym of_l)
-      (true, subst (λ (a : Act). IsTurnOf A a l m true) (sym (some_is _ sign signing)) t, refl)
+  a_signs : IsTurnOf A (events.Sign A 4) l m true → Plays (turn_in l.channel (events.Sign A 4)) (events.Sign A 4) l m (counts_of 1 0)
+  a_signs t = subst (λ (c : ℕ). Plays (turn_in c (events.Sign A 4)) (events.Sign A 4) l m (counts_of 1 0)) (sym of_l) (true, t, refl)
 
-  a_is_refused : IsTurnOf A close m n false → Plays (turn_in m.channel (events.Close A 4)) m n (counts_of 0 1)
-  a_is_refused t =
-      subst (λ (c : ℕ). Plays (turn_in c (events.Close A 4)) m n (counts_of 0 1)) (sym of_m)
-      (false, subst (λ (a : Act). IsTurnOf A a m n false) (sym (some_is _ close closing)) t, refl)
+  a_is_refused : IsTurnOf A (events.Close A 4) m n false → Plays (turn_in m.channel (events.Close A 4)) (events.Close A 4) m n (counts_of 0 1)
+  a_is_refused t = subst (λ (c : ℕ). Plays (turn_in c (events.Close A 4)) (events.Close A 4) m n (counts_of 0 1)) (sym of_m) (false, t, refl)
 
   -- yes: PlaysAll
-  three_in_order : IsTurnOf B sign j l true → IsTurnOf A sign l m true → IsTurnOf A close m n false → PlaysAll three_turns j n (counts_of 2 1)
+  three_in_order : IsTurnOf B (events.Sign B 4) j l true → IsTurnOf A (events.Sign A 4) l m true → IsTurnOf A (events.Close A 4) m n false → PlaysAll three_turns j n (counts_of 2 1)
   three_in_order s t u =
       PlaysAll.played (events.Sign B 4) (events.Blocks 6 ∷ events.Sign A 4 ∷ events.Sign B 2 ∷ events.Close A 4 ∷ []) j l n (counts_of 1 0) (counts_of 1 1) (of_l ∙ sym of_j) (b_signs s)
       (PlaysAll.played (events.Blocks 6) (events.Sign A 4 ∷ events.Sign B 2 ∷ events.Close A 4 ∷ []) l l n no_counts (counts_of 1 1) refl (passes (events.Blocks 6) l of_l (refl, refl))
@@ -72,7 +66,7 @@ module _ (j l m n : ChannelThread) (sign close : Act) (signing : Asks (events.Si
 -- ---- what two events come to
 
 first_played : (e : Event) (es : List Event) (l n : ChannelThread) (k : Counts) → PlaysAll (e ∷ es) l n k
-    → (m : ChannelThread) × (c : Counts) × (more : Counts) × (m.channel ≡ l.channel) × Plays (turn_in l.channel e) l m c × PlaysAll es m n more × (k ≡ sum_of c more)
+    → (m : ChannelThread) × (c : Counts) × (more : Counts) × (m.channel ≡ l.channel) × Plays (turn_in l.channel e) e l m c × PlaysAll es m n more × (k ≡ sum_of c more)
 first_played e es l n k (PlaysAll.played f fs before between after counts more same one rest) = (between, counts, more, same, one, rest, refl)
 
 none_played : (l n : ChannelThread) (k : Counts) → PlaysAll [] l n k → (n ≡ l) × (k ≡ no_counts)
@@ -92,15 +86,15 @@ counted done = if done then counts_of 1 0 else counts_of 0 1
 abbrev Calls : Call → ChannelThread → ChannelThread → Counts → Type 0
 Calls call l m c = (done : Bool) × (calls_in m.b.seat ≡ extended done (calls_in l.b.seat) (number_in l.b.seat) call) × (c ≡ counted done)
 
-signs : (l m : ChannelThread) (c : Counts) → l.channel ≡ 4 → Plays (turn_in l.channel (events.Sign B 4)) l m c → Calls (Signing 4) l m c
+signs : (l m : ChannelThread) (c : Counts) → l.channel ≡ 4 → Plays (turn_in l.channel (events.Sign B 4)) (events.Sign B 4) l m c → Calls (Signing 4) l m c
 signs l m c of_l p =
-    let q : Plays (turn_in 4 (events.Sign B 4)) l m c = subst (λ (n : ℕ). Plays (turn_in n (events.Sign B 4)) l m c) of_l p in
+    let q : Plays (turn_in 4 (events.Sign B 4)) (events.Sign B 4) l m c = subst (λ (n : ℕ). Plays (turn_in n (events.Sign B 4)) (events.Sign B 4) l m c) of_l p in
     let made : IsMade (Signing 4) l.b m.b l.a.inbox.items m.a.inbox.items q.0 = subst (λ (n : ℕ). IsMade (Signing n) l.b m.b l.a.inbox.items m.a.inbox.items q.0) of_l q.1.acted in
     (q.0, called (Signing 4) l.b m.b l.a.inbox.items m.a.inbox.items q.0 made, q.2)
 
-closes : (l m : ChannelThread) (c : Counts) → l.channel ≡ 4 → Plays (turn_in l.channel (events.Close B 4)) l m c → Calls (Closing 4) l m c
+closes : (l m : ChannelThread) (c : Counts) → l.channel ≡ 4 → Plays (turn_in l.channel (events.Close B 4)) (events.Close B 4) l m c → Calls (Closing 4) l m c
 closes l m c of_l p =
-    let q : Plays (turn_in 4 (events.Close B 4)) l m c = subst (λ (n : ℕ). Plays (turn_in n (events.Close B 4)) l m c) of_l p in
+    let q : Plays (turn_in 4 (events.Close B 4)) (events.Close B 4) l m c = subst (λ (n : ℕ). Plays (turn_in n (events.Close B 4)) (events.Close B 4) l m c) of_l p in
     let made : IsMade (Closing 4) l.b m.b l.a.inbox.items m.a.inbox.items q.0 = subst (λ (n : ℕ). IsMade (Closing n) l.b m.b l.a.inbox.items m.a.inbox.items q.0) of_l q.1.acted in
     (q.0, called (Closing 4) l.b m.b l.a.inbox.items m.a.inbox.items q.0 made, q.2)
 
@@ -183,16 +177,20 @@ module _ (l : ChannelThread) (p : PlayedChannel) where
 
 -- ---- all channels
 
-plays_total : (t : Option Turn) (l m : ChannelThread) (k : Counts) → Plays t l m k → total_of k ≡ count_of t
-plays_total None l m k is = ap total_of is.1
-plays_total (Some turn) l m k (true, turned, is) = ap total_of is
-plays_total (Some turn) l m k (false, turned, is) = ap total_of is
+-- a turn, if there is one
+abbrev TurnOrNone : Type 0
+TurnOrNone = argument_of Plays
+
+plays_total : (t : TurnOrNone) (e : Event) (l m : ChannelThread) (k : Counts) → Plays t e l m k → total_of k ≡ count_of t
+plays_total None e l m k is = ap total_of is.1
+plays_total (Some turn) e l m k (true, turned, is) = ap total_of is
+plays_total (Some turn) e l m k (false, turned, is) = ap total_of is
 
 -- as many were counted as there are events of the channel
 all_total : (es : List Event) (l n : ChannelThread) (k : Counts) → PlaysAll es l n k → total_of k ≡ turns_in l.channel es
 all_total es l n k (PlaysAll.none_left channel_thread) = refl
 all_total es l n k (PlaysAll.played e rest first between last counts more same one others) =
-    let here : total_of counts ≡ turns_at first.channel e = plays_total (turn_in first.channel e) first between counts one in
+    let here : total_of counts ≡ turns_at first.channel e = plays_total (turn_in first.channel e) e first between counts one in
     let later : total_of more ≡ turns_in first.channel rest = all_total rest between last more others ∙ ap (λ (c : ℕ). turns_in c rest) same in
     omega (arith, here, later)
 

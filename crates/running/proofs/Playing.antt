@@ -55,7 +55,7 @@ GoesOnFrom es i first l so = (more : Counts) (after : ChannelThread) → PlaysAl
 pub played_first : (es : List Event) (first : ChannelThread) → GoesOnFrom es 0 first first no_counts
 played_first es first more after all = subst (λ (s : Counts). PlaysAll es first after s) (sym (none_sum more)) all
 
-pub played_next : (es : List Event) (i : ℕ) (d e : Event) (first l m : ChannelThread) (so k now : Counts) → i < length es → e ≡ get_or es i d → m.channel ≡ l.channel → Plays (turn_in l.channel e) l m k
+pub played_next : (es : List Event) (i : ℕ) (d e : Event) (first l m : ChannelThread) (so k now : Counts) → i < length es → e ≡ get_or es i d → m.channel ≡ l.channel → Plays (turn_in l.channel e) e l m k
     → now ≡ sum_of so k → GoesOnFrom es i first l so → GoesOnFrom es (i + 1) first m now
 played_next es i d e first l m so k now low is same one sum was more after rest =
     let here : drop i es ≡ e ∷ drop (i + 1) es =
@@ -71,15 +71,15 @@ all_played es i first l so past was =
 
 -- ---- how many they are
 
-plays_total : (t : Option Turn) (before after : ChannelThread) (k : Counts) → Plays t before after k → total_of k ≡ count_of t
-plays_total None before after k is = ap total_of is.1
-plays_total (Some turn) before after k (true, turned, is) = ap total_of is
-plays_total (Some turn) before after k (false, turned, is) = ap total_of is
+plays_total : (t : Option Turn) (e : Event) (before after : ChannelThread) (k : Counts) → Plays t e before after k → total_of k ≡ count_of t
+plays_total None e before after k is = ap total_of is.1
+plays_total (Some turn) e before after k (true, turned, is) = ap total_of is
+plays_total (Some turn) e before after k (false, turned, is) = ap total_of is
 
 all_total : (es : List Event) (before after : ChannelThread) (k : Counts) → PlaysAll es before after k → total_of k ≡ turns_in before.channel es
 all_total es before after k (PlaysAll.none_left channel_thread) = refl
 all_total es before after k (PlaysAll.played e rest first between last counts more same one others) =
-    let here : total_of counts ≡ turns_at first.channel e = plays_total (turn_in first.channel e) first between counts one in
+    let here : total_of counts ≡ turns_at first.channel e = plays_total (turn_in first.channel e) e first between counts one in
     let later : total_of more ≡ turns_in first.channel rest = all_total rest between last more others ∙ ap (λ (c : ℕ). turns_in c rest) same in
     let sum : total_of (sum_of counts more) ≡ total_of counts + total_of more = omega arith in
     sum ∙ ap (λ (n : ℕ). n + total_of more) here ∙ ap (λ (n : ℕ). turns_at first.channel e + n) later

@@ -8,6 +8,7 @@ use Rattle.channel.specs.Tokens.{peer_tokens}
 use Rattle.terms.specs.declared.sides.Side.{Side}
 use Rattle.terms.specs.declared.sides.Side.TheVariants as sides
 use Rattle.scenario.specs.declared.events.Event.{Event}
+use Rattle.scenario.specs.declared.events.Event.TheVariants as events
 use Rattle.book.specs.declared.calls.Entry.{Entry}
 use Rattle.book.specs.declared.calls.Call.{Call}
 use Rattle.book.specs.declared.calls.Call.TheVariants.{Step as Stepping, Sign as Signing, Close as Closing}
@@ -17,15 +18,13 @@ use Rattle.desk.specs.Histories.{History}
 use Rattle.desk.specs.declared.desk.Seat.{Seat}
 use Rattle.desk.specs.Seats.{number_in, calls_in}
 use Rattle.book.specs.Acts.{call_of}
-use Rattle.running.specs.declared.acts.Act.{Act}
-use Rattle.running.specs.declared.acts.Act.TheVariants.{Update, Sign, Deliver, Close}
 use Rattle.running.specs.declared.endpoints.Endpoint.{Endpoint}
 use Rattle.running.specs.declared.channel_thread.ChannelThread.{ChannelThread}
 use Rattle.running.specs.declared.channel_thread.PlayedChannel.{PlayedChannel}
 use Rattle.running.specs.declared.channel_thread.Turn.{Turn}
 use Rattle.running.specs.declared.counts.Counts.{Counts}
 use Rattle.running.specs.Events.{turn_in}
-use Rattle.running.specs.Acting.{IsOwnReply, IsMade, IsDelivered, IsActed, IsTurnOf, Plays}
+use Rattle.running.specs.Acting.{IsOwnReply, IsIdle, IsMade, IsDelivered, IsActed, IsTurnOf, Plays}
 use Rattle.running.specs.Playing.{PlaysAll, IsPlayed, ArePlayed, IsFirstChannelThread}
 use Rattle.running.specs.Reports.{IsTurns, AreTurns, MakesTurns}
 
@@ -43,31 +42,42 @@ message_turns channel (RevokeAndAck revocation) = tt
 made_turns : (call : Call) (e f : Endpoint) (inbox newer : List Message) (done : Bool) → IsTurns call → IsMade call e f inbox newer done → AreTurns (calls_in e.seat) → AreTurns (calls_in f.seat)
 made_turns call e f inbox newer done turns is all = own_turns call e.seat f.seat is.sent.reply turns is.sent.answered all
 
+idle_turns : (e f : Endpoint) (inbox newer : List Message) (done : Bool) → IsIdle e f inbox newer done → AreTurns (calls_in e.seat) → AreTurns (calls_in f.seat)
+idle_turns e f inbox newer done is all = subst (λ (x : Endpoint). AreTurns (calls_in x.seat)) (sym is.same) all
+
 delivered_turns : (channel : ℕ) (m : Option Message) (e f : Endpoint) (inbox newer : List Message) (done : Bool) → IsDelivered channel m e f inbox newer done → AreTurns (calls_in e.seat) → AreTurns (calls_in f.seat)
-delivered_turns channel None e f inbox newer done is all = subst (λ (x : Endpoint). AreTurns (calls_in x.seat)) (sym is.same) all
+delivered_turns channel None e f inbox newer done is all = idle_turns e f inbox newer done is all
 delivered_turns channel (Some message) e f inbox newer done is all = own_turns (call_of channel message) e.seat f.seat is.reply (message_turns channel message) is.answered all
 
-acted_turns : (channel : ℕ) (act : Act) (e f : Endpoint) (inbox newer : List Message) (done : Bool) → IsActed channel act e f inbox newer done → AreTurns (calls_in e.seat) → AreTurns (calls_in f.seat)
-acted_turns channel (Update u) e f inbox newer done is all = made_turns (Stepping channel (Own u)) e f inbox newer done tt is all
-acted_turns channel Sign e f inbox newer done is all = made_turns (Signing channel) e f inbox newer done tt is all
-acted_turns channel Deliver e f inbox newer done is all = delivered_turns channel (slice_get e.inbox.items 0) e f inbox newer done is all
-acted_turns channel Close e f inbox newer done is all = made_turns (Closing channel) e f inbox newer done tt is all
+acted_turns : (channel : ℕ) (event : Event) (e f : Endpoint) (inbox newer : List Message) (done : Bool) → IsActed channel event e f inbox newer done → AreTurns (calls_in e.seat) → AreTurns (calls_in f.seat)
+acted_turns channel (events.Own s c u) e f inbox newer done is all = made_turns (Stepping channel (Own u)) e f inbox newer done tt is all
+acted_turns channel (events.Sign s c) e f inbox newer done is all = made_turns (Signing channel) e f inbox newer done tt is all
+acted_turns channel (events.Deliver s c) e f inbox newer done is all = delivered_turns channel (slice_get e.inbox.items 0) e f inbox newer done is all
+acted_turns channel (events.Close s c) e f inbox newer done is all = made_turns (Closing channel) e f inbox newer done tt is all
+acted_turns channel (events.Keep s c n) e f inbox newer done is all = idle_turns e f inbox newer done is all
+acted_turns channel (events.Broadcast s c n) e f inbox newer done is all = idle_turns e f inbox newer done is all
+acted_turns channel (events.BroadcastHtlc s c n h) e f inbox newer done is all = idle_turns e f inbox newer done is all
+acted_turns channel (events.Blocks n) e f inbox newer done is all = idle_turns e f inbox newer done is all
+acted_turns channel (events.Look s) e f inbox newer done is all = idle_turns e f inbox newer done is all
+acted_turns channel (events.Take s n) e f inbox newer done is all = idle_turns e f inbox newer done is all
+acted_turns channel (events.Release s n) e f inbox newer done is all = idle_turns e f inbox newer done is all
+acted_turns channel (events.Reorg d n) e f inbox newer done is all = idle_turns e f inbox newer done is all
 
 abbrev ThreadTurns : ChannelThread → Type 0
 ThreadTurns l = AreTurns (calls_in l.a.seat) × AreTurns (calls_in l.b.seat)
 
-turn_turns : (side : Side) (act : Act) (l m : ChannelThread) (done : Bool) → IsTurnOf side act l m done → ThreadTurns l → ThreadTurns m
-turn_turns sides.A act l m done is all = (acted_turns l.channel act l.a m.a l.b.inbox.items m.b.inbox.items done is.acted all.0, subst (λ (s : Seat). AreTurns (calls_in s)) (sym is.seat) all.1)
-turn_turns sides.B act l m done is all = (subst (λ (s : Seat). AreTurns (calls_in s)) (sym is.seat) all.0, acted_turns l.channel act l.b m.b l.a.inbox.items m.a.inbox.items done is.acted all.1)
+turn_turns : (side : Side) (event : Event) (l m : ChannelThread) (done : Bool) → IsTurnOf side event l m done → ThreadTurns l → ThreadTurns m
+turn_turns sides.A event l m done is all = (acted_turns l.channel event l.a m.a l.b.inbox.items m.b.inbox.items done is.acted all.0, subst (λ (s : Seat). AreTurns (calls_in s)) (sym is.seat) all.1)
+turn_turns sides.B event l m done is all = (subst (λ (s : Seat). AreTurns (calls_in s)) (sym is.seat) all.0, acted_turns l.channel event l.b m.b l.a.inbox.items m.a.inbox.items done is.acted all.1)
 
-plays_turns : (t : Option Turn) (l m : ChannelThread) (k : Counts) → Plays t l m k → ThreadTurns l → ThreadTurns m
-plays_turns None l m k is all = subst ThreadTurns (sym is.0) all
-plays_turns (Some turn) l m k (done, turned, is) all = turn_turns turn.side turn.act l m done turned all
+plays_turns : (t : Option Turn) (event : Event) (l m : ChannelThread) (k : Counts) → Plays t event l m k → ThreadTurns l → ThreadTurns m
+plays_turns None event l m k is all = subst ThreadTurns (sym is.0) all
+plays_turns (Some turn) event l m k (done, turned, is) all = turn_turns turn.side event l m done turned all
 
 all_turns_made : (es : List Event) (l m : ChannelThread) (k : Counts) → PlaysAll es l m k → ThreadTurns l → ThreadTurns m
 all_turns_made es l m k (PlaysAll.none_left channel_thread) all = all
 all_turns_made es l m k (PlaysAll.played e rest first between last counts more same one others) all =
-    all_turns_made rest between last more others (plays_turns (turn_in first.channel e) first between counts one all)
+    all_turns_made rest between last more others (plays_turns (turn_in first.channel e) e first between counts one all)
 
 none_made : (s : Seat) → calls_in s ≡ [] → AreTurns (calls_in s)
 none_made s none = subst AreTurns (sym none) (All-nil (λ (e : Entry). IsTurns e.call))

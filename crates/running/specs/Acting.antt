@@ -8,6 +8,8 @@ use Rattle.book.specs.declared.calls.Call.TheVariants.{Step as Stepping, Sign as
 use Rattle.book.specs.Replies.{Reply, opened, stepped, signed, revoked, kept, released, closed, is_accepted, reply_of, history_after}
 use Rattle.terms.specs.declared.sides.Side.{Side}
 use Rattle.terms.specs.declared.sides.Side.TheVariants as sides
+use Rattle.scenario.specs.declared.events.Event.{Event}
+use Rattle.scenario.specs.declared.events.Event.TheVariants as events
 use Rattle.jobs.specs.declared.rule.Hand.{Hand}
 use Rattle.jobs.specs.Steps.{IsPut}
 use Rattle.jobs.specs.Ends.{hand_of}
@@ -19,8 +21,6 @@ use Rattle.node.specs.declared.work.Job.{Job}
 use Rattle.node.specs.declared.work.Job.TheVariants.{Keep, Claims}
 use Rattle.side.specs.declared.due.DueClaim.{DueClaim}
 use Rattle.book.specs.Acts.{call_of, messages_in}
-use Rattle.running.specs.declared.acts.Act.{Act}
-use Rattle.running.specs.declared.acts.Act.TheVariants.{Update, Sign, Deliver, Close}
 use Rattle.running.specs.declared.endpoints.Endpoint.{Endpoint}
 use Rattle.running.specs.declared.channel_thread.ChannelThread.{ChannelThread}
 use Rattle.running.specs.declared.channel_thread.Turn.{Turn}
@@ -104,33 +104,31 @@ abbrev pub IsDelivered : ℕ → Option Message → Endpoint → Endpoint → Li
 IsDelivered channel None before after inbox newer done = IsIdle before after inbox newer done
 IsDelivered channel (Some message) before after inbox newer done = IsReceived channel (call_of channel message) before after inbox newer done
 
--- What a side does in a channel. `done` says whether its call was accepted.
-abbrev pub IsActed : ℕ → Act → Endpoint → Endpoint → List Message → List Message → Bool → Type 0
-IsActed channel (Update update) before after inbox newer done = IsMade (Stepping channel (Own update)) before after inbox newer done
-IsActed channel Sign before after inbox newer done = IsMade (Signing channel) before after inbox newer done
-IsActed channel Deliver before after inbox newer done = IsDelivered channel (slice_get before.inbox.items 0) before after inbox newer done
-IsActed channel Close before after inbox newer done = IsMade (Closing channel) before after inbox newer done
+-- What a side does in a channel on an event. `done` says whether its call was accepted.
+abbrev pub IsActed : ℕ → Event → Endpoint → Endpoint → List Message → List Message → Bool → Type 0
+IsActed channel (events.Own s c update) before after inbox newer done = IsMade (Stepping channel (Own update)) before after inbox newer done
+IsActed channel (events.Sign s c) before after inbox newer done = IsMade (Signing channel) before after inbox newer done
+IsActed channel (events.Deliver s c) before after inbox newer done = IsDelivered channel (slice_get before.inbox.items 0) before after inbox newer done
+IsActed channel (events.Close s c) before after inbox newer done = IsMade (Closing channel) before after inbox newer done
+IsActed channel event before after inbox newer done = IsIdle before after inbox newer done
 
 -- ---- the events of a channel
 
--- one side does what its turn asks for, and of the other side nothing but its inbox changes
-pub record HasTurned (channel : ℕ) (act : Act) (me after_me peer after_peer : Endpoint) (done : Bool) : Type 0 where
-  pub acted : IsActed channel act me after_me peer.inbox.items after_peer.inbox.items done
+-- one side does what an event asks for, and of the other side nothing but its inbox changes
+pub record HasTurned (channel : ℕ) (event : Event) (me after_me peer after_peer : Endpoint) (done : Bool) : Type 0 where
+  pub acted : IsActed channel event me after_me peer.inbox.items after_peer.inbox.items done
   pub seat : after_peer.seat ≡ peer.seat
   pub jobs : hand_of after_peer.pass ≡ hand_of peer.pass
 
-abbrev pub IsTurnOf : Side → Act → ChannelThread → ChannelThread → Bool → Type 0
-IsTurnOf sides.A act before after done = HasTurned before.channel act before.a after.a before.b after.b done
-IsTurnOf sides.B act before after done = HasTurned before.channel act before.b after.b before.a after.a done
-
-abbrev pub IsTurn : Turn → ChannelThread → ChannelThread → Bool → Type 0
-IsTurn turn before after done = IsTurnOf turn.side turn.act before after done
+abbrev pub IsTurnOf : Side → Event → ChannelThread → ChannelThread → Bool → Type 0
+IsTurnOf sides.A event before after done = HasTurned before.channel event before.a after.a before.b after.b done
+IsTurnOf sides.B event before after done = HasTurned before.channel event before.b after.b before.a after.a done
 
 -- nothing was counted
 abbrev pub no_counts : Counts
 no_counts = record { played = 0; refused = 0 }
 
 -- an event's turn was played, or refused; nothing was done if it is none of the channel's
-abbrev pub Plays : Option Turn → ChannelThread → ChannelThread → Counts → Type 0
-Plays None before after counts = (after ≡ before) × (counts ≡ no_counts)
-Plays (Some turn) before after counts = (done : Bool) × IsTurn turn before after done × (counts ≡ (if done then record { played = 1; refused = 0 } else record { played = 0; refused = 1 }))
+abbrev pub Plays : Option Turn → Event → ChannelThread → ChannelThread → Counts → Type 0
+Plays None event before after counts = (after ≡ before) × (counts ≡ no_counts)
+Plays (Some turn) event before after counts = (done : Bool) × IsTurnOf turn.side event before after done × (counts ≡ (if done then record { played = 1; refused = 0 } else record { played = 0; refused = 1 }))

@@ -3,22 +3,21 @@ use Rattle.std.specs.Prelude.{ℕ, ◌+◌, ◌==◌, if◌then◌else◌, List,
 use Rattle.std.specs.List.{range_with_len}
 use Rattle.scenario.specs.declared.events.Event.{Event}
 use Rattle.scenario.specs.declared.events.Event.TheVariants as events
-use Rattle.running.specs.declared.acts.Act.TheVariants.{Update, Sign, Deliver, Close}
 use Rattle.running.specs.declared.channel_thread.Turn.{Turn}
 
--- What an event asks of the thread of a channel: updates, signatures, deliveries and closes. A close is an event of the chain too, on which the side's newest commitment is broadcast.
+-- Whose turn an event is in a channel: updates, signatures, deliveries and closes. A close is an event of the chain too, on which the side's newest commitment is broadcast.
 abbrev pub turn_of : Event → Option Turn
-turn_of (events.Own s c update) = Some (record { side = s; channel = c; act = Update update })
-turn_of (events.Sign s c) = Some (record { side = s; channel = c; act = Sign })
-turn_of (events.Deliver s c) = Some (record { side = s; channel = c; act = Deliver })
-turn_of (events.Close s c) = Some (record { side = s; channel = c; act = Close })
+turn_of (events.Own s c update) = Some (record { side = s; channel = c })
+turn_of (events.Sign s c) = Some (record { side = s; channel = c })
+turn_of (events.Deliver s c) = Some (record { side = s; channel = c })
+turn_of (events.Close s c) = Some (record { side = s; channel = c })
 turn_of event = None
 
 abbrev pub if_in : ℕ → Option Turn → Option Turn
 if_in channel None = None
 if_in channel (Some turn) = if turn.channel == channel then Some turn else None
 
--- what an event asks of the thread of this channel
+-- whose turn an event is, if it is one of this channel
 abbrev pub turn_in : ℕ → Event → Option Turn
 turn_in channel event = if_in channel (turn_of event)
 

@@ -18,7 +18,7 @@ sum_of k more = record { played = k.played + more.played; refused = k.refused + 
 -- the events of a channel were played in order, each from what the one before it left, and their counts are added up
 pub data PlaysAll : List Event → ChannelThread → ChannelThread → Counts → Type 0 where
   none_left : (channel_thread : ChannelThread) → PlaysAll [] channel_thread channel_thread no_counts
-  played : (e : Event) (es : List Event) (before between after : ChannelThread) (counts more : Counts) → between.channel ≡ before.channel → Plays (turn_in before.channel e) before between counts
+  played : (e : Event) (es : List Event) (before between after : ChannelThread) (counts more : Counts) → between.channel ≡ before.channel → Plays (turn_in before.channel e) e before between counts
       → PlaysAll es between after more → PlaysAll (e ∷ es) before after (sum_of counts more)
 
 -- a channel's events were played by this thread, to these counts, and its two seats are given back

@@ -19,23 +19,10 @@ use channel::Message;
 use desk::Seat;
 use jobs::{JobSender, Pass};
 use node::Job;
+use scenario::Event;
 use std::alloc::AllocError;
 use std::collections::VecDeque;
 use std::sync::Wait;
-use updates::OwnUpdate;
-
-/// What a side does in a channel.
-#[derive(Drop)]
-pub(crate) enum Act {
-    /// It makes an update.
-    Update(OwnUpdate),
-    /// It signs its peer's next commitment.
-    Sign,
-    /// It receives its oldest message.
-    Deliver,
-    /// It closes the channel.
-    Close,
-}
 
 // Sends the message of an accepted reply. Returns whether the reply is accepted; the only error is that memory ran out, as the reply may say itself.
 #[tactic(auto, using(crate::proofs::Replying::silent, book::proofs::Answered::in_memory))]
@@ -206,29 +193,30 @@ fn deliver<R: Wait>(
     receive(rt, side, me, inbox, channel, call)
 }
 
-/// Does what a side does in a channel; what it sends goes into its peer's inbox. Returns whether it was done and not refused. The only error
-/// is that memory ran out.
+/// Does what an event asks of a side in a channel: an update, a signature, a delivery or a close, and nothing for another event. What is sent goes into the peer's inbox. Returns whether it
+/// was done and not refused. The only error is that memory ran out.
 pub(crate) fn act_for<R: Wait>(
     rt: &R,
     side: &SideState,
     me: &mut Endpoint,
     inbox: &mut VecDeque<Message>,
     channel: u64,
-    act: &Act,
+    event: &Event,
 ) -> Result<bool, AllocError>
     requires { IsEndpoint side.now me.old }
     ensures endpoint { IsEndpoint side.now me.new }
-    ensures acted { IfOk result (IsActed channel act.now me.old me.new inbox.old.items
+    ensures acted { IfOk result (IsActed channel event.now me.old me.new inbox.old.items
         inbox.new.items) }
 {
-    match act {
-        Act::Update(update) => {
-            let step = Step::Own(*update);
+    match *event {
+        Event::Own { update, .. } => {
+            let step = Step::Own(update);
             let call = Call::Step { channel, step };
             send(rt, side, &mut me.seat, inbox, call)
         }
-        Act::Sign => sign(rt, side, &mut me.seat, inbox, channel),
-        Act::Deliver => deliver(rt, side, me, inbox, channel),
-        Act::Close => send(rt, side, &mut me.seat, inbox, Call::Close { channel }),
+        Event::Sign { .. } => sign(rt, side, &mut me.seat, inbox, channel),
+        Event::Deliver { .. } => deliver(rt, side, me, inbox, channel),
+        Event::Close { .. } => send(rt, side, &mut me.seat, inbox, Call::Close { channel }),
+        _ => Ok(false),
     }
 }

@@ -3,11 +3,11 @@
 ghost use Rattle.std.specs.Prelude.{◌≡◌, ◌+◌, ◌≤◌, IfOk};
 ghost use Rattle.running.specs.Threads.{IsChannelThread};
 ghost use Rattle.running.specs.Homes.{IsLonePair};
-ghost use Rattle.running.specs.Acting.{IsTurn, Plays};
+ghost use Rattle.running.specs.Acting.{IsTurnOf, Plays};
 ghost use Rattle.running.specs.Events.{turn_of, turn_in};
 ghost use Rattle.running.specs.Playing.{PlaysAll, IsPlayed};
 
-use crate::acts::{Act, act_for};
+use crate::acts::act_for;
 use crate::counts::Counts;
 use crate::endpoints::Endpoint;
 use crate::shared::SharedState;
@@ -36,48 +36,27 @@ pub(crate) struct PlayedChannel {
     pub(crate) b: Seat,
 }
 
-/// What an event asks of the thread of a channel.
+/// Whose turn an event is.
 #[derive(Drop)]
 pub(crate) struct Turn {
     pub(crate) side: Side,
     pub(crate) channel: u64,
-    pub(crate) act: Act,
 }
 
-// What an event asks of the thread of a channel. `None` for an event of the chain alone, and for what workers and watchers do by themselves.
+// Whose turn an event is in a channel. `None` for an event of the chain alone, and for what workers and watchers do by themselves.
 fn turn_of(event: &Event) -> Option<Turn>
     ensures { result ≡ turn_of event.now }
 {
     match *event {
-        Event::Own {
-            side,
-            channel,
-            update,
-        } => Some(Turn {
-            side,
-            channel,
-            act: Act::Update(update),
-        }),
-        Event::Sign { side, channel } => Some(Turn {
-            side,
-            channel,
-            act: Act::Sign,
-        }),
-        Event::Deliver { side, channel } => Some(Turn {
-            side,
-            channel,
-            act: Act::Deliver,
-        }),
-        Event::Close { side, channel } => Some(Turn {
-            side,
-            channel,
-            act: Act::Close,
-        }),
+        Event::Own { side, channel, .. }
+        | Event::Sign { side, channel }
+        | Event::Deliver { side, channel }
+        | Event::Close { side, channel } => Some(Turn { side, channel }),
         _ => None,
     }
 }
 
-// What an event asks of the thread of this channel.
+// Whose turn an event is, if it is one of this channel.
 fn turn_in(channel: u64, event: &Event) -> Option<Turn>
     ensures { result ≡ turn_in channel event.now }
 {
@@ -88,27 +67,28 @@ fn turn_in(channel: u64, event: &Event) -> Option<Turn>
     Some(turn)
 }
 
-// Does what a side does. Returns whether it was done and not refused. The only error is that memory ran out.
+// Does what an event asks of a side. Returns whether it was done and not refused. The only error is that memory ran out.
 fn play_turn<R: Wait>(
     rt: &R,
     shared: &SharedState,
     channel_thread: &mut ChannelThread,
-    turn: &Turn,
+    side: Side,
+    event: &Event,
 ) -> Result<bool, AllocError>
     requires { IsChannelThread shared.now channel_thread.old }
     ensures channel_thread { IsChannelThread shared.now channel_thread.new }
     ensures channel { channel_thread.new.channel ≡ channel_thread.old.channel }
-    ensures turned { IfOk result (IsTurn turn.now channel_thread.old channel_thread.new) }
+    ensures turned { IfOk result (IsTurnOf side event.now channel_thread.old channel_thread.new) }
 {
     let channel = channel_thread.channel;
-    match turn.side {
+    match side {
         Side::A => act_for(
             rt,
             &shared.a,
             &mut channel_thread.a,
             &mut channel_thread.b.inbox,
             channel,
-            &turn.act,
+            event,
         ),
         Side::B => act_for(
             rt,
@@ -116,7 +96,7 @@ fn play_turn<R: Wait>(
             &mut channel_thread.b,
             &mut channel_thread.a.inbox,
             channel,
-            &turn.act,
+            event,
         ),
     }
 }
@@ -133,7 +113,7 @@ fn play_event<R: Wait>(
     ensures channel { channel_thread.new.channel ≡ channel_thread.old.channel }
     ensures few { IfOk result (λ c. c.played + c.refused ≤ 1) }
     ensures plays { IfOk result
-        (Plays (turn_in channel_thread.old.channel event.now) channel_thread.old
+        (Plays (turn_in channel_thread.old.channel event.now) event.now channel_thread.old
         channel_thread.new) }
 {
     let Some(turn) = turn_in(channel_thread.channel, event) else {
@@ -142,7 +122,7 @@ fn play_event<R: Wait>(
             refused: 0,
         });
     };
-    let is_done = play_turn(rt, shared, channel_thread, &turn)?;
+    let is_done = play_turn(rt, shared, channel_thread, turn.side, event)?;
     if is_done {
         Ok(Counts {
             played: 1,
