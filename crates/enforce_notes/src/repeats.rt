@@ -1,11 +1,12 @@
 // Notes on a member that stands twice in an object.
 
-use crate::names::{MAX_INPUT, is_plain};
+use crate::names::is_plain;
 use json_names::{RepeatedMember, first_repeated_member};
 use page::Page;
 use page::Piece::Count;
 use script_notes::text_of;
 use std::alloc::{AllocError, Global};
+use streams::MAX_INPUT;
 
 /// The note on the first member that stands twice in its object; empty if there is none, or if the text is invalid JSON or too long. The only error is that memory ran out.
 pub fn repeat_notes(alloc: Global, input: &[u8]) -> Result<String, AllocError> {

@@ -1,7 +1,7 @@
 // Notes on a text that is not a scenario.
 
 use crate::forms::{MEMBERS, Part, TERMS, event_parts};
-use crate::names::{MAX_INPUT, is_plain};
+use crate::names::is_plain;
 use crate::proposals::note_scenario;
 use crate::repeats::note_repeat;
 use json_value::{ReadError, Value};
@@ -10,6 +10,7 @@ use page::Piece::{Count, Text};
 use script_notes::text_of;
 use serde_json::Error;
 use std::alloc::{AllocError, Global};
+use streams::MAX_INPUT;
 use texts::tag_of;
 
 /// The notes on a text that is refused as a scenario, a line each: where it is invalid JSON, which of its parts does not have its shape, which limit it exceeds, or on which terms the two

@@ -3,7 +3,7 @@
 //! [`read_all`] reads the whole input, which has a limit. [`write_told`] writes a page that is whole, [`write_refusal`] says in one JSON object why an input is
 //! refused, and each of the writers returns the status that the program is to end with.
 //!
-//! It stands on `page`. The programs `spend` and `trace` read and write by it.
+//! It stands on `page`. The programs `spend` and `trace` read and write by it, and `enforce` reads its scenarios.
 //!
 //! ```rust
 //! match read_all(alloc, input) {
