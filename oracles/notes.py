@@ -8,6 +8,7 @@ worked out by dead_ends.py. Scripts are run by consensus too, on items that are 
 each other is found by trying items that are unlike in their bytes, their length, what they hash to, and whether they are true, a key or a token. The parts of scenarios are those of docs/SCENARIOS.md.
 """
 import datetime
+import itertools
 import json
 import os
 import random
@@ -24,8 +25,10 @@ TOP = os.path.dirname(os.path.dirname(os.path.abspath(__file__)))
 # ---- opcodes
 
 CHECKSIGADD, PUSHDATA4, LOCK = 0xBA, 0x4E, 0xB1
-# the field of secp256k1
+# the field of secp256k1, the number of its points, and the point G (SEC 2, 2.4.1)
 FIELD = 2**256 - 2**32 - 977
+ORDER = 0xFFFFFFFFFFFFFFFFFFFFFFFFFFFFFFFEBAAEDCE6AF48A03BBFD25E8CD0364141
+G = 0x79BE667EF9DCBBAC55A06295CE870B07029BFCDB2DCE28D959F2815B16F81798, 0x483ADA7726A3C4655DA4FBFC0E1108A8FD17B448A68554199C47D08FFB10D4B8
 KNOWN = {*range(0x4C), *range(0x51, 0x61), 0x63, 0x64, 0x67, 0x68, 0x75, 0x76, 0x7C, 0x82, 0x87, 0x88, 0xA9, 0xAC, 0xAE, 0xB1, 0xB2}
 
 
@@ -47,13 +50,57 @@ def opcode_rows():
         yield "5aad" + "93" * count, ["byte 1 is ad, OP_CHECKSIGVERIFY in Bitcoin, which is not in the table", "pushed before it: the number 10 at byte 0", f"not in the table either: {named}{rest}"]
 
 
+# ---- keys
+
+
+def y_of(x):
+    """The even y coordinate of the point that has this x coordinate, if there is one."""
+    y = pow(x**3 + 7, (FIELD + 1) // 4, FIELD)
+    return None if x >= FIELD or (y * y - x**3 - 7) % FIELD else y if y % 2 == 0 else FIELD - y
+
+
+def is_point(x):
+    """Whether a point of secp256k1 has this x coordinate."""
+    return y_of(x) is not None
+
+
+def plus(one, other):
+    """The sum of two points whose sum is a point."""
+    if one == other:
+        slope = 3 * one[0] ** 2 * pow(2 * one[1], -1, FIELD)
+    else:
+        slope = (other[1] - one[1]) * pow(other[0] - one[0], -1, FIELD)
+    x = (slope**2 - one[0] - other[0]) % FIELD
+    return x, (slope * (one[0] - x) - one[1]) % FIELD
+
+
+def times(factor):
+    """G, this many times."""
+    found, doubled = None, G
+    while factor:
+        if factor % 2:
+            found = doubled if found is None else plus(found, doubled)
+        doubled, factor = plus(doubled, doubled), factor // 2
+    return found
+
+
+def short(point):
+    """A key of 33 bytes."""
+    return f"{2 + point[1] % 2:02x}{point[0]:064x}"
+
+
+def long(point, first=4):
+    """A key of 65 bytes, with this first byte."""
+    return f"{first:02x}{point[0]:064x}{point[1]:064x}"
+
+
 # ---- branches that end by a stricter rule
 
 KEY = "02" + "12" * 32
 OTHER = "03" + "22" * 32
 THIRD = "02" + "44" * 32
 DER = "300602010102010101"
-LONG = "04" + "11" * 32 + "22" * 32
+LONG = long((int("12" * 32, 16), y_of(int("12" * 32, 16))))
 NO_KEY = "no key here (a key has 33 bytes, and begins with 02 or 03)"
 NO_SIGNATURE = "no signature here (signatures are tokens)"
 NO_NUMBER = "no number here (numbers are minimally encoded)"
@@ -70,11 +117,17 @@ def end(opcode, item, rule, has_others=False):
     tail = "; consensus is laxer, and may let others spend"
     if rule == NO_KEY:
         tail = "; in consensus no signature is valid for it, and other keys of this check may sign" if has_others else "; in consensus its check is false, and nobody can spend where that has to be true"
-        if count == 65 and item[:2] in ("04", "06", "07"):
+        if is_long_key(item):
             tail = "; consensus takes this one, and nodes relay no spend with it"
-        if count == 32:
-            tail = ", as taproot alone has them" + tail
+        elif count in (32, 65):
+            tail = (", as taproot alone has them" if count == 32 else ", nor a point of the curve") + tail
     return f"a branch ends at opcode {opcode}: {item} ({count} byte{'s' * (count > 1)}) is {rule}{tail}"
+
+
+def is_long_key(item):
+    """Whether libsecp256k1 reads bytes as a key: 04, or 06 where y is even, or 07 where it is odd, and a point of the curve."""
+    first, x, y = (int(it or "0", 16) for it in (item[:2], item[2:66], item[66:]))
+    return len(item) == 130 and x < FIELD and y < FIELD and (y * y - x**3 - 7) % FIELD == 0 and first in (4, 6 + y % 2)
 
 
 def strict_notes(*ends):
@@ -251,14 +304,14 @@ def day_of(seconds):
 
 
 def time_note(lock):
-    return f"path 0 waits until the median time past is above {lock}, {day_of(lock):%Y-%m-%d} in UTC: its lock is a time, in seconds since 1970 (BIP 113)"
+    return f"path 0 can be taken once the median time past is above {lock}, {day_of(lock):%Y-%m-%d} in UTC: its lock is a time, in seconds since 1970 (BIP 113)"
 
 
 def height_note(lock):
     """By the times of blocks 481,824 and 840,000, and by ten minutes a block after them."""
     first, halving = 1_503_539_857, 1_713_571_767
     seconds = first + (lock - 481_824) * (halving - first) // (840_000 - 481_824) if lock < 840_000 else halving + 600 * (lock - 840_000)
-    return f"path 0 waits for a block above height {lock}, on Bitcoin's main chain about {day_of(seconds):%Y-%m}"
+    return f"path 0 can be taken in blocks above height {lock}, on Bitcoin's main chain from about {day_of(seconds):%Y-%m} on"
 
 
 def doubt_of(n):
@@ -270,6 +323,13 @@ def doubt_of(n):
     return "waits until after the year 2099" if 4_102_444_800 <= n < 2**32 - 1 else None
 
 
+def turned_notes(n, opcode, is_turned):
+    """What is noted of a lock whose bytes give another number in the other order, where that is a usual one."""
+    item = bitcoin.number_item(n)
+    other = int.from_bytes(item, "big")
+    return [f"opcode 1, {opcode} of {n}: the same bytes in the other order are {other}, and a number is little-endian"] * is_turned
+
+
 def doubt_notes(code):
     """What is noted of the absolute locks of a script, by the number that is pushed right before each."""
     found = opcodes(bytes.fromhex(code))
@@ -277,11 +337,6 @@ def doubt_notes(code):
         n = int.from_bytes(item, "little") if isinstance(item, bytes) and len(item) <= 5 else -1
         if op == LOCK and n >= 0 and item == bitcoin.number_item(n) and doubt_of(n):
             yield f"opcode {at}, CHECKLOCKTIMEVERIFY of {n}, {doubt_of(n)}"
-
-
-def is_point(x):
-    """Whether a point of secp256k1 has this x coordinate (SEC 2, 2.4.1)."""
-    return x < FIELD and pow(x**3 + 7, (FIELD - 1) // 2, FIELD) == 1
 
 
 def key_rows():
@@ -294,6 +349,43 @@ def key_rows():
         yield f"52{''.join(map(push, keys))}{number(len(keys))}ae", list(twice_notes([("assigned", tuple(keys), True)], [0]))
     # what is no key of this CHECKMULTISIG is not compared
     yield f"{push(KEY)}7551{push(KEY)}{push(OTHER)}52ae", []
+    yield from long_key_rows(drawn)
+    yield from known_key_rows()
+
+
+def long_key_rows(drawn):
+    """65 bytes in the place of a key: of points that are drawn, with each first byte, and near misses: y as it stands on the other side, by one more, and by the field more, x of no point, and zeros."""
+    points = [(x, y) for x in (drawn.getrandbits(256) for _ in range(12)) if is_point(x) for y in (y_of(x), FIELD - y_of(x))]
+    small = next((x, y_of(x)) for x in range(1, 99) if is_point(x))
+    near = [long(small), long((small[0] + FIELD, small[1])), long((points[0][0], points[0][1] + 1)), long((points[1][0], points[2][1])), long((0, 0)), long((1, 1)), "04" + "ff" * 64]
+    for item in [*near, *(long(point, first) for point in points for first in range(2, 9))]:
+        yield f"{push(item)}ac", [*key_program(item), *strict_notes((1, item, NO_KEY))]
+        yield f"63{push(KEY)}67{push(item)}68ac", [end(5, item, NO_KEY)]
+    for item in near[:4]:
+        yield f"51{push(KEY)}{push(item)}52ae", strict_notes((4, item, NO_KEY, True))
+
+
+def key_program(item):
+    """What is noted of 65 bytes with a CHECKSIG, which have the form of P2PK after 04."""
+    return ["these bytes have the form of an output's program, P2PK: such an output has no witness script; this key spends it"] * (item[:2] == "04")
+
+
+# points whose private key all know: G times this number
+KNOWN_KEYS = {1: "the point G, whose private key is 1", ORDER - 1: "the point -G, whose private key is n - 1"}
+KNOWN_KEYS |= {2: "the point 2G, whose private key is 2", ORDER - 2: "the point -2G, whose private key is n - 2"}
+KNOWN_KEYS |= {3: "the point 3G, whose private key is 3", ORDER - 3: "the point -3G, whose private key is n - 3"}
+KNOWN_KEYS |= {(ORDER + 1) // 2: "the point G/2, whose private key is (n + 1) / 2", (ORDER - 1) // 2: "the point -G/2, whose private key is (n - 1) / 2"}
+
+
+def known_key_rows():
+    """Keys of 33 and of 65 bytes whose private key all know, and the next ones, which have no note; and a point of which 65 bytes are no key."""
+    for factor, name in {**KNOWN_KEYS, 4: "", ORDER - 4: "", 5: "", (ORDER + 3) // 2: ""}.items():
+        point = times(factor)
+        note = f"is {name}: anyone can sign for it"
+        yield f"{push(short(point))}ac", [f"opcode 0: {short(point)} {note}"] * bool(name)
+        for first in (4, 6, 7):
+            item = long(point, first)
+            yield f"63{push(KEY)}67{push(item)}68ac", [end(5, item, NO_KEY)] + [f"opcode 3: {item} {note}"] * (bool(name) and is_long_key(item))
 
 
 def twice_notes(facts, slots):
@@ -339,16 +431,129 @@ def relay_rows():
         yield code + more, [anyone] + [f"the script has {length} bytes, and nodes relay no spend of one above 3600"] * (length > 3600)
 
 
+def asked_note(item, what, means="whoever sees the script knows it, so it keeps nobody out"):
+    return f"path 0 asks for what has the hash {item}, {what}: {means}"
+
+
+NOBODY = "nobody has that, so nobody can spend by this path"
+
+
 def origin_rows():
-    """Bytes in the place of a HASH160 that are no secret's: zeros, ff, the hash of nothing and of a byte, and of a point that all know or nobody; and others."""
-    g, h = "79be667ef9dcbbac55a06295ce870b07029bfcdb2dce28d959f2815b16f81798", "50929b74c1a04954b78b4b6035e97a5e078a5a0f28ec96d547bfee9ace803ac0"
-    y = 0x483ADA7726A3C4655DA4FBFC0E1108A8FD17B448A68554199C47D08FFB10D4B8
-    point, negation, nobodys = "the point G, whose private key is 1", "the point -G, whose private key all know", "the point H of BIP 341, whose private key nobody knows"
-    hashed = [("", "nothing"), *((f"{byte:02x}", f"the script {byte:02x}") for byte in (0x00, 0x01, 0x4F, 0x51, 0x6A, 0x80, 0xAC, 0xFE, 0xFF)), ("0000", ""), ("5151", "")]
-    hashed += [("02" + g, point), (f"04{g}{y:064x}", point), ("03" + g, negation), (f"04{g}{FIELD - y:064x}", negation), (f"04{g}{y + 1:064x}", ""), ("02" + h, nobodys), ("03" + h, nobodys), (g, "")]
-    found = [(bitcoin.hash160(bytes.fromhex(text)).hex(), f"the hash of {what}" if what else "") for text, what in hashed]
-    for item, what in [*found, ("00" * 20, "zeros"), ("00" * 19 + "01", ""), ("ff" * 20, "bytes of ff"), ("ff" * 19 + "fe", "")]:
-        yield f"a9{push(item)}88{push(KEY)}ac", [f"opcode 1: {item} is {what}: as a hash it keeps nobody out, or everybody"] * bool(what)
+    """Bytes in the place of a HASH160 that are no secret's: zeros, ff, the hash of nothing, of its SHA-256, of a byte, of 32 of one, of a number in 32 bytes, and of a point that all know or nobody; and others."""
+    h = "50929b74c1a04954b78b4b6035e97a5e078a5a0f28ec96d547bfee9ace803ac0"
+    nobodys = "the point H of BIP 341, whose private key nobody knows"
+    hashed = [("", "nothing"), (bitcoin.sha256(b"").hex(), "the SHA-256 of nothing"), (bitcoin.sha256(b"\x07").hex(), "")]
+    hashed += [*((f"{byte:02x}", f"the script {byte:02x}") for byte in (0x00, 0x01, 0x4F, 0x51, 0x6A, 0x80, 0xAC, 0xFE, 0xFF)), ("0000", ""), ("5151", "")]
+    hashed += [(f"{byte:02x}" * count, f"32 bytes of {byte:02x}" if count == 32 else "") for byte in (0x00, 0x01, 0x7F, 0xFF) for count in (31, 32, 33)]
+    hashed += [(f"{n:064x}", f"the number {n} in 32 bytes") for n in (1, 2, 16)] + [(f"{n:064x}", "") for n in (17, 255, 256, 1 << 248)]
+    hashed += [(short(times(factor)), name) for factor, name in KNOWN_KEYS.items()] + [(short(times(4)), "")]
+    hashed += [(long(times(factor)), KNOWN_KEYS[factor]) for factor in (1, ORDER - 1)] + [(long((G[0], G[1] + 1)), ""), (long(G, 6), "")]
+    hashed += [("02" + h, nobodys), ("03" + h, nobodys), (h, "")]
+    found = [(text, bitcoin.hash160(bytes.fromhex(text)).hex(), f"the hash of {what}" if what else "") for text, what in hashed]
+    for _, item, what in found:
+        yield f"a9{push(item)}88{push(KEY)}ac", [asked_note(item, what)] * bool(what)
+    # a hash that nothing asks for, and one that is dropped
+    yield f"{push(found[0][1])}75{push(KEY)}ac", []
+    for item, what in (("00" * 20, "zeros"), ("00" * 19 + "01", ""), ("ff" * 20, "bytes of ff"), ("ff" * 19 + "fe", "")):
+        yield f"a9{push(item)}88{push(KEY)}ac", [asked_note(item, what, NOBODY)] * bool(what)
+        yield f"76a9{push(item)}88ac", [KEY_HASH, BY_HASH] + [asked_note(item, what, NOBODY)] * bool(what)
+    yield from sized_rows(found)
+    yield from signed_rows(found)
+
+
+KEY_HASH = "these bytes have the form of an output's program, P2PKH: such an output has no witness script; the key with this hash spends it"
+BY_HASH = "a key is taken by its hash on path 0: by consensus, though not by relay policy, an uncompressed key with that hash is taken too"
+
+
+def sized_rows(found):
+    """The same hashes, of an item of 32 bytes."""
+    for text, item, what in found:
+        is_met = len(text) == 64
+        means = asked_note(item, what) if is_met else f"path 0 asks for what has the hash {item}, {what}, and for another size than that has: nobody can spend by this path"
+        yield f"82012088a9{push(item)}88{push(KEY)}ac", [means] * bool(what)
+
+
+def signed_rows(found):
+    """The same hashes, of a key that signs."""
+    for text, item, what in found:
+        anyones = any(text in (short(times(it)), long(times(it))) for it in KNOWN_KEYS)
+        means = "anyone can sign for it" if anyones else "nobody can sign for that, so nobody can spend by this path"
+        yield f"76a9{push(item)}88ac", [KEY_HASH, BY_HASH] + [asked_note(item, what, means)] * bool(what)
+
+
+def pushed_rows():
+    """Hashes of what the same script pushes: of a key of this branch and of another one, of the bytes of a payment hash, and with a size that is not the item's; beside each one that is not pushed, the hash of a key that signs itself, and a hash that must not hold."""
+    drawn = random.Random(11)
+    for _ in range(4):
+        x = next(x for x in iter(lambda: drawn.getrandbits(256), None) if is_point(x))
+        key, item = f"03{x:064x}", f"{drawn.getrandbits(256):064x}"
+        of_key, of_item = (bitcoin.hash160(bytes.fromhex(it)).hex() for it in (key, item))
+        yield f"a9{push(of_key)}88{push(key)}ac", [asked_note(of_key, "the HASH160 of what opcode 3 pushes")]
+        yield f"a9{push(of_key)}88{push(KEY)}ac", []
+        yield f"63a9{push(of_key)}88{push(KEY)}ac67029000b275{push(key)}ac68", [asked_note(of_key, "the HASH160 of what opcode 10 pushes")]
+        yield f"63a9{push(of_item)}88{push(KEY)}ac67029000b275{push(key)}ac68", []
+        yield f"a9{push(of_item)}88{push(item)}75{push(KEY)}ac", [asked_note(of_item, "the HASH160 of what opcode 3 pushes")]
+        # the item has 33 bytes, or 32
+        for size, asked, at_item in ((32, of_key, key), (33, of_key, key), (32, of_item, item), (31, of_item, item)):
+            is_met = size == len(at_item) // 2
+            origin = "the HASH160 of what opcode 6 pushes"
+            means = asked_note(asked, origin) if is_met else f"path 0 asks for what has the hash {asked}, {origin}, and for another size than that has: nobody can spend by this path"
+            yield f"82{number(size)}88a9{push(asked)}88{push(at_item)}75{push(KEY)}ac", [means]
+        # the hash of a key that signs, which another branch has; and the same where the hash must not hold
+        yield f"76a9{push(of_key)}8763ac6775029000b275{push(key)}ac68", [BY_HASH]
+        yield f"76a9{push(of_key)}8763{DEAD}6775029000b275{push(key)}ac68", []
+
+
+def shown_rows():
+    """Bytes that are asked for as they stand: of the sizes of a hash, and of others."""
+    for size in (19, 20, 21, 31, 32, 33):
+        item = "".join(f"{7 * n % 251:02x}" for n in range(size))
+        note = f"path 0 asks for these {size} bytes as they stand, {item}: whoever sees the script has them, so they keep nobody out: is a HASH160 missing?"
+        yield f"{push(item)}88{push(KEY)}ac", [note] * (size in (20, 32))
+        # dropped, or compared with a hash
+        yield f"{push(item)}75{push(KEY)}ac", []
+    yield f"a9{push('07' * 20)}88{push(KEY)}ac", []
+
+
+def dropped_rows():
+    """Checks whose answer is dropped, and the same with answers that count."""
+    free = "nothing depends on the check of a signature on path 0: the empty item serves as well"
+    anyone = "anyone can spend by path 0: no signature of a key that the script fixes is asked for"
+    yield f"{push(KEY)}ac75{push(OTHER)}ac", [free]
+    yield f"{push(KEY)}ac63{push(OTHER)}ac670068", []
+    yield f"{push(KEY)}ac7551", [anyone, free]
+    yield f"52{push(KEY)}{push(OTHER)}52ae75{push(THIRD)}ac", [free]
+    yield f"52{push(KEY)}{push(OTHER)}52ae63{push(THIRD)}ac670068", []
+    # the answer is brought to the top and dropped, and the item above it is
+    yield f"{push(KEY)}ac517c75", [anyone, free]
+    yield f"{push(KEY)}ac7c75", []
+    drops = "opcode {}, DROP, drops what opcode {}, EQUAL, found: nothing depends on that comparison"
+    yield f"a9{push('07' * 20)}8775{push(KEY)}ac", [drops.format(3, 2)]
+    yield f"a9{push('07' * 20)}88{push(KEY)}ac", []
+
+
+AROUND = "path {0} asks for no other signature or preimage than path {1}, and does not wait: the lock of path {1} holds nobody up"
+
+
+def shortcut_rows():
+    """A path that waits, and one that does not, with each of some rules of who signs; and both with locks."""
+    negated = "03" + KEY[2:]
+    one, two = (lambda key: f"{push(key)}ac"), (lambda m, *keys: f"{number(m)}{''.join(map(push, keys))}{number(len(keys))}ae")
+    hashed = lambda key: f"a9{push('07' * 20)}88{push(key)}ac"
+    rules = [
+        (one(KEY), one(KEY), True), (one(KEY), one(OTHER), False), (one(KEY), one(negated), True),
+        (one(KEY), two(2, KEY, OTHER), True), (two(2, KEY, OTHER), one(KEY), False), (one(THIRD), two(2, KEY, OTHER), False),
+        (two(2, KEY, OTHER, THIRD), two(2, KEY, OTHER), True), (two(2, KEY, OTHER, THIRD), two(1, KEY, OTHER, THIRD), False),
+        (two(1, KEY, OTHER), two(2, KEY, OTHER, THIRD), True), (two(2, KEY, OTHER), two(2, KEY, OTHER, THIRD), False), (two(1, KEY, OTHER), one(OTHER), True),
+        (hashed(KEY), one(KEY), False), (one(KEY), hashed(KEY), True), (hashed(KEY), hashed(KEY), True),
+    ]
+    locks = [(number(144) + "b2", None), (number(800_000) + "b1", height_note(800_000)), (number((1 << 22) + 144) + "b2", units_note(144))]
+    for (fast, slow, is_noted), (lock, waits) in itertools.product(rules, locks):
+        for at, script in ((1, f"63{fast}67{lock}75{slow}68"), (0, f"63{lock}75{slow}67{fast}68")):
+            yield script, [it.replace("path 0", f"path {at}") for it in [waits] if it] + [AROUND.format(1 - at, at)] * is_noted
+    # both wait, and nobody can ever take the one that waits
+    yield f"63{number(144)}b275{one(KEY)}67{number(145)}b275{one(KEY)}68", []
+    yield f"63{one(KEY)}67{number(2**32 - 1)}b175{one(KEY)}68", ["nobody can ever spend by path 1: its lock time is 4294967295, and no median time past is above that (BIP 113)"]
 
 
 def operand_rows():
@@ -367,14 +572,13 @@ def operand_rows():
 def empty_rows():
     """An item of no bytes, whose hash is that of nothing, or another one, or neither."""
     nothing, other = bitcoin.hash160(b"").hex(), "33" * 20
-    origin = f"opcode 4: {nothing} is the hash of nothing: as a hash it keeps nobody out, or everybody"
-    for hashed, holds, said in ((nothing, True, [origin]), (other, True, []), (nothing, False, [origin]), (other, False, [])):
-        is_met = (hashed == nothing) == holds
-        who = "whoever sees such a witness can spend too by path 0: what has a given hash is asked for, and no signature of a key that the script fixes"
+    for hashed, holds in ((nothing, True), (other, True), (nothing, False), (other, False)):
+        who = ["whoever sees such a witness can spend too by path 0: what has a given hash is asked for, and no signature of a key that the script fixes", asked_note(nothing, "the hash of nothing")]
         if not holds:
-            who = "anyone can spend by path 0: no signature of a key that the script fixes is asked for"
-        never = f"no witness meets path 0: 'size 0 0 yes' and 'hash 0 {hashed} {'yes' if holds else 'no'}' contradict each other"
-        yield f"820088a9{push(hashed)}87" + ("" if holds else f"63{DEAD}675168"), [who if is_met else never, *said]
+            who = ["anyone can spend by path 0: no signature of a key that the script fixes is asked for"]
+        if (hashed == nothing) != holds:
+            who = [f"no witness meets path 0: 'size 0 0 yes' and 'hash 0 {hashed} {'yes' if holds else 'no'}' contradict each other"]
+        yield f"820088a9{push(hashed)}87" + ("" if holds else f"63{DEAD}675168"), who
 
 
 def length_rows():
@@ -391,7 +595,8 @@ def shared_rows():
     """Two numbers before one lock: each is noted."""
     for one, other in ((65_536, 144), (144, 65_536), (65_536, 65_537)):
         asks = [f"opcode 5, CHECKSEQUENCEVERIFY of {n}, asks for an age of {n % 65_536} block{'s' * (n % 65_536 != 1)}: of a number only bits 0 to 15, 22 and 31 count (BIP 68)" for n in (one, other) if n >= 65_536]
-        yield f"63{number(one)}67{number(other)}68b275{push(KEY)}ac", asks
+        slow = int(other % 65_536 > 0)
+        yield f"63{number(one)}67{number(other)}68b275{push(KEY)}ac", [*asks, AROUND.format(1 - slow, slow)]
 
 
 def lock_rows():
@@ -404,12 +609,18 @@ def lock_rows():
         is_plain = age > 0 and n in (age, age + (1 << 22))
         waits = [] if n >> 31 & 1 else [units_note(age)] * (age > 0) if n >> 22 & 1 else [age_note(age)] * (age > 2016)
         yield f"{number(n)}b275{push(KEY)}ac", [f"opcode 1, CHECKSEQUENCEVERIFY of {n}, asks for {asks}"] * (not is_plain) + waits
+    # ages whose bytes in the other order are two weeks at most, or whole days where the age has none; and others
+    for n, is_turned in ((8_193, True), (20_685, True), (20_684, False), (24_624, False), (8_449, True), (32_519, True), (8_200, False), (8_640, False), (12_960, False), (4_033, False)):
+        yield f"{number(n)}b275{push(KEY)}ac", [*turned_notes(n, "CHECKSEQUENCEVERIFY", is_turned), age_note(n)]
+    # heights whose bytes in the other order are 1,999,999, 2,000,207 and 4,279,116
+    for n, is_turned in ((8_356_894, True), (5_211_422, False), (5_000_001, False), (5_306_380, True)):
+        code = f"{number(n)}b175{push(KEY)}ac"
+        yield code, [*turned_notes(n, "CHECKLOCKTIMEVERIFY", is_turned), *doubt_notes(code)]
     # lock times: the greatest that a median time past is above, the greatest of 4 bytes, one more, the greatest of 5 bytes, and of two paths the second
     beyond = "a lock time has 4 bytes, so it is at most 4294967295"
     never = "nobody can ever spend by path 0: its lock time is 4294967295, and no median time past is above that (BIP 113)"
-    # the bytes of 5,000,001 to 5,000,012 in the other order are a usual height
     bounds = (481_824, 500_000_000, 1_503_539_857, 4_102_444_800)
-    for n in (0, 500, 700_000, 839_999, 840_000, 900_000, 5_000_000, 5_000_013, *(it for bound in bounds for it in (bound - 1, bound)), 2**32 - 2, 2**32 - 1, 2**32, 2**39 - 1):
+    for n in (0, 500, 700_000, 839_999, 840_000, 900_000, 5_000_000, 5_000_002, *(it for bound in bounds for it in (bound - 1, bound)), 2**32 - 2, 2**32 - 1, 2**32, 2**39 - 1):
         beyond_or_never = [f"no transaction has the lock time of path 0: {beyond}"] * (n >= 2**32) + [never] * (n == 2**32 - 1)
         code = f"{number(n)}b175{push(KEY)}ac"
         yield code, [*beyond_or_never, *doubt_notes(code), *wait_notes([("lock", n, True)] if n < 2**32 - 1 else [])]
@@ -548,6 +759,8 @@ def spender_notes(facts, slots):
         yield "a signature with a given hash is asked for on path 0: what it signs has that hash in it, so nobody can ever make one"
     if any(kind in ("token", "assigned") and {("size", slot), ("is", slot)} & {*held} for kind, slot in held):
         yield "a signature of a given size, or with given bytes, is asked for on path 0: here it is a token of 66 bytes, and in Bitcoin it has 71 or 72 mostly, so the path may be met by nobody"
+    if any(kind == "form" and not any(it in ("token", "assigned") and other == slot for (it, _, _), other in zip(facts, slots)) for (kind, _, _), slot in zip(facts, slots)):
+        yield "nothing depends on the check of a signature on path 0: the empty item serves as well"
     yield from twice_notes(facts, slots)
 
 
@@ -902,7 +1115,7 @@ def names_dead_ends(code, ran):
 def main():
     os.chdir(TOP)
     command = program("enforce")
-    scripts = [*opcode_rows(), *operand_rows(), *length_rows(), *((code, with_dead_ends(code, notes)) for code, notes in [*ENDS, *lock_rows(), *key_rows(), *constant_rows(), *shared_rows(), *relay_rows(), *origin_rows(), *empty_rows()])]
+    scripts = [*opcode_rows(), *operand_rows(), *length_rows(), *((code, with_dead_ends(code, notes)) for code, notes in [*ENDS, *lock_rows(), *key_rows(), *constant_rows(), *shared_rows(), *relay_rows(), *origin_rows(), *pushed_rows(), *shown_rows(), *dropped_rows(), *shortcut_rows(), *empty_rows()])]
     pairs = [(code, facts, with_dead_ends(code, notes)) for code, facts, notes in pair_rows()]
     texts = [(json.dumps(value), [note]) for value, note in scenario_rows()]
     # the place of what is no JSON, in a text of as many bytes as there may be; one more byte is not looked at

@@ -10,6 +10,9 @@ const OTHER_KEY: &str = "0222222222222222222222222222222222222222222222222222222
 
 const HASH: &str = "3333333333333333333333333333333333333333";
 
+// That of the first key.
+const HASH_OF_KEY: &str = "967417a27cfe610c40da3325b9e19fe339d4915c";
+
 const PAYMENT_HASH: &str = "4444444444444444444444444444444444444444";
 
 // The ends of three notes.
@@ -28,6 +31,10 @@ const NO_POINT: &str = "02111111111111111111111111111111111111111111111111111111
 
 const OFF_CURVE: &str = " is no point of the curve: nobody can sign for this key\n";
 
+// The note on a lock that the same key goes around.
+const AROUND: &str =
+    "note: path 0 asks for no other signature or preimage than path 1, and does not wait: the lock of path 1 holds nobody up\n";
+
 // The end of the note on a key that stands twice.
 const TWICE: &str = " twice: who has it signs for both\n";
 
@@ -35,6 +42,10 @@ const TWICE: &str = " twice: who has it signs for both\n";
 const X: &str = "1212121212121212121212121212121212121212121212121212121212121212";
 
 const G: &str = "79be667ef9dcbbac55a06295ce870b07029bfcdb2dce28d959f2815b16f81798";
+
+// Both coordinates of twice G.
+const TWICE_G: &str =
+    "c6047f9441ed7d6d3045406e95c07cd85c778e4b8cef3ca7abac09b95c709ee51ae168fea63dc339a3c58419466ceaeef7f632653266d0e1236431a950cfe52a";
 
 const H: &str = "50929b74c1a04954b78b4b6035e97a5e078a5a0f28ec96d547bfee9ace803ac0";
 
@@ -44,7 +55,7 @@ struct Case {
     notes: &'static [&'static str],
 }
 
-const RISKS: [Case; 33] = [
+const RISKS: [Case; 40] = [
     // the number 1; the empty script; IF 1 ELSE 2 ENDIF
     Case {
         code: &["51"],
@@ -97,7 +108,7 @@ const RISKS: [Case; 33] = [
     },
     Case {
         code: &["6321", NO_POINT, "ac67029000b27521", NO_POINT, "ac68"],
-        notes: &["note: opcode 1: ", NO_POINT, OFF_CURVE],
+        notes: &["note: opcode 1: ", NO_POINT, OFF_CURVE, AROUND],
     },
     // 1 of two keys, the second of which is none
     Case {
@@ -171,6 +182,7 @@ const RISKS: [Case; 33] = [
         code: &["630300000167029000", "68b27521", KEY, "ac"],
         notes: &[
             "note: opcode 5, CHECKSEQUENCEVERIFY of 65536, asks for an age of 0 blocks: of a number only bits 0 to 15, 22 and 31 count (BIP 68)\n",
+            AROUND,
         ],
     },
     // the last age without a note, and the first with one
@@ -186,22 +198,41 @@ const RISKS: [Case; 33] = [
     Case {
         code: &["03205a07b17521", KEY, "ac"],
         notes: &[
-            "note: path 0 waits for a block above height 481824, on Bitcoin's main chain about 2017-08\n",
+            "note: path 0 can be taken in blocks above height 481824, on Bitcoin's main chain from about 2017-08 on\n",
         ],
     },
     Case {
         code: &["03404b4cb17521", KEY, "ac"],
         notes: &[
-            "note: path 0 waits for a block above height 5000000, on Bitcoin's main chain about 2103-05\n",
+            "note: path 0 can be taken in blocks above height 5000000, on Bitcoin's main chain from about 2103-05 on\n",
         ],
     },
-    // the point G, the negation of the point H of BIP 341, and HASH160 of nothing
+    // the point G, its negation, twice it in 65 bytes, the negation of the point H of BIP 341, and HASH160 of nothing
     Case {
         code: &["2102", G, "ac"],
         notes: &[
             "note: opcode 0: 02",
             G,
             " is the point G, whose private key is 1: anyone can sign for it\n",
+        ],
+    },
+    Case {
+        code: &["2103", G, "ac"],
+        notes: &[
+            "note: opcode 0: 03",
+            G,
+            " is the point -G, whose private key is n - 1: anyone can sign for it\n",
+        ],
+    },
+    Case {
+        code: &["6321", KEY, "ac674104", TWICE_G, "ac68"],
+        notes: &[
+            "note: a branch ends at opcode 5: 04",
+            TWICE_G,
+            " (65 bytes) is no key here (a key has 33 bytes, and begins with 02 or 03); consensus takes this one, and nodes relay no spend with it\n",
+            "note: opcode 4: 04",
+            TWICE_G,
+            " is the point 2G, whose private key is 2: anyone can sign for it\n",
         ],
     },
     Case {
@@ -219,8 +250,54 @@ const RISKS: [Case; 33] = [
             "ac",
         ],
         notes: &[
-            "note: opcode 1: b472a266d0bd89c13706a4132ccfb16f7c3b9fcb is the hash of nothing: as a hash it keeps nobody out, or everybody\n",
+            "note: path 0 asks for what has the hash b472a266d0bd89c13706a4132ccfb16f7c3b9fcb, the hash of nothing: whoever sees the script knows it, so it keeps nobody out\n",
         ],
+    },
+    // a hash as it stands; a check that is dropped, and a comparison
+    Case {
+        code: &["14", HASH, "8821", KEY, "ac"],
+        notes: &[
+            "note: path 0 asks for these 20 bytes as they stand, ",
+            HASH,
+            ": whoever sees the script has them, so they keep nobody out: is a HASH160 missing?\n",
+        ],
+    },
+    Case {
+        code: &["21", KEY, "ac7521", OTHER_KEY, "ac"],
+        notes: &[
+            "note: nothing depends on the check of a signature on path 0: the empty item serves as well\n",
+        ],
+    },
+    Case {
+        code: &["a914", HASH, "877521", KEY, "ac"],
+        notes: &[
+            "note: opcode 3, DROP, drops what opcode 2, EQUAL, found: nothing depends on that comparison\n",
+        ],
+    },
+    // after 144 blocks one of two keys that sign at once, and one of them that signs at once alone
+    Case {
+        code: &[
+            "635221",
+            KEY,
+            "21",
+            OTHER_KEY,
+            "52ae67029000b27521",
+            KEY,
+            "ac68",
+        ],
+        notes: &[],
+    },
+    Case {
+        code: &[
+            "6321",
+            KEY,
+            "ac67029000b2755221",
+            KEY,
+            "21",
+            OTHER_KEY,
+            "52ae68",
+        ],
+        notes: &[AROUND],
     },
     // items of 80 bytes, and of 81
     Case {
@@ -243,7 +320,7 @@ const RISKS: [Case; 33] = [
 ];
 
 // Scripts with locks, and the notes on them.
-const LOCKS: [Case; 22] = [
+const LOCKS: [Case; 24] = [
     // 65536 CHECKSEQUENCEVERIFY DROP and a signature: an age of 0
     Case {
         code: &["03000001b27521", KEY, "ac"],
@@ -278,7 +355,7 @@ const LOCKS: [Case; 22] = [
         code: &["05feffffff00b17521", KEY, "ac"],
         notes: &[
             "note: opcode 1, CHECKLOCKTIMEVERIFY of 4294967294, waits until after the year 2099\n",
-            "note: path 0 waits until the median time past is above 4294967294, 2106-02-07 in UTC: its lock is a time, in seconds since 1970 (BIP 113)\n",
+            "note: path 0 can be taken once the median time past is above 4294967294, 2106-02-07 in UTC: its lock is a time, in seconds since 1970 (BIP 113)\n",
         ],
     },
     Case {
@@ -309,10 +386,24 @@ const LOCKS: [Case; 22] = [
             "note: path 0 waits 8193 blocks, about 57 days at ten minutes each\n",
         ],
     },
+    // a year of blocks, its bytes turned round; and 5000001, whose bytes turned round are as far
+    Case {
+        code: &["02cd50b27521", KEY, "ac"],
+        notes: &[
+            "note: opcode 1, CHECKSEQUENCEVERIFY of 20685: the same bytes in the other order are 52560, and a number is little-endian\n",
+            "note: path 0 waits 20685 blocks, about 144 days at ten minutes each\n",
+        ],
+    },
+    Case {
+        code: &["03414b4cb17521", KEY, "ac"],
+        notes: &[
+            "note: opcode 1, CHECKLOCKTIMEVERIFY of 5000001, waits for a height that is some 78 years away: from 500000000 on a number is a time (BIP 65)\n",
+        ],
+    },
     Case {
         code: &["0350f80cb17521", KEY, "ac"],
         notes: &[
-            "note: path 0 waits for a block above height 850000, on Bitcoin's main chain about 2024-06\n",
+            "note: path 0 can be taken in blocks above height 850000, on Bitcoin's main chain from about 2024-06 on\n",
         ],
     },
     Case {
@@ -351,7 +442,7 @@ const LOCKS: [Case; 22] = [
     Case {
         code: &["6321", KEY, "ac6704803bb16ab17521", OTHER_KEY, "ac68"],
         notes: &[
-            "note: path 1 waits until the median time past is above 1790000000, 2026-09-21 in UTC: its lock is a time, in seconds since 1970 (BIP 113)\n",
+            "note: path 1 can be taken once the median time past is above 1790000000, 2026-09-21 in UTC: its lock is a time, in seconds since 1970 (BIP 113)\n",
         ],
     },
     Case {
@@ -370,13 +461,13 @@ const LOCKS: [Case; 22] = [
         notes: &[
             "note: opcode 1, CHECKLOCKTIMEVERIFY of 1503539856, ",
             PASSED,
-            "note: path 0 waits until the median time past is above 1503539856, 2017-08-24 in UTC: its lock is a time, in seconds since 1970 (BIP 113)\n",
+            "note: path 0 can be taken once the median time past is above 1503539856, 2017-08-24 in UTC: its lock is a time, in seconds since 1970 (BIP 113)\n",
         ],
     },
     Case {
         code: &["0491329e59b17521", KEY, "ac"],
         notes: &[
-            "note: path 0 waits until the median time past is above 1503539857, 2017-08-24 in UTC: its lock is a time, in seconds since 1970 (BIP 113)\n",
+            "note: path 0 can be taken once the median time past is above 1503539857, 2017-08-24 in UTC: its lock is a time, in seconds since 1970 (BIP 113)\n",
         ],
     },
     // the first second of 2100
@@ -384,7 +475,7 @@ const LOCKS: [Case; 22] = [
         code: &["05005786f400b17521", KEY, "ac"],
         notes: &[
             "note: opcode 1, CHECKLOCKTIMEVERIFY of 4102444800, waits until after the year 2099\n",
-            "note: path 0 waits until the median time past is above 4102444800, 2100-01-01 in UTC: its lock is a time, in seconds since 1970 (BIP 113)\n",
+            "note: path 0 can be taken once the median time past is above 4102444800, 2100-01-01 in UTC: its lock is a time, in seconds since 1970 (BIP 113)\n",
         ],
     },
 ];
@@ -437,38 +528,98 @@ const WITHOUT_TIMEOUT: [&str; 9] = [
 const ORIGINS: [(&str, &str); 10] = [
     (
         "ffffffffffffffffffffffffffffffffffffffff",
-        "note: opcode 1: ffffffffffffffffffffffffffffffffffffffff is bytes of ff: as a hash it keeps nobody out, or everybody\n",
+        "bytes of ff: nobody has that, so nobody can spend by this path\n",
     ),
-    ("fffffffffffffffffffffffffffffffffffffffe", ""),
     (
         "9f7fd096d37ed2c0e3f7f0cfc924beef4ffceb68",
-        "note: opcode 1: 9f7fd096d37ed2c0e3f7f0cfc924beef4ffceb68 is the hash of the script 00: as a hash it keeps nobody out, or everybody\n",
+        "the hash of the script 00: whoever sees the script knows it, so it keeps nobody out\n",
     ),
     (
         "8296da5ca015c76181754a475b0677012cf63960",
-        "note: opcode 1: 8296da5ca015c76181754a475b0677012cf63960 is the hash of the script ff: as a hash it keeps nobody out, or everybody\n",
+        "the hash of the script ff: whoever sees the script knows it, so it keeps nobody out\n",
     ),
-    ("e6c41bcc570872e88e58db7c940dc8d399e72aef", ""),
+    (
+        "b8bcb07f6344b42ab04250c86a6e8b75d3fdbbc6",
+        "the hash of 32 bytes of 00: whoever sees the script knows it, so it keeps nobody out\n",
+    ),
+    (
+        "30b451b94a30185c3c9de6fcee1e62e1702537fe",
+        "the hash of the number 16 in 32 bytes: whoever sees the script knows it, so it keeps nobody out\n",
+    ),
+    (
+        "fd7b15dc5dc2039556693555c2b81b36c8deec15",
+        "the hash of the SHA-256 of nothing: whoever sees the script knows it, so it keeps nobody out\n",
+    ),
     (
         "91b24bf9f5288532960ac687abb035127b1d28a5",
-        "note: opcode 1: 91b24bf9f5288532960ac687abb035127b1d28a5 is the hash of the point G, whose private key is 1: as a hash it keeps nobody out, or everybody\n",
+        "the hash of the point G, whose private key is 1: whoever sees the script knows it, so it keeps nobody out\n",
     ),
     (
         "adde4c73c7b9cee17da6c7b3e2b2eea1a0dcbe67",
-        "note: opcode 1: adde4c73c7b9cee17da6c7b3e2b2eea1a0dcbe67 is the hash of the point -G, whose private key all know: as a hash it keeps nobody out, or everybody\n",
+        "the hash of the point -G, whose private key is n - 1: whoever sees the script knows it, so it keeps nobody out\n",
     ),
     (
-        "bec08011c9e76dcc42e739a2d7752c2e3ac86e6e",
-        "note: opcode 1: bec08011c9e76dcc42e739a2d7752c2e3ac86e6e is the hash of the point -G, whose private key all know: as a hash it keeps nobody out, or everybody\n",
-    ),
-    (
-        "7c461e5dfab30ef6f343b8e6f1ea1a0330361065",
-        "note: opcode 1: 7c461e5dfab30ef6f343b8e6f1ea1a0330361065 is the hash of the point H of BIP 341, whose private key nobody knows: as a hash it keeps nobody out, or everybody\n",
+        "1f84783c37bc2acab0ba3e377e2a58ceec4ffd6f",
+        "the hash of the point G/2, whose private key is (n + 1) / 2: whoever sees the script knows it, so it keeps nobody out\n",
     ),
     (
         "85137e8795c8f4da95bc257449783abf353a238a",
-        "note: opcode 1: 85137e8795c8f4da95bc257449783abf353a238a is the hash of the point H of BIP 341, whose private key nobody knows: as a hash it keeps nobody out, or everybody\n",
+        "the hash of the point H of BIP 341, whose private key nobody knows: whoever sees the script knows it, so it keeps nobody out\n",
     ),
+];
+
+// Bytes of which nothing is known: ff and a last fe, and the hashes of 5151 and of 31 bytes of ff.
+const SECRETS: [&str; 3] = [
+    "fffffffffffffffffffffffffffffffffffffffe",
+    "c8cde4cd534c55ce1cdbf1e6505a8b1c53c8f550",
+    "d0bb489c8dad9e5075eb2274dd313ffc3c2e6b46",
+];
+
+// Hashes of what a script has or all know, with what else is asked: in pieces, and the notes in pieces.
+const PREIMAGES: [Case; 6] = [
+    // HASH160 of the key itself, of another one, and of one of 32 bytes
+    Case {
+        code: &["a914", HASH_OF_KEY, "8821", KEY, "ac"],
+        notes: &[
+            "note: path 0 asks for what has the hash ",
+            HASH_OF_KEY,
+            ", the HASH160 of what opcode 3 pushes: whoever sees the script knows it, so it keeps nobody out\n",
+        ],
+    },
+    Case {
+        code: &["a914", HASH_OF_KEY, "8821", OTHER_KEY, "ac"],
+        notes: &[],
+    },
+    Case {
+        code: &["82012088a914", HASH_OF_KEY, "8821", KEY, "ac"],
+        notes: &[
+            "note: path 0 asks for what has the hash ",
+            HASH_OF_KEY,
+            ", the HASH160 of what opcode 6 pushes, and for another size than that has: nobody can spend by this path\n",
+        ],
+    },
+    // the key that has the hash signs, and by another branch after 144 blocks
+    Case {
+        code: &["76a914", HASH_OF_KEY, "8763ac6775029000b27521", KEY, "ac68"],
+        notes: &["note: a key is taken by its hash on path 0", HASHED],
+    },
+    // DUP HASH160 of three times G, and of nothing, EQUALVERIFY CHECKSIG after DROP of 1
+    Case {
+        code: &["517576a9147dd65592d0ab2fe0d0257d571abf032cd9db93dc88ac"],
+        notes: &[
+            "note: a key is taken by its hash on path 0",
+            HASHED,
+            "note: path 0 asks for what has the hash 7dd65592d0ab2fe0d0257d571abf032cd9db93dc, the hash of the point 3G, whose private key is 3: anyone can sign for it\n",
+        ],
+    },
+    Case {
+        code: &["517576a914b472a266d0bd89c13706a4132ccfb16f7c3b9fcb88ac"],
+        notes: &[
+            "note: a key is taken by its hash on path 0",
+            HASHED,
+            "note: path 0 asks for what has the hash b472a266d0bd89c13706a4132ccfb16f7c3b9fcb, the hash of nothing: nobody can sign for that, so nobody can spend by this path\n",
+        ],
+    },
 ];
 
 // Asserts the notes on scripts.
@@ -517,8 +668,14 @@ fn tells_of_an_offered_htlc(rt: HostRuntime) {
 
 #[test]
 fn tells_hashes_of_no_secret(rt: HostRuntime) {
+    let asks = "note: path 0 asks for what has the hash ";
     for (hash, notes) in &ORIGINS {
         let code = ["a914", hash, "8821", KEY, "ac"];
-        noted_of_pieces(&rt, rt.alloc(), &code, &[notes]);
+        noted_of_pieces(&rt, rt.alloc(), &code, &[asks, hash, ", ", notes]);
     }
+    for hash in &SECRETS {
+        let code = ["a914", hash, "8821", KEY, "ac"];
+        noted_of_pieces(&rt, rt.alloc(), &code, &[]);
+    }
+    has_risks(&rt, rt.alloc(), &PREIMAGES);
 }

@@ -4,9 +4,12 @@ use crate::fixtures::{joined, noted_of_each, noted_of_pieces};
 use std::alloc::Global;
 use std::process::Abort;
 
-// A key of 65 bytes, and one of 33, in hexadecimal.
+// A key of 65 bytes, the same with the first byte of the other y coordinate, and one of 33, in hexadecimal.
 const LONG_KEY: &str =
-    "0411111111111111111111111111111111111111111111111111111111111111112222222222222222222222222222222222222222222222222222222222222222";
+    "041212121212121212121212121212121212121212121212121212121212121212358e043e125ea9c331efa4de36ab88503a7ea92dfc9f8e21f344d7f6bf2aca94";
+
+const NO_POINT: &str =
+    "071212121212121212121212121212121212121212121212121212121212121212358e043e125ea9c331efa4de36ab88503a7ea92dfc9f8e21f344d7f6bf2aca94";
 
 const KEY: &str = "021212121212121212121212121212121212121212121212121212121212121212";
 
@@ -159,7 +162,7 @@ const UNMET: [(&str, &str); 10] = [
     // SIZE 0 EQUALVERIFY, and what HASH160 gives: of nothing, and not; or DUP 0 EQUAL NOTIF DROP 1 ELSE DROP 0 ENDIF
     (
         "820088a914b472a266d0bd89c13706a4132ccfb16f7c3b9fcb87",
-        "note: whoever sees such a witness can spend too by path 0: what has a given hash is asked for, and no signature of a key that the script fixes\nnote: opcode 4: b472a266d0bd89c13706a4132ccfb16f7c3b9fcb is the hash of nothing: as a hash it keeps nobody out, or everybody\n",
+        "note: whoever sees such a witness can spend too by path 0: what has a given hash is asked for, and no signature of a key that the script fixes\nnote: path 0 asks for what has the hash b472a266d0bd89c13706a4132ccfb16f7c3b9fcb, the hash of nothing: whoever sees the script knows it, so it keeps nobody out\n",
     ),
     (
         "820088a914333333333333333333333333333333333333333387",
@@ -225,6 +228,12 @@ const OF_TAPROOT: &str =
 const OF_TAPROOT_BESIDE_OTHERS: &str =
     "no key here (a key has 33 bytes, and begins with 02 or 03), as taproot alone has them; in consensus no signature is valid for it, and other keys of this check may sign\n";
 
+const OFF_CURVE: &str =
+    "no key here (a key has 33 bytes, and begins with 02 or 03), nor a point of the curve; in consensus its check is false, and nobody can spend where that has to be true\n";
+
+const OFF_CURVE_BESIDE_OTHERS: &str =
+    "no key here (a key has 33 bytes, and begins with 02 or 03), nor a point of the curve; in consensus no signature is valid for it, and other keys of this check may sign\n";
+
 const NO_NUMBER: &str =
     "no number here (numbers are minimally encoded); consensus is laxer, and may let others spend\n";
 
@@ -244,7 +253,7 @@ struct End {
 }
 
 // Keys in the script that do not have 33 bytes, numbers that are not minimally encoded, and signatures in the script.
-const ENDS: [End; 11] = [
+const ENDS: [End; 13] = [
     End {
         code: &["20", X_ONLY, "ac"],
         before: NONE,
@@ -280,6 +289,18 @@ const ENDS: [End; 11] = [
         before: NONE,
         at: &["4: ", LONG_KEY, " (65 bytes)"],
         rule: UNCOMPRESSED,
+    },
+    End {
+        code: &["6341", NO_POINT, "ac6721", KEY, "ac68"],
+        before: "",
+        at: &["2: ", NO_POINT, " (65 bytes)"],
+        rule: OFF_CURVE,
+    },
+    End {
+        code: &["5121", KEY, "41", NO_POINT, "52ae"],
+        before: NONE,
+        at: &["4: ", NO_POINT, " (65 bytes)"],
+        rule: OFF_CURVE_BESIDE_OTHERS,
     },
     End {
         code: &["820114ac"],

@@ -1,4 +1,4 @@
-// Which bytes are the x coordinate of a point of the curve secp256k1 (SEC 2, 2.4.1).
+// Which bytes are the x coordinate of a point of the curve secp256k1 (SEC 2, 2.4.1), or both coordinates of one.
 
 // A number of 256 bits.
 #[derive(Clone, Copy)]
@@ -109,8 +109,29 @@ fn is_square(element: Wide) -> bool {
     is_one
 }
 
+// What the square of y is, where x is an element of the field: x³ + 7.
+fn square_of_y(x: Wide) -> Wide {
+    sum(product(product(x, x), x), SEVEN)
+}
+
 /// Whether 32 bytes are the x coordinate of a point of the curve, so that they are a key (BIP 340, `lift_x`): x³ + 7 is a square in the field. It is tested, not proved.
 pub fn is_curve_x(bytes: &[u8]) -> bool {
     let x = Wide::of(bytes);
-    x.is_below(FIELD) && is_square(sum(product(product(x, x), x), SEVEN))
+    x.is_below(FIELD) && is_square(square_of_y(x))
+}
+
+/// Whether bytes are a key of 65 bytes that consensus takes: 04 and both coordinates of a point of the curve (SEC 1, 2.3.4), or 06 or 07 and those of one whose y coordinate is even or odd.
+/// It is tested, not proved.
+pub fn is_long_key(bytes: &[u8]) -> bool {
+    if bytes.len() != 65 {
+        return false;
+    }
+    let (x, y) = (Wide::of(&bytes[1..33]), Wide::of(&bytes[33..]));
+    let (square, wanted) = (product(y, y), square_of_y(x));
+    let hybrid: u8 = if y.is_odd() { 7 } else { 6 };
+    (bytes[0] == 4 || bytes[0] == hybrid)
+        && x.is_below(FIELD)
+        && y.is_below(FIELD)
+        && square.high == wanted.high
+        && square.low == wanted.low
 }

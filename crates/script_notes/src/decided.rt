@@ -28,9 +28,15 @@ impl Decided {
             locks: Vec::new(alloc),
             places: Vec::new(alloc),
         };
+        decided.follow_all(alloc, ops)?;
+        Ok(decided)
+    }
+
+    // Follows each branch.
+    fn follow_all(&mut self, alloc: Global, ops: &[Op]) -> Result<(), AllocError> {
         let mut choices = Vec::new(alloc);
         for _turn in 0..MAX_FATES {
-            let is_left = match decided.follow(alloc, ops, choices.as_slice())? {
+            let is_left = match self.follow(alloc, ops, choices.as_slice())? {
                 Some(op) => {
                     choices.push(Choice { op, runs: true })?;
                     true
@@ -41,7 +47,7 @@ impl Decided {
                 break;
             }
         }
-        Ok(decided)
+        Ok(())
     }
 
     /// Where the lock stands that has this place among [`locks`](Decided::locks).
@@ -64,16 +70,16 @@ impl Decided {
         for (at, op) in ops.iter().enumerate() {
             if at >= next {
                 self.keep_lock(alloc, at, op, &stack)?;
-                next = match make_turn(op, &mut stack)? {
-                    Turn::Next => self.go(ops, at, true)?,
-                    Turn::AfterElse => self.go(ops, at, false)?,
-                    Turn::AfterEndIf => after(ops, at),
+                let runs = match make_turn(op, &mut stack)? {
+                    Turn::Next => true,
+                    Turn::AfterElse | Turn::AfterEndIf => false,
                     Turn::Splits => match way_at(choices, at) {
-                        Some(runs) => self.go(ops, at, runs)?,
+                        Some(runs) => runs,
                         None => return Ok(Some(at)),
                     },
                     Turn::Ends(_, _) | Turn::EndsStrictly(_, _) | Turn::Lost => return Ok(None),
                 };
+                next = self.go(ops, at, runs)?;
             }
         }
         Ok(None)

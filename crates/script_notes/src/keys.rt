@@ -2,7 +2,7 @@
 
 use crate::conflicts::conflict_in;
 use crate::curve::is_curve_x;
-use crate::origins::{origin_of_hash, origin_of_point};
+use crate::origins::origin_of_point;
 use facts::{Fact, KeySource, Stated};
 use page::Page;
 use page::Piece::Count;
@@ -74,35 +74,22 @@ fn is_pushed(ops: &[Op], bytes: &[u8]) -> bool {
     false
 }
 
-/// Notes the points and hashes of a script of which all know the secret, or nobody does.
-pub fn note_origins(notes: &mut Page, ops: &[Op]) {
+/// Notes the keys of a script whose private key all know, or nobody does.
+pub fn note_known_keys(notes: &mut Page, ops: &[Op]) {
     for (at, op) in ops.iter().enumerate() {
         if let Op::Push(item) = op {
-            note_origin(notes, at, item.bytes());
+            let key = item.bytes();
+            if key.len() > 32 {
+                if let Some(point) = origin_of_point(key) {
+                    notes.write("note: opcode %: ", &[Count(at as u64)]);
+                    notes.hex("", key);
+                    notes.push(" is ");
+                    notes.push(point);
+                    notes.push("\n");
+                }
+            }
         }
     }
-}
-
-// Notes what the bytes of a push are, if they are such a point or hash.
-fn note_origin(notes: &mut Page, at: usize, bytes: &[u8]) {
-    let point = match x_of(bytes) {
-        Some(x) => origin_of_point(x),
-        None => None,
-    };
-    let hash = origin_of_hash(bytes);
-    if point.is_none() && hash.is_none() {
-        return;
-    }
-    notes.write("note: opcode %: ", &[Count(at as u64)]);
-    notes.hex("", bytes);
-    notes.push(" is ");
-    if let Some(origin) = point {
-        notes.push(origin);
-    } else if let Some(origin) = hash {
-        notes.show(&origin);
-        notes.push(": as a hash it keeps nobody out, or everybody");
-    }
-    notes.push("\n");
 }
 
 /// Notes the paths that ask for signatures of a key twice, or of a key and its negation.
@@ -141,8 +128,8 @@ fn write_repeated(notes: &mut Page, index: usize, key: &[u8], other: &[u8]) {
     }
 }
 
-// The keys whose signatures a fact asks for, if it holds: of one with a single key that one.
-fn keys_of(stated: &Stated) -> &[KeySource] {
+/// The keys whose signatures a fact asks for, if it holds: of one with a single key that one.
+pub(crate) fn keys_of(stated: &Stated) -> &[KeySource] {
     match &stated.fact {
         Fact::Token(_, source) if stated.holds => slice::from_ref(source),
         Fact::Assigned(_, sources) if stated.holds => sources.values(),
@@ -150,8 +137,8 @@ fn keys_of(stated: &Stated) -> &[KeySource] {
     }
 }
 
-// The bytes of a key that the script fixes, if they have the form of one.
-fn constant_of(source: &KeySource) -> Option<&[u8]> {
+/// The bytes of a key that the script fixes, if they have the form of one.
+pub(crate) fn constant_of(source: &KeySource) -> Option<&[u8]> {
     match source {
         KeySource::Const(bytes) if x_of(bytes.bytes()).is_some() => Some(bytes.bytes()),
         _ => None,
@@ -174,8 +161,8 @@ fn repeated_in<'a>(
     found
 }
 
-// The first of keys that has the x coordinate of another one.
-fn same_point<'a>(keys: &'a [KeySource], key: &[u8]) -> Option<&'a [u8]> {
+/// The first of keys that has the x coordinate of another one.
+pub(crate) fn same_point<'a>(keys: &'a [KeySource], key: &[u8]) -> Option<&'a [u8]> {
     for source in keys {
         if let Some(other) = constant_of(source) {
             if x_of(other) == x_of(key) {

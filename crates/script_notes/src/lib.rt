@@ -26,10 +26,12 @@ mod looks;
 mod names;
 mod operands;
 mod origins;
+mod preimages;
 mod pushes;
 mod refusals;
 mod risks;
 mod scripts;
+mod shortcuts;
 mod sizes;
 mod unknowns;
 

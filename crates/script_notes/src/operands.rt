@@ -18,10 +18,10 @@ pub enum Operand {
 }
 
 // How far a branch comes.
-#[derive(Drop)]
+#[derive(Clone, Copy)]
 enum Reached {
-    // To the opcode, with this stack.
-    Opcode(Stack<Entry>),
+    // To the opcode, where this keeps it from being decided.
+    Opcode(Option<Operand>),
     // To an IF or NOTIF that the witness decides.
     Splits(usize),
     Ends,
@@ -41,12 +41,11 @@ pub(crate) fn operand_at(
                 choices.push(Choice { op, runs: true })?;
                 true
             }
-            Reached::Opcode(stack) => {
-                match operand_of(stack.values()) {
-                    Some(Operand::Constant(bytes)) => return Ok(Some(Operand::Constant(bytes))),
-                    Some(Operand::Count) => found = Some(Operand::Count),
-                    None => {}
-                }
+            Reached::Opcode(Some(Operand::Constant(bytes))) => {
+                return Ok(Some(Operand::Constant(bytes)));
+            }
+            Reached::Opcode(operand) => {
+                found = operand.or(found);
                 turn_back(&mut choices)?
             }
             Reached::Ends => turn_back(&mut choices)?,
@@ -69,7 +68,7 @@ fn follow(
     let mut next = 0usize;
     for (at, op) in ops.iter().enumerate() {
         if at == end && at >= next {
-            return Ok(Reached::Opcode(stack));
+            return Ok(Reached::Opcode(operand_of(stack.values())));
         }
         if at >= next {
             next = match make_turn(op, &mut stack)? {

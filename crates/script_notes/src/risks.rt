@@ -1,9 +1,11 @@
-// Notes on what endangers money: paths that others can take too, branches that no run takes, keys that nobody can sign for, locks that ask for less than they say or hold nobody up, locks whose bytes seem to be turned round, and until when paths wait.
+// Notes on what endangers money: paths that others can take too, branches that no run takes, checks that nothing depends on, keys that nobody can sign for, locks that ask for less than they say or hold nobody up, locks whose bytes seem to be turned round, and until when paths wait.
 
 use crate::conflicts::conflict_in;
 use crate::dates::{Date, Span, month_of_height};
 use crate::decided::{Decided, note_long_pushes, note_unrun};
-use crate::keys::{note_origins, note_points, note_repeated_keys};
+use crate::keys::{note_known_keys, note_points, note_repeated_keys};
+use crate::preimages::note_hashes;
+use crate::shortcuts::note_shortcuts;
 use facts::{Fact, Stated};
 use page::Page;
 use page::Piece::{Count, Text};
@@ -54,15 +56,18 @@ pub fn note_risks(notes: &mut Page, alloc: Global, checked: &Checked) -> Result<
     let decided = Decided::of(alloc, ops)?;
     note_points(notes, paths, ops);
     note_repeated_keys(notes, paths);
+    note_known_keys(notes, ops);
+    note_hashes(notes, paths, ops);
     if !paths.is_empty() {
         note_unrun(notes, &decided, ops);
-        note_origins(notes, ops);
+        note_dropped(notes, ops);
         note_long_pushes(notes, ops);
     }
     note_locks(notes, &decided);
     note_turned(notes, &decided);
     note_doubts(notes, &decided);
     note_waits(notes, paths);
+    note_shortcuts(notes, paths);
     // with keys that have another form than a key's, it has fewer paths
     if paths.len() == 3 && is_offered_htlc(checked.script().bytes()) {
         note_timeout(notes);
@@ -71,7 +76,7 @@ pub fn note_risks(notes: &mut Page, alloc: Global, checked: &Checked) -> Result<
 }
 
 // The risks in the order of their notes.
-const RISKS: [Risk; 8] = [
+const RISKS: [Risk; 9] = [
     Risk::Unreachable,
     Risk::NeverFinal,
     Risk::Anyone,
@@ -79,6 +84,7 @@ const RISKS: [Risk; 8] = [
     Risk::HashedKey,
     Risk::HashedSignature,
     Risk::SizedSignature,
+    Risk::Unchecked,
     Risk::Unrelayed,
 ];
 
@@ -99,6 +105,8 @@ enum Risk {
     HashedSignature,
     // A signature is asked for whose size or bytes are given.
     SizedSignature,
+    // A signature is asked for, and nothing depends on its check.
+    Unchecked,
     // Nodes do not relay its witness.
     Unrelayed,
 }
@@ -116,6 +124,7 @@ impl Risk {
             Risk::SizedSignature => {
                 "note: a signature of a given size, or with given bytes, is asked for on path"
             }
+            Risk::Unchecked => "note: nothing depends on the check of a signature on path",
             Risk::Unrelayed => "note: nodes relay no spend by path",
         }
     }
@@ -140,6 +149,7 @@ impl Risk {
             Risk::SizedSignature => {
                 ": here it is a token of 66 bytes, and in Bitcoin it has 71 or 72 mostly, so the path may be met by nobody\n"
             }
+            Risk::Unchecked => ": the empty item serves as well\n",
             Risk::Unrelayed => ": it asks for more than 100 items, or for one above 80 bytes\n",
         }
     }
@@ -165,6 +175,7 @@ fn has_risk(path: &Path, risk: Risk) -> bool {
         Risk::Finder => taker_of(facts) == Taker::Finder,
         Risk::HashedKey => takes_hashed_key(facts),
         Risk::HashedSignature | Risk::SizedSignature => is_said_of_signatures(facts, risk),
+        Risk::Unchecked => has_unchecked(facts),
         Risk::Unrelayed => path.arity > MAX_RELAYED_ITEMS || has_long(facts),
     }
 }
@@ -179,6 +190,46 @@ fn has_long(facts: &[Stated]) -> bool {
         }
     }
     false
+}
+
+// Whether facts ask for an item in the form of a signature, and for no answer of its check.
+fn has_unchecked(facts: &[Stated]) -> bool {
+    for stated in facts {
+        if let Fact::Form(slot) = &stated.fact {
+            if !is_checked(facts, *slot) {
+                return true;
+            }
+        }
+    }
+    false
+}
+
+/// Whether facts ask for an answer of the check of a signature in a slot.
+pub(crate) fn is_checked(facts: &[Stated], slot: usize) -> bool {
+    for stated in facts {
+        let is_answer = match &stated.fact {
+            Fact::Token(place, _) => *place == slot,
+            Fact::Assigned(slots, _) => slots.values().contains(&slot),
+            _ => false,
+        };
+        if is_answer {
+            return true;
+        }
+    }
+    false
+}
+
+// Notes the comparisons whose answer is dropped.
+fn note_dropped(notes: &mut Page, ops: &[Op]) {
+    for (at, op) in ops.iter().enumerate() {
+        let next = at.saturating_add(1);
+        if let (Op::Equal, Some(Op::Drop)) = (op, ops.get(next)) {
+            notes.write(
+                "note: opcode %, DROP, drops what opcode %, EQUAL, found: nothing depends on that comparison\n",
+                &[Count(next as u64), Count(at as u64)],
+            );
+        }
+    }
 }
 
 // Notes a script that is too long for nodes to relay a spend of it.
@@ -342,7 +393,7 @@ fn plural(count: u16) -> &'static str {
     if count == 1 { "" } else { "s" }
 }
 
-// Notes until when the paths wait that somebody may meet, where their line does not tell.
+// Notes from when on the paths can be taken that somebody may meet, where their line does not tell.
 fn note_waits(notes: &mut Page, paths: &[Path]) {
     for (index, path) in paths.iter().enumerate() {
         let facts = path.facts.values();
@@ -354,12 +405,12 @@ fn note_waits(notes: &mut Page, paths: &[Path]) {
     }
 }
 
-// Notes the day until which a path waits whose absolute lock is a time, and the month of one that is a height, where it is not doubtful.
+// Notes the day of an absolute lock that is a time, and the month of one that is a height, where it is not doubtful.
 fn note_lock_time(notes: &mut Page, index: u64, lock: Option<u64>) {
     match lock {
         Some(lock) if lock >= LOCKTIME_THRESHOLD => {
             notes.write(
-                "note: path % waits until the median time past is above %, ",
+                "note: path % can be taken once the median time past is above %, ",
                 &[Count(index), Count(lock)],
             );
             notes.show(&Date::of(lock));
@@ -369,7 +420,7 @@ fn note_lock_time(notes: &mut Page, index: u64, lock: Option<u64>) {
             let (year, month) = month_of_height(lock);
             let zero = if month < 10 { "0" } else { "" };
             notes.write(
-                "note: path % waits for a block above height %, on Bitcoin's main chain about %-%%\n",
+                "note: path % can be taken in blocks above height %, on Bitcoin's main chain from about %-%% on\n",
                 &[
                     Count(index),
                     Count(lock),

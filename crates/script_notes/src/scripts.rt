@@ -4,6 +4,7 @@ ghost use Rattle.strictness.specs.Machine.{NobodySpends};
 
 use crate::calls::text_of;
 use crate::conflicts::{conflict_in, is_of_token_size};
+use crate::curve::is_long_key;
 use crate::dead_ends::note_dead_ends;
 use crate::looks::{note_length_before, note_look, note_message, note_size_of_key, note_text};
 use crate::pushes::note_pushes;
@@ -164,14 +165,15 @@ fn note_end(notes: &mut Page, ops: &[Op], end: &StrictEnd) {
 
 // Ends the note on bytes that are no key here. A CHECKSIG has no other key.
 fn note_key(notes: &mut Page, bytes: &[u8], is_alone: bool) {
-    match bytes {
-        [4 | 6 | 7, point @ ..] if point.len() == 64 => {
-            notes.push("; consensus takes this one, and nodes relay no spend with it\n");
-            return;
-        }
-        _ if bytes.len() == 32 => notes.push(", as taproot alone has them"),
-        _ => {}
+    if is_long_key(bytes) {
+        notes.push("; consensus takes this one, and nodes relay no spend with it\n");
+        return;
     }
+    notes.push(match bytes.len() {
+        32 => ", as taproot alone has them",
+        65 => ", nor a point of the curve",
+        _ => "",
+    });
     notes.push(if is_alone {
         "; in consensus its check is false, and nobody can spend where that has to be true\n"
     } else {

@@ -56,19 +56,20 @@ units = refl
 abbrev turned_lock : ℕ → ℕ → ℕ → TurnedLock
 turned_lock op number other = record { op = op; number = number; turned = other }
 
--- height 850,000, a second of 2026 and 288 blocks, each with the most significant byte first, and the first of them as a script has it; by the other opcode, and with another opcode between; and a number that is
+-- height 850,000, a second of 2026, 288 blocks and a year of them, each with the most significant byte first, and the first of them as a script has it; by the other opcode, and with another opcode between; and a number that is
 -- not negative in one order alone
 turned_round : map (turned_in 0 None) (
     (Push (0x0c ∷ 0xf8 ∷ 0x50 ∷ []) ∷ CheckLockTimeVerify ∷ []) ∷ (Number 1 ∷ Drop ∷ Push (0x6a ∷ 0xb1 ∷ 0x3b ∷ 0x10 ∷ []) ∷ CheckLockTimeVerify ∷ []) ∷ (Push (0x01 ∷ 0x20 ∷ []) ∷ CheckSequenceVerify ∷ [])
+    ∷ (Push (0xcd ∷ 0x50 ∷ []) ∷ CheckSequenceVerify ∷ [])
     ∷ (Push (0x50 ∷ 0xf8 ∷ 0x0c ∷ []) ∷ CheckLockTimeVerify ∷ []) ∷ (Push (0x0c ∷ 0xf8 ∷ 0x50 ∷ []) ∷ CheckSequenceVerify ∷ []) ∷ (Push (0x01 ∷ 0x20 ∷ []) ∷ CheckLockTimeVerify ∷ [])
     ∷ (Push (0x01 ∷ 0x20 ∷ []) ∷ Drop ∷ CheckSequenceVerify ∷ []) ∷ (Push (0x90 ∷ 0x20 ∷ []) ∷ CheckSequenceVerify ∷ []) ∷ (Push (0x01 ∷ 0x90 ∷ []) ∷ CheckSequenceVerify ∷ []) ∷ []) ≡
-    (turned_lock 1 5306380 850000 ∷ []) ∷ (turned_lock 3 272347498 1789999888 ∷ []) ∷ (turned_lock 1 8193 288 ∷ []) ∷ [] ∷ [] ∷ [] ∷ [] ∷ [] ∷ [] ∷ []
+    (turned_lock 1 5306380 850000 ∷ []) ∷ (turned_lock 3 272347498 1789999888 ∷ []) ∷ (turned_lock 1 8193 288 ∷ []) ∷ (turned_lock 1 20685 52560 ∷ []) ∷ [] ∷ [] ∷ [] ∷ [] ∷ [] ∷ [] ∷ []
 unfolding pushed_by seems_turned turned_at number_of
 turned_round = refl
 
 -- both sides of each bound: of heights, of times, and of ages
-turned_heights : map (λ (p : ℕ × ℕ). seems_turned CheckLockTimeVerify p.0 p.1) ((5000000, 850000) ∷ (5000001, 850000) ∷ (499999999, 850000) ∷ (500000000, 850000) ∷ (5000001, 99999) ∷ (5000001, 100000) ∷ (5000001, 5000000) ∷ (5000001, 5000001) ∷ [])
-    ≡ false ∷ true ∷ true ∷ false ∷ false ∷ true ∷ true ∷ false ∷ []
+turned_heights : map (λ (p : ℕ × ℕ). seems_turned CheckLockTimeVerify p.0 p.1) ((5000000, 850000) ∷ (5000001, 850000) ∷ (499999999, 850000) ∷ (500000000, 850000) ∷ (5000001, 99999) ∷ (5000001, 100000) ∷ (5000001, 2000000) ∷ (5000001, 2000001) ∷ (5000001, 4279116) ∷ [])
+    ≡ false ∷ true ∷ true ∷ false ∷ false ∷ true ∷ true ∷ false ∷ false ∷ []
 unfolding seems_turned
 turned_heights = refl
 
@@ -77,7 +78,7 @@ turned_times : map (λ (p : ℕ × ℕ). seems_turned CheckLockTimeVerify p.0 p.
 unfolding seems_turned
 turned_times = refl
 
-turned_ages : map (λ (p : ℕ × ℕ). seems_turned CheckSequenceVerify p.0 p.1) ((4032, 288) ∷ (4033, 288) ∷ (65535, 288) ∷ (65536, 288) ∷ (8193, 255) ∷ (8193, 256) ∷ (8193, 2016) ∷ (8193, 2017) ∷ [])
-    ≡ false ∷ true ∷ true ∷ false ∷ false ∷ true ∷ true ∷ false ∷ []
+turned_ages : map (λ (p : ℕ × ℕ). seems_turned CheckSequenceVerify p.0 p.1) ((4032, 288) ∷ (4033, 288) ∷ (65535, 288) ∷ (65536, 288) ∷ (8193, 255) ∷ (8193, 256) ∷ (8193, 2016) ∷ (8193, 2017) ∷ (20685, 52560) ∷ (20685, 52559) ∷ (24624, 12384) ∷ (20685, 65520) ∷ (20685, 65664) ∷ (20685, 144) ∷ (4032, 52560) ∷ (65537, 52560) ∷ [])
+    ≡ false ∷ true ∷ true ∷ false ∷ false ∷ true ∷ true ∷ false ∷ true ∷ false ∷ false ∷ true ∷ false ∷ false ∷ false ∷ false ∷ []
 unfolding seems_turned
 turned_ages = refl

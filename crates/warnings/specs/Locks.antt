@@ -1,5 +1,5 @@
 -- Relative locks (BIP 68, BIP 112), and absolute ones that no transaction reaches (BIP 65).
-use Rattle.std.specs.Prelude.{ℕ, ◌+◌, ◌%◌, ◌/◌, Bool, false, ◌&&◌, ◌||◌, ◌==◌, nat_le, nat_lt, if◌then◌else◌, List, [], ◌∷◌, ◌++◌, Option, Some, None, option_and_then, option_to_list, max, reverse}
+use Rattle.std.specs.Prelude.{ℕ, ◌+◌, ◌*◌, ◌%◌, ◌/◌, Bool, false, not, ◌&&◌, ◌||◌, ◌==◌, nat_le, nat_lt, if◌then◌else◌, List, [], ◌∷◌, ◌++◌, length, slice_index, Option, Some, None, option_and_then, option_to_list, max, reverse}
 use Rattle.std.specs.List.{list_any}
 use Rattle.facts.specs.Symbols.{Fact, Stated}
 use Rattle.facts.specs.declared.symbols.FactOver.TheVariants.{Lock, Age}
@@ -76,9 +76,11 @@ abbrev pub greatest_units : List Stated → Option ℕ
 greatest_units [] = None
 greatest_units (s ∷ facts) = greater (units_of s.fact) (greatest_units facts)
 
--- the number of the same bytes from the last to the first
+-- the number of the same bytes from the last to the first: of two bytes the one without a sign, since 52,560 has three in a script
 abbrev pub turned_of : List ℕ → Option ℕ
-turned_of item = option_and_then magnitude_of (number_of 5 (reverse item))
+turned_of item =
+    if length item == 2 then Some (256 * slice_index item 0 + slice_index item 1)
+    else option_and_then magnitude_of (number_of 5 (reverse item))
 
 abbrev pub both_of : Option ℕ → Option ℕ → Option Pushed
 both_of (Some n) (Some m) = Some (record { number = n; turned = m })
@@ -91,12 +93,14 @@ pushed_by (Push item) = both_of (option_and_then magnitude_of (number_of 5 item)
 pushed_by op = None
 
 -- an absolute lock by a height above 5,000,000, which is decades away, or by a time before the first block, 1,231,006,505, which restrains nobody. The other order has a height from 100,000 to
--- 5,000,000, or a time from the first block to 2049. A relative lock of more than 4,032 blocks, which the other order has as 256 to 2,016
+-- 2,000,000, which the chain comes to by 2046, or a time from the first block to 2049. A relative lock of more than 4,032 blocks, which the other order has as 256 to 2,016, or as whole days where this one has none (144 blocks)
 unfoldable pub seems_turned : Op → ℕ → ℕ → Bool
 seems_turned CheckLockTimeVerify n m =
     nat_lt 5000000 n
-    && ((nat_lt n LOCKTIME_THRESHOLD && nat_le 100000 m && nat_le m 5000000) || (nat_lt n 1231006505 && nat_le 1231006505 m && nat_lt m 2500000000))
-seems_turned CheckSequenceVerify n m = nat_lt 4032 n && nat_lt n 65536 && nat_le 256 m && nat_le m 2016
+    && ((nat_lt n LOCKTIME_THRESHOLD && nat_le 100000 m && nat_le m 2000000) || (nat_lt n 1231006505 && nat_le 1231006505 m && nat_lt m 2500000000))
+seems_turned CheckSequenceVerify n m =
+    nat_lt 4032 n && nat_lt n 65536 && nat_le 256 m
+    && (nat_le m 2016 || (nat_lt m 65536 && m % 144 == 0 && not (n % 144 == 0)))
 seems_turned op n m = false
 
 abbrev pub turned_by : ℕ → Op → Pushed → Option TurnedLock

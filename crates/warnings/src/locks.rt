@@ -224,10 +224,13 @@ fn number_in(bytes: &[u8]) -> Option<u64>
     }
 }
 
-// The number of the bytes from the last to the first, if it is not negative. The only error is that memory ran out.
+// The number of the bytes from the last to the first, if it is not negative. Of two bytes it is that without a sign. The only error is that memory ran out.
 fn turned_of(alloc: Global, bytes: &[u8]) -> Result<Option<u64>, AllocError>
     ensures { IfOk result (λ n. n ≡ turned_of bytes.now) }
 {
+    if bytes.len() == 2 {
+        return Ok(Some(256 * u64::from(bytes[0]) + u64::from(bytes[1])));
+    }
     let mut turned = Vec::new(alloc);
     turned.extend_from_slice(bytes)?;
     turned.reverse();
@@ -259,13 +262,16 @@ fn seems_turned(op: &Op, number: u64, turned: u64) -> bool
     match op {
         Op::CheckLockTimeVerify => {
             5_000_000 < number
-                && ((number < LOCKTIME_THRESHOLD && 100_000 <= turned && turned <= 5_000_000)
+                && ((number < LOCKTIME_THRESHOLD && 100_000 <= turned && turned <= 2_000_000)
                     || (number < 1_231_006_505
                         && 1_231_006_505 <= turned
                         && turned < 2_500_000_000))
         }
         Op::CheckSequenceVerify => {
-            4_032 < number && number < 65_536 && 256 <= turned && turned <= 2_016
+            4_032 < number
+                && number < 65_536
+                && 256 <= turned
+                && (turned <= 2_016 || (turned < 65_536 && turned % 144 == 0 && number % 144 != 0))
         }
         _ => false,
     }
