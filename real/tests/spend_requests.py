@@ -330,8 +330,8 @@ ORIGINS = {
     "0014751e76e8199196d454941c45d1b3a323f1433bd6": "the hash of the point G, whose private key is 1",
     "76a914751e76e8199196d454941c45d1b3a323f1433bd688ac": "the hash of the point G, whose private key is 1",
     "76a91491b24bf9f5288532960ac687abb035127b1d28a588ac": "the hash of the point G, whose private key is 1",
-    "76a914bec08011c9e76dcc42e739a2d7752c2e3ac86e6e88ac": "the hash of the point -G, whose private key all know",
-    "0014adde4c73c7b9cee17da6c7b3e2b2eea1a0dcbe67": "the hash of the point -G, whose private key all know",
+    "76a914bec08011c9e76dcc42e739a2d7752c2e3ac86e6e88ac": "the hash of the point -G, whose private key is n - 1",
+    "0014adde4c73c7b9cee17da6c7b3e2b2eea1a0dcbe67": "the hash of the point -G, whose private key is n - 1",
     "00206e340b9cffb37a989ca544e6bb780a2c78901d3fb33738768511a30617afa01d": "the hash of the script 00",
     "0020189f40034be7a199f1fa9891668ee3ab6049f82d38c68be70f596eab2e1857b7": "the hash of the script 6a",
     "0020a8100ae6aa1940d0b663bb31cd466142ebbdbd5187131b92d93818987832eb89": "the hash of the script ff",
@@ -345,7 +345,7 @@ ORIGINS = {
     "a914e4300531190587e3880d4c3004f5355d88ff928d87": SCRIPT_OF_G,
     "00208838f796bf4970b148779c05b74b8c49515b322d04035f7faa5d9b2375df2396": SCRIPT_OF_G,
     "a91448cc1845ab9f5099d4b36f02e148f7459d439fee87": (
-        "the hash of a script of the point -G, whose private key all know"
+        "the hash of a script of the point -G, whose private key is n - 1"
     ),
     "0020640ca8e9b8198ffa70b7d96d252f9f464444b1403715ab23cb3155492fafa786": (
         "the hash of a script of the point H of BIP 341, whose private key nobody knows"
