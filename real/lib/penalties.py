@@ -154,13 +154,14 @@ def read_feerate(shape: Shape) -> int:
         for name, is_limit in (("feerate_per_kw", False), ("most_feerate_per_kw", True), ("least_feerate_per_kw", True))
     )
     most, least = MOST_FEERATE if most is None else most, LEAST_FEERATE if least is None else least
-    told = f"{found} satoshis for 1,000 units of weight are {found / 250:g} for a virtual byte;"
+    told = f"{found} satoshis for 1,000 units of weight are {found / 250:g} for a virtual byte"
     if found > most:
-        raise Refused(f"TooHighFeerate {most}", f"{told} most_feerate_per_kw raises the limit")
+        raise Refused(f"TooHighFeerate {most}", f"{told}; most_feerate_per_kw raises the limit")
     if found < least:
         raise Refused(
             f"TooLowFeerate {least}",
-            f"{told} by default nodes pass on none below 1; least_feerate_per_kw lowers the limit",
+            f"{told}, and the limit is {least / 250:g}, which least_feerate_per_kw lowers; by default nodes before"
+            " Bitcoin Core 29.1 pass on nothing below 1, and later ones nothing below 0.1",
         )
     return found
 

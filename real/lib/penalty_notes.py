@@ -7,9 +7,9 @@ from real.lib.penalties import State
 from real.lib.ripemd160 import ripemd160
 from real.lib.transaction import read_transaction, sha256
 
-# the least feerate that nodes before Bitcoin Core 29.1 pass on by default, one satoshi for a virtual byte, and that of
-# later ones; and how many transactions nodes are sure to take that spend one which no block has
-RELAYED_FEERATE, LATER_FEERATE, CHILDREN = 253, 25, 24
+# from ten satoshis for a virtual byte on a feerate is noted in other units; and how many transactions nodes are sure to
+# take that spend one which no block has
+NOTED_FEERATE, CHILDREN = 2_500, 24
 # a fee that is above this part of what it is paid from, and the most blocks that an HTLC or a delay mostly has
 DEAR, FAR = 10, 2_016
 # the field of the curve (SEC 2, 2.4.1)
@@ -117,10 +117,12 @@ def notes_of(state: State, found: list[dict[str, Any]]) -> Iterator[str]:
         )
     yield from lock_notes(state, found)
     yield from spent_notes(state)
-    if state.feerate_per_kw < RELAYED_FEERATE:
+    yield from feerate_notes(state.feerate_per_kw)
+    cheap = [it["outputs"] for it in sent if it["fee"] < size_of(it)]
+    if cheap:
         yield (
-            f"the feerate_per_kw is below {RELAYED_FEERATE}, the least that nodes before Bitcoin Core 29.1 pass on by"
-            f" default; later ones pass on nothing below {LATER_FEERATE}"
+            "the fee is below one satoshi for a virtual byte, the least that nodes before Bitcoin Core 29.1 pass on by"
+            f" default, and later ones a tenth of it: of outputs {places_of(cheap)}"
         )
     dear = [it["outputs"] for it in sent if it["fee"] * DEAR > it["value"]]
     if dear:
@@ -146,10 +148,26 @@ def count_at_once(state: State, sent: list[dict[str, Any]]) -> int:
         return len(sent)
     size = penalties.seen_size(state)
     for count, it in enumerate(sent):
-        size += penalties.virtual_size(read_transaction(bytes.fromhex(it["transaction"])))
+        size += size_of(it)
         if count == CHILDREN or size > penalties.FAMILY_SIZE:
             return count
     return len(sent)
+
+
+def size_of(answer: dict[str, Any]) -> int:
+    """The virtual size of the transaction of an answer."""
+    return penalties.virtual_size(read_transaction(bytes.fromhex(answer["transaction"])))
+
+
+def feerate_notes(feerate_per_kw: int) -> Iterator[str]:
+    """Of a feerate that is high, or above the limit that a state has without its own: what it is in other units."""
+    told = f"the feerate is {feerate_per_kw // 250} satoshis for a virtual byte"
+    if feerate_per_kw > penalties.MOST_FEERATE:
+        yield f"{told}, and above the limit that holds without most_feerate_per_kw"
+    elif feerate_per_kw >= NOTED_FEERATE:
+        yield (
+            f"{told}, and {4 * feerate_per_kw} for 1,000 of them, for which bitcoin-cli estimatesmartfee tells it"
+        )
 
 
 def places_of(outputs: list[list[int]]) -> str:

@@ -695,7 +695,8 @@ class PenaltiesTest(CurveCase):
                 anchored_state(self.told, self.case, self.curve, outputs),
                 False,
             ),
-            ("the feerate_per_kw is below 253", {**good, "feerate_per_kw": 252, "least_feerate_per_kw": 252}, True),
+            # the fee is rounded up, so that it is not below one satoshi for a virtual byte
+            ("the fee is below one", {**good, "feerate_per_kw": 252, "least_feerate_per_kw": 252}, False),
             (
                 "the fee is above a tenth of the value: of outputs 0",
                 only_local(10 * fee - 1, feerate_per_kw=1_000),
@@ -834,6 +835,83 @@ class PenaltiesTest(CurveCase):
             found = [{**answer, "deadline_blocks": deadline}, {}]
             told = list(penalty_notes.notes_of(read, found))
             self.check(told == wanted, f"notes on a deadline of {deadline}, to {destination}: {told}")
+
+    def test_feerate_notes(self) -> None:
+        """Notes on feerates in other units, and on fees by the virtual size (BIP 141) of their own transactions."""
+        given, signed = state(self.told, self.case, self.curve), self.case["unsigned_tx_no_witness"]
+        size = len(signed) // 2
+        raised = {"most_feerate_per_kw": 300_000}
+        cheap = (
+            "the fee is below one satoshi for a virtual byte, the least that nodes before Bitcoin Core 29.1 pass on by"
+            " default, and later ones a tenth of it: of outputs 3"
+        )
+        for feerate, changes, fee, wanted in (
+            (253, {}, size, []),
+            (253, {}, size - 1, [cheap]),
+            (2_499, {}, size, []),
+            (
+                2_500,
+                {},
+                size,
+                [
+                    "the feerate is 10 satoshis for a virtual byte, and 10000 for 1,000 of them, for which bitcoin-cli"
+                    " estimatesmartfee tells it"
+                ],
+            ),
+            (
+                250_000,
+                raised,
+                size,
+                [
+                    "the feerate is 1000 satoshis for a virtual byte, and 1000000 for 1,000 of them, for which"
+                    " bitcoin-cli estimatesmartfee tells it"
+                ],
+            ),
+            (
+                250_001,
+                raised,
+                size,
+                [
+                    "the feerate is 1000 satoshis for a virtual byte, and above the limit that holds without"
+                    " most_feerate_per_kw"
+                ],
+            ),
+        ):
+            read = penalties.read_state(json.dumps({**given, **changes, "feerate_per_kw": feerate}))
+            answer = {"outputs": [3], "kinds": ["to_local"], "value": 20 * size, "fee": fee, "answer": "taken"}
+            found = [{**answer, "deadline_blocks": 1, "transaction": signed}, {}]
+            told = list(penalty_notes.notes_of(read, found))
+            self.check(told == wanted, f"notes on a feerate of {feerate} and a fee of {fee}: {told}")
+
+    def test_feerate_limits(self) -> None:
+        """What is said of a feerate beyond a limit has both in satoshis for a virtual byte."""
+        given = state(self.told, self.case, self.curve)
+        relayed = "by default nodes before Bitcoin Core 29.1 pass on nothing below 1, and later ones nothing below 0.1"
+        for changes, feerate, wanted in (
+            (
+                {},
+                252,
+                "252 satoshis for 1,000 units of weight are 1.008 for a virtual byte, and the limit is 1.012, which"
+                f" least_feerate_per_kw lowers; {relayed}",
+            ),
+            (
+                {"least_feerate_per_kw": 500},
+                499,
+                "499 satoshis for 1,000 units of weight are 1.996 for a virtual byte, and the limit is 2, which"
+                f" least_feerate_per_kw lowers; {relayed}",
+            ),
+            (
+                {},
+                250_001,
+                "250001 satoshis for 1,000 units of weight are 1000 for a virtual byte; most_feerate_per_kw raises the"
+                " limit",
+            ),
+        ):
+            try:
+                found: Any = penalties.read_state(json.dumps({**given, **changes, "feerate_per_kw": feerate}))
+            except Refused as why:
+                found = why.note
+            self.check(found == wanted, f"what is said of a feerate of {feerate}: {found}")
 
     def test_not_clean(self) -> None:
         """What the judge does not find clean is named with its reason, and all else is taken."""
