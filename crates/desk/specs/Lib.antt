@@ -3,3 +3,4 @@ pub mod Rule
 pub mod Seats
 pub mod Answers
 pub mod Refusals
+pub mod Broadcasts

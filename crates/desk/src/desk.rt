@@ -1,6 +1,6 @@
 // The desk, which shares a book among threads, and its seats.
 
-ghost use Rattle.std.specs.Prelude.{◌≡◌, ◌+◌, ◌<◌, ◌≤◌, ◌^◌, ◌↔◌, List, [], length, true, false, None, Some, Err, slice_get, IfSome, IfOk, OnOk, IfErr, MatchResult};
+ghost use Rattle.std.specs.Prelude.{◌≡◌, ◌+◌, ◌<◌, ◌≤◌, ◌^◌, ◌↔◌, ◌++◌, List, [], length, true, false, None, Some, Err, slice_get, IfSome, IfOk, OnOk, IfErr, MatchResult};
 ghost use Rattle.std.specs.List.{last_or, AllByRecursion};
 ghost use Rattle.std.specs.Vec.{vec_capacity};
 ghost use Rattle.crossbeam_channel.specs.Claims.{view};
@@ -10,14 +10,16 @@ ghost use Rattle.book.specs.Books.{replay};
 ghost use Rattle.book.specs.Dispatch.{reply_form};
 ghost use Rattle.book.specs.Replies.{kept};
 ghost use Rattle.book.specs.Calling.{IsKeepRefusal};
-ghost use Rattle.book.specs.Knowing.{IsKnownIn, IsKnowRefusal};
+ghost use Rattle.book.specs.Knowing.{IsKnownIn, IsKnowRefusal, preimages_in};
 ghost use Rattle.book.specs.Revoked.{IsRevokedIn, early_keep_refusal};
 ghost use Rattle.desk.specs.declared.desk.DeskError.TheVariants.{SeatsExhausted};
 ghost use Rattle.desk.specs.Histories.{GoesOn, first_seat};
 ghost use Rattle.desk.specs.Rule.{fresh, opened, last_view, returned, IsTaken, IsHeard, HasNoOthers, HasHeardAll, Follows};
 ghost use Rattle.desk.specs.Seats.{IsPassOf, IsSeatOf, IsIdle, AreSeats, EndsWithLast, IsSameSeat, HasSameCalls, TakesIn, TakesBook, number_in, calls_in, last_in, opening_in, heard_in, is_last_in, out_with};
 ghost use Rattle.desk.specs.Answers.{IsHistoryFor, IsAnswered};
+ghost use Rattle.desk.specs.Broadcasts.{commitment_in, htlc_tx_in, IsToldAs};
 
+use crate::broadcasts::{commitment_of, htlc_tx_of};
 use crate::rule::{Home, Next, OneBook, PutBack, PutFirst, SeatView, Take};
 use book::errors::{KeepError, KnowError};
 use book::{Book, Call, Entry, Reply};
@@ -27,6 +29,7 @@ use resolve::Known;
 use std::alloc::Global;
 use std::sync::Wait;
 use thiserror::Error;
+use tx::Tx;
 
 /// Why a desk is not made.
 #[derive(Clone, Copy, Debug, Drop, Error, PartialEq, Eq)]
@@ -266,6 +269,56 @@ impl Desk {
         let known = book.known(channel);
         self.put_back(rt, &mut seat.pass, book);
         known
+    }
+
+    /// The side's commitment of a number with both signatures, or its newest one where no number is given, ready to be broadcast (BOLT 3, "Commitment Transaction"). `None` where the side
+    /// has none of that number. Refused with `NoSuchChannel`. Blocks while another seat has the book.
+    pub fn commitment<R: Wait>(
+        &self,
+        rt: &R,
+        alloc: Global,
+        seat: &mut Seat,
+        channel: u64,
+        number: Option<u64>,
+    ) -> Result<Option<Tx>, KnowError>
+        requires { IsSeatOf self.now seat.old }
+        ensures seat { HasSameCalls self.now seat.old seat.new }
+        ensures history { IsHistoryFor (number_in seat.old) (calls_in seat.old)
+            (last_in seat.old) (last_in seat.new) }
+        ensures tx { IsToldAs
+            (commitment_in number (slice_get (replay (last_in seat.new)) channel)) result }
+    {
+        let book = self.take(rt, &mut seat.pass);
+        let tx = commitment_of(alloc, &book, channel, number);
+        self.put_back(rt, &mut seat.pass, book);
+        tx
+    }
+
+    /// The HTLC transaction of the side's commitment of a number, for its untrimmed HTLC at an index, with both signatures (BOLT 3, "HTLC-Timeout and HTLC-Success Transactions"). It shows the
+    /// first preimage of the HTLC's hash among those of the channel's fulfils and those that are given. `None` where the side does not have it. Refused with `NoSuchChannel`. Blocks while another
+    /// seat has the book.
+    pub fn htlc_tx<R: Wait>(
+        &self,
+        rt: &R,
+        alloc: Global,
+        seat: &mut Seat,
+        channel: u64,
+        number: u64,
+        htlc: u64,
+        learnt: &[[u8; 32]],
+    ) -> Result<Option<Tx>, KnowError>
+        requires { IsSeatOf self.now seat.old }
+        ensures seat { HasSameCalls self.now seat.old seat.new }
+        ensures history { IsHistoryFor (number_in seat.old) (calls_in seat.old)
+            (last_in seat.old) (last_in seat.new) }
+        ensures tx { IsToldAs (htlc_tx_in number htlc
+            (preimages_in channel (last_in seat.new) ++ learnt.now)
+            (slice_get (replay (last_in seat.new)) channel)) result }
+    {
+        let book = self.take(rt, &mut seat.pass);
+        let tx = htlc_tx_of(alloc, &book, channel, number, htlc, learnt);
+        self.put_back(rt, &mut seat.pass, book);
+        tx
     }
 
     /// The state of the peer's revoked commitment of this number, from which its penalties are built. Refused, in this order, with `NoSuchChannel`,

@@ -3,7 +3,7 @@
 //! [`Desk::new`] puts a book into a queue of capacity one, which acts as the lock: the thread that takes the book out
 //! has it alone until it puts the book back. Each thread has a [`Seat`] of its own, whose number stands in the entries
 //! of its calls. `call` makes any of the book's seven calls, `keep_set` keeps a set that was built outside the lock,
-//! `known` and `revoked` ask, and `close` returns the book. A seat whose thread has ended may come home to another one
+//! `known`, `revoked`, `commitment` and `htlc_tx` ask, and `close` returns the book. A seat whose thread has ended may come home to another one
 //! (`absorb`), which from then on knows its calls.
 //!
 //! While the lock is free, the queue holds one book, whose history is accepted and guarded. The history begins with the
@@ -29,6 +29,7 @@
 //! ```
 #![tactic(auto)]
 
+mod broadcasts;
 mod desk;
 mod rule;
 

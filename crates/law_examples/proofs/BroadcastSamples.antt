@@ -1,11 +1,8 @@
 -- A channel with commitments of unlike amounts: four of side A, by number, of which the last two have HTLCs.
-use Rattle.std.proofs.Common.{◌≡◌, ◌≢◌, ℕ, Bool, ◌+◌, zero, suc, List, [], ◌∷◌, map, get_or, Some, None, refl, sym, ap, ◌∙◌, subst, arith, lit≤}
-use Rattle.std.specs.Prelude.{slice_get}
-use Rattle.std.proofs.lemmas.Option.{same_Some, none-some}
+use Rattle.std.proofs.Common.{◌≡◌, ◌≢◌, ℕ, List, [], ◌∷◌, map, get_or, Some, None, refl, sym, ap, ◌∙◌, arith, lit≤}
 use Rattle.std.proofs.lemmas.Slice.Eq.{bytes_eq-Decides}
 use Rattle.sha2.specs.Sha256.{sha256}
 use Rattle.tx.specs.Fields.{Transaction}
-use Rattle.keys.specs.Rights.{Rights}
 use Rattle.terms.specs.declared.htlcs.Htlc.{Htlc}
 use Rattle.terms.specs.declared.agreement.Terms.{Terms}
 use Rattle.terms.specs.declared.sides.Side.TheVariants.{A, B}
@@ -16,15 +13,10 @@ use Rattle.commit.specs.Order.{in_order, output_cmp}
 use Rattle.commit.specs.Outputs.{outputs_of}
 use Rattle.commit.specs.Commitments.{Contents, commitment_of, transaction_of, htlcs_from, htlc_tx_of}
 use Rattle.channel.specs.declared.commitments.CommitmentState.{CommitmentState}
-use Rattle.channel.specs.Numbered.{SharesOut, IsNumbered, AreNumbered}
 use Rattle.channel.specs.Points.{point_at}
-use Rattle.channel.specs.Rights.{rights_of}
 use Rattle.channel.specs.States.{State}
-use Rattle.channel.specs.Tokens.{contents_of, peer_tokens}
-use Rattle.resolve.specs.declared.known.SignedCommitment.{SignedCommitment}
-use Rattle.resolve.specs.declared.known.Known.{Known}
+use Rattle.channel.specs.Tokens.{contents_of}
 use Rattle.publish.specs.Published.{signed_transaction, signed_htlc_of, signed_htlc_tx_with}
-use Rattle.book.specs.Knowing.{IsKnownOf}
 
 -- the values that a transaction pays
 abbrev pub values : Transaction → List ℕ
@@ -163,18 +155,7 @@ module _ (base : State) where
   unfolding commitment_of outputs_of in_order output_cmp htlcs_from
   no_preimage = refl
 
-  -- ---- what A knows of them
-
-  abbrev with_tokens : CommitmentState → SignedCommitment
-  with_tokens c = record {
-    commitment = contents c;
-    terms = terms;
-    owner = c.owner;
-    token = (peer_tokens terms c).commitment;
-    htlc_tokens = (peer_tokens terms c).htlcs;
-    funding = refl;
-    signed = refl;
-  }
+  -- ---- the channel that has them
 
   abbrev peers : CommitmentState
   peers = record first { owner = B; point = base.point }
@@ -188,52 +169,3 @@ module _ (base : State) where
     mine = first ∷ second ∷ third ∷ newest ∷ [];
     signed = peers ∷ [];
   }
-
-  abbrev pub known_with : Known → Rights → List (List ℕ) → Known
-  known_with known signer preimages = record known {
-    terms = terms;
-    side = A;
-    signer = signer;
-    own = with_tokens newest;
-    older = with_tokens first ∷ with_tokens second ∷ with_tokens third ∷ [];
-    theirs = contents peers;
-    next = None;
-    revoked = [];
-    preimages = preimages;
-  }
-
-  pub is_known : (known : Known) (kept : ℕ → Bool) (preimages : List (List ℕ)) → IsKnownOf state kept preimages (known_with known (rights_of state) preimages)
-  is_known known kept preimages = record {
-    terms_are = refl;
-    side_is = refl;
-    seed_is = refl;
-    rights_are = λ key. (λ may. may, λ may. may);
-    own_is = refl;
-    older_are = refl;
-    theirs_is = refl;
-    next_is = refl;
-    revoked_are = refl;
-    preimages_are = refl;
-  }
-
-  shares_first : SharesOut terms first.view
-  shares_first = record { few_of_a = lit≤ tt; few_of_b = lit≤ tt; heights_of_a = refl; heights_of_b = refl; whole = refl }
-
-  shares_second : SharesOut terms second.view
-  shares_second = record { few_of_a = lit≤ tt; few_of_b = lit≤ tt; heights_of_a = refl; heights_of_b = refl; whole = refl }
-
-  shares_third : SharesOut terms third.view
-  shares_third = record { few_of_a = lit≤ tt; few_of_b = lit≤ tt; heights_of_a = refl; heights_of_b = refl; whole = refl }
-
-  shares_newest : SharesOut terms newest.view
-  shares_newest = record { few_of_a = lit≤ tt; few_of_b = lit≤ tt; heights_of_a = refl; heights_of_b = refl; whole = refl }
-
-  each : (n : ℕ) (c : CommitmentState) → slice_get state.mine n ≡ Some c → IsNumbered terms A n c
-  each zero c e = subst (IsNumbered terms A 0) (same_Some first c e) (record { owner = refl; number = refl; shares = shares_first })
-  each (suc zero) c e = subst (IsNumbered terms A 1) (same_Some second c e) (record { owner = refl; number = refl; shares = shares_second })
-  each (suc (suc zero)) c e = subst (IsNumbered terms A 2) (same_Some third c e) (record { owner = refl; number = refl; shares = shares_third })
-  each (suc (suc (suc zero))) c e = subst (IsNumbered terms A 3) (same_Some newest c e) (record { owner = refl; number = refl; shares = shares_newest })
-  each (suc (suc (suc (suc n)))) c e = absurd (none-some c e)
-
-  pub are_numbered : AreNumbered terms A (3 + 1) state.mine
-  are_numbered = record { count = refl; each = each }

@@ -1,51 +1,31 @@
 -- What is broadcast of a side's book, and what becomes of the events that broadcast: in the second of two channels, of which the book has commitments 0 to 3.
-use Rattle.std.proofs.Common.{◌≡◌, ℕ, ◌+◌, Bool, true, List, [], ◌∷◌, length, Option, Some, None, Result, Ok, Err, refl, sym, ap, ◌∙◌, subst}
-use Rattle.std.specs.Prelude.{slice_get, option_map, ok_or}
-use Rattle.std.proofs.lemmas.List.{length-map}
+use Rattle.std.proofs.Common.{◌≡◌, ℕ, List, [], ◌∷◌, ◌++◌, Option, Some, None, Result, Ok, Err, refl, sym, ap, ◌∙◌, subst}
+use Rattle.std.specs.Prelude.{slice_get, option_map}
 use Rattle.std.proofs.lemmas.Option.{none-some}
 use Rattle.tx.specs.Fields.{Transaction}
-use Rattle.keys.specs.Rights.{Rights, MaySign}
 use Rattle.terms.specs.declared.sides.Side.TheVariants.{A, B}
 use Rattle.channel.specs.declared.commitments.CommitmentState.{CommitmentState}
-use Rattle.channel.specs.Keeping.{HasBases}
-use Rattle.channel.specs.Numbered.{AreNumbered}
-use Rattle.channel.specs.Rights.{rights_of}
 use Rattle.channel.specs.States.{State}
 use Rattle.channel.specs.Tokens.{contents_of}
-use Rattle.resolve.specs.declared.known.Known.{Known}
-use Rattle.publish.specs.Published.{signed_transaction, signed_commitment_of, signed_htlc_tx_of}
+use Rattle.publish.specs.Published.{signed_transaction, signed_commitment_of}
 use Rattle.scenario.specs.declared.events.Event.TheVariants as events
-use Rattle.book.specs.Books.{ChannelBook, is_kept, replay}
-use Rattle.book.specs.Knowing.{IsKnownOf, IsKnownIn, signed_parts, preimages_in}
-use Rattle.side.specs.Broadcasting.{Publishes, KnownPublishes}
+use Rattle.book.specs.Books.{ChannelBook, replay}
 use Rattle.desk.specs.Histories.{History}
 use Rattle.world.specs.declared.errors.EventError.{EventError}
 use Rattle.world.specs.declared.errors.EventError.TheVariants.{NoSuchChannel, NoSuchTx}
-use Rattle.world.specs.Publishing.{refusal_by}
-use Rattle.running.specs.Broadcasts.{newest_of, IsCommitmentOf, IsHtlcTxOf, IsBroadcastOf, IsBroadcast}
+use Rattle.world.specs.Publishing.{found, commitment_in, refusal_by}
+use Rattle.running.specs.Broadcasts.{IsFoundBy, IsBroadcast}
 use Rattle.running.specs.Outcomes.{IsBroadcastOutcome, IsOutcomeOf, IsOutcome}
-use Rattle.law_examples.proofs.BroadcastSamples.{preimage, terms, third, newest, contents, signed, newest_not_third, timeout, success, timeout_not_success, timeout_there, no_third_htlc, state, known_with, is_known, are_numbered}
-use Rattle.law_examples.proofs.Broadcasts.{Broadcast, of_event, commitment, htlc_tx, close, number_found, newest_found, none_found, htlc_tx_found, success_found, past_last_htlc}
+use Rattle.law_examples.proofs.BroadcastSamples.{third, newest, signed, newest_not_third, timeout, success, timeout_not_success, state}
+use Rattle.law_examples.proofs.Broadcasts.{Broadcast, of_event, commitment, htlc_tx, close, Answer, ok, same_ok, not_ok, number_found, newest_found, none_found, htlc_tx_found, past_last_htlc, timeout_is, no_third_is}
 
 -- ---- answers
-
-abbrev Answer : Type 0
-Answer = Result Transaction EventError
-
-abbrev ok : Transaction → Answer
-ok t = Ok t
 
 abbrev no_channel : Answer
 no_channel = Err NoSuchChannel
 
 abbrev no_tx : Answer
 no_tx = Err NoSuchTx
-
-same_ok : (t u : Transaction) → ok t ≡ ok u → t ≡ u
-same_ok t u e = cc
-
-not_ok : (t : Transaction) (e : EventError) → ok t ≡ Err e → ⊥
-not_ok t e f = none-some e (ap (λ (r : Answer). refusal_by r) f)
 
 -- the channel before it, and the one after it, which is not there
 abbrev before_it : Broadcast
@@ -56,8 +36,8 @@ after_it = of_event (events.Broadcast A 2 2) refl
 
 -- ---- what is broadcast of a book
 
--- Side A's book has some channel, and after it one with the four commitments. Whatever is known of that one has their transactions, and the right to them (`side::laws::known_publishes`)
-module _ (base : State) (law : KnownPublishes) (bases : HasBases (terms base) A base.seed) (known : Known) (kept_numbers : List ℕ) (closed : Option ℕ) where
+-- Side A's book has some channel, and after it one with the four commitments
+module _ (base : State) (kept_numbers : List ℕ) (closed : Option ℕ) where
   abbrev channel : ChannelBook
   channel = record { state = state base; kept = kept_numbers; closed = closed }
 
@@ -67,110 +47,10 @@ module _ (base : State) (law : KnownPublishes) (bases : HasBases (terms base) A 
   abbrev of_newest : Transaction
   of_newest = signed base (newest base)
 
-  abbrev rights : Rights
-  rights = rights_of (state base)
-
-  publishes : (kept : ℕ → Bool) (ps : List (List ℕ)) (k : Known) → IsKnownOf (state base) kept ps k → Publishes (state base) k
-  publishes kept ps k is = law (state base) kept ps k bases (are_numbered base) is
-
-  own_publishes : Publishes (state base) (known_with base known rights [])
-  own_publishes = publishes (λ n. true) [] (known_with base known rights []) (is_known base known (λ n. true) [])
-
-  may_fund : MaySign rights (terms base).a.bases.funding.bytes
-  may_fund = own_publishes.may_sign_commitment 3 of_newest refl
-
-  may_time_out : MaySign rights (contents base (third base)).keys.local_htlc
-  may_time_out = own_publishes.may_sign_htlc_tx 2 0 [] (timeout base) (timeout_there base [])
-
-  module _ (kept : ℕ → Bool) (ps : List (List ℕ)) (k : Known) (is : IsKnownOf (state base) kept ps k) where
-    three_older : newest_of k ≡ 3
-    three_older = sym (length-map k.older signed_parts) ∙ ap length is.older_are
-
-    commitment_is : (n : ℕ) (answer : Option Transaction) → IsCommitmentOf k n answer → answer ≡ signed_commitment_of (state base) n
-    commitment_is n answer s = (publishes kept ps k is).same_commitment n answer s
-
-    newest_is : (answer : Option Transaction) → IsCommitmentOf k (newest_of k) answer → answer ≡ Some of_newest
-    newest_is answer s = commitment_is 3 answer (subst (λ (n : ℕ). IsCommitmentOf k n answer) three_older s)
-
-    htlc_tx_is : (n i : ℕ) (answer : Option Transaction) (h : IsHtlcTxOf k n i answer) → answer ≡ signed_htlc_tx_of (state base) n i h.preimages
-    htlc_tx_is n i answer h = (publishes kept ps k is).same_htlc_tx n i h.preimages answer h.is
+  abbrev IsFound : History → Broadcast → Option ChannelBook → Answer → Type 0
+  IsFound h b there answer = IsFoundBy h b.channel b.choice there answer
 
   module _ (h : History) where
-    abbrev own : Known
-    own = known_with base known rights (preimages_in 1 h)
-
-    own_there : IsKnownIn h 1 (Some channel) own
-    own_there = is_known base known (is_kept kept_numbers) (preimages_in 1 h)
-
-    -- ---- of a channel
-
-    -- yes: IsBroadcastOf
-    of_number : IsBroadcastOf h (commitment 2) (Some channel) (Ok of_third)
-    of_number = (own, own_there, number_found base known rights (preimages_in 1 h) may_fund)
-
-    -- yes: IsBroadcastOf
-    of_close : IsBroadcastOf h close (Some channel) (Ok of_newest)
-    of_close = (own, own_there, newest_found base known rights (preimages_in 1 h) may_fund)
-
-    -- yes: IsBroadcastOf
-    of_htlc : IsBroadcastOf h (htlc_tx 2 0) (Some channel) (Ok (timeout base))
-    of_htlc = (own, own_there, htlc_tx_found base known rights (preimages_in 1 h) may_time_out)
-
-    -- yes: IsBroadcastOf
-    of_no_number : IsBroadcastOf h (commitment 4) (Some channel) (Err NoSuchTx)
-    of_no_number = (own, own_there, none_found base known rights (preimages_in 1 h))
-
-    of_no_htlc : IsBroadcastOf h (htlc_tx 2 2) (Some channel) (Err NoSuchTx)
-    of_no_htlc = (own, own_there, (None, past_last_htlc base known rights (preimages_in 1 h), refl))
-
-    -- A fulfilled with that preimage
-    -- yes: IsBroadcastOf
-    of_success : preimages_in 1 h ≡ preimage ∷ [] → IsBroadcastOf h (htlc_tx 2 1) (Some channel) (Ok (success base))
-    of_success e = (
-      known_with base known rights (preimage ∷ []),
-      subst (λ (ps : List (List ℕ)). IsKnownOf (state base) (is_kept kept_numbers) ps (known_with base known rights (preimage ∷ []))) (sym e)
-          (is_known base known (is_kept kept_numbers) (preimage ∷ [])),
-      success_found base known rights [] may_time_out,
-    )
-
-    number_told : (n : ℕ) (answer : Answer) → IsBroadcastOf h (commitment n) (Some channel) answer → answer ≡ ok_or (signed_commitment_of (state base) n) NoSuchTx
-    number_told n answer (k, is, found) =
-        found.2 ∙ ap (λ (o : Option Transaction). ok_or o NoSuchTx) (commitment_is (is_kept kept_numbers) (preimages_in 1 h) k is n found.0 found.1)
-
-    close_told : (answer : Answer) → IsBroadcastOf h close (Some channel) answer → answer ≡ ok of_newest
-    close_told answer (k, is, found) =
-        found.2 ∙ ap (λ (o : Option Transaction). ok_or o NoSuchTx) (newest_is (is_kept kept_numbers) (preimages_in 1 h) k is found.0 found.1)
-
-    htlc_told : (n i : ℕ) (answer : Answer) → IsBroadcastOf h (htlc_tx n i) (Some channel) answer → (ps : List (List ℕ)) × (answer ≡ ok_or (signed_htlc_tx_of (state base) n i ps) NoSuchTx)
-    htlc_told n i answer (k, is, found) =
-        (found.1.preimages, found.2 ∙ ap (λ (o : Option Transaction). ok_or o NoSuchTx) (htlc_tx_is (is_kept kept_numbers) (preimages_in 1 h) k is n i found.0 found.1))
-
-    timeout_told : (answer : Answer) → IsBroadcastOf h (htlc_tx 2 0) (Some channel) answer → answer ≡ ok (timeout base)
-    timeout_told answer is =
-        let told = htlc_told 2 0 answer is in
-        told.1 ∙ ap (λ (o : Option Transaction). ok_or o NoSuchTx) (timeout_there base told.0)
-
-    no_htlc_told : (answer : Answer) → IsBroadcastOf h (htlc_tx 2 2) (Some channel) answer → answer ≡ no_tx
-    no_htlc_told answer is =
-        let told = htlc_told 2 2 answer is in
-        told.1 ∙ ap (λ (o : Option Transaction). ok_or o NoSuchTx) (no_third_htlc base told.0)
-
-    -- no: IsBroadcastOf
-    of_number_after : IsBroadcastOf h (commitment 2) (Some channel) (Ok of_newest) → ⊥
-    of_number_after is = newest_not_third base (same_ok of_newest of_third (number_told 2 (ok of_newest) is))
-
-    -- no: IsBroadcastOf
-    of_older_close : IsBroadcastOf h close (Some channel) (Ok of_third) → ⊥
-    of_older_close is = newest_not_third base (sym (same_ok of_third of_newest (close_told (ok of_third) is)))
-
-    -- no: IsBroadcastOf
-    of_another_htlc : IsBroadcastOf h (htlc_tx 2 0) (Some channel) (Ok (success base)) → ⊥
-    of_another_htlc is = timeout_not_success base (sym (same_ok (success base) (timeout base) (timeout_told (ok (success base)) is)))
-
-    -- no: IsBroadcastOf
-    of_no_close : IsBroadcastOf h close (Some channel) (Err NoSuchTx) → ⊥
-    of_no_close is = not_ok of_newest NoSuchTx (sym (close_told no_tx is))
-
     -- ---- of a book
 
     module _ (other : ChannelBook) (there : replay h ≡ other ∷ channel ∷ []) where
@@ -185,41 +65,41 @@ module _ (base : State) (law : KnownPublishes) (bases : HasBases (terms base) A 
 
       -- yes: IsBroadcast
       number_broadcast : IsBroadcast h (commitment 2) (Ok of_third)
-      number_broadcast = subst (λ (o : Option ChannelBook). IsBroadcastOf h (commitment 2) o (Ok of_third)) (sym at_1) of_number
+      number_broadcast = subst (λ (o : Option ChannelBook). IsFound h (commitment 2) o (Ok of_third)) (sym at_1) (number_found base kept_numbers closed h)
 
       -- yes: IsBroadcast
       close_broadcast : IsBroadcast h close (Ok of_newest)
-      close_broadcast = subst (λ (o : Option ChannelBook). IsBroadcastOf h close o (Ok of_newest)) (sym at_1) of_close
+      close_broadcast = subst (λ (o : Option ChannelBook). IsFound h close o (Ok of_newest)) (sym at_1) (newest_found base kept_numbers closed h)
 
       -- yes: IsBroadcast
       htlc_broadcast : IsBroadcast h (htlc_tx 2 0) (Ok (timeout base))
-      htlc_broadcast = subst (λ (o : Option ChannelBook). IsBroadcastOf h (htlc_tx 2 0) o (Ok (timeout base))) (sym at_1) of_htlc
+      htlc_broadcast = subst (λ (o : Option ChannelBook). IsFound h (htlc_tx 2 0) o (Ok (timeout base))) (sym at_1) (htlc_tx_found base kept_numbers closed h)
 
       -- yes: IsBroadcast
       no_number_broadcast : IsBroadcast h (commitment 4) (Err NoSuchTx)
-      no_number_broadcast = subst (λ (o : Option ChannelBook). IsBroadcastOf h (commitment 4) o (Err NoSuchTx)) (sym at_1) of_no_number
+      no_number_broadcast = subst (λ (o : Option ChannelBook). IsFound h (commitment 4) o (Err NoSuchTx)) (sym at_1) (none_found base kept_numbers closed h)
 
       no_htlc_broadcast : IsBroadcast h (htlc_tx 2 2) (Err NoSuchTx)
-      no_htlc_broadcast = subst (λ (o : Option ChannelBook). IsBroadcastOf h (htlc_tx 2 2) o (Err NoSuchTx)) (sym at_1) of_no_htlc
+      no_htlc_broadcast = subst (λ (o : Option ChannelBook). IsFound h (htlc_tx 2 2) o (Err NoSuchTx)) (sym at_1) (past_last_htlc base kept_numbers closed h)
 
       -- yes: IsBroadcast
       nothing_after : IsBroadcast h after_it (Err NoSuchChannel)
-      nothing_after = subst (λ (o : Option ChannelBook). IsBroadcastOf h after_it o (Err NoSuchChannel)) (sym at_2) refl
+      nothing_after = subst (λ (o : Option ChannelBook). IsFound h after_it o (Err NoSuchChannel)) (sym at_2) refl
 
-      number_is : (n : ℕ) (answer : Answer) → IsBroadcast h (commitment n) answer → answer ≡ ok_or (signed_commitment_of (state base) n) NoSuchTx
-      number_is n answer is = number_told n answer (subst (λ (o : Option ChannelBook). IsBroadcastOf h (commitment n) o answer) at_1 is)
+      number_is : (n : ℕ) (answer : Answer) → IsBroadcast h (commitment n) answer → answer ≡ found (signed_commitment_of (state base) n)
+      number_is n answer is = subst (λ (o : Option ChannelBook). answer ≡ commitment_in n o) at_1 is
 
       close_is : (answer : Answer) → IsBroadcast h close answer → answer ≡ ok of_newest
-      close_is answer is = close_told answer (subst (λ (o : Option ChannelBook). IsBroadcastOf h close o answer) at_1 is)
+      close_is answer is = subst (λ (o : Option ChannelBook). IsFound h close o answer) at_1 is
 
-      timeout_is : (answer : Answer) → IsBroadcast h (htlc_tx 2 0) answer → answer ≡ ok (timeout base)
-      timeout_is answer is = timeout_told answer (subst (λ (o : Option ChannelBook). IsBroadcastOf h (htlc_tx 2 0) o answer) at_1 is)
+      htlc_is : (answer : Answer) → IsBroadcast h (htlc_tx 2 0) answer → answer ≡ ok (timeout base)
+      htlc_is answer is = let it = subst (λ (o : Option ChannelBook). IsFound h (htlc_tx 2 0) o answer) at_1 is in it.1 ∙ timeout_is base kept_numbers closed h it.0
 
       no_htlc_is : (answer : Answer) → IsBroadcast h (htlc_tx 2 2) answer → answer ≡ no_tx
-      no_htlc_is answer is = no_htlc_told answer (subst (λ (o : Option ChannelBook). IsBroadcastOf h (htlc_tx 2 2) o answer) at_1 is)
+      no_htlc_is answer is = let it = subst (λ (o : Option ChannelBook). IsFound h (htlc_tx 2 2) o answer) at_1 is in it.1 ∙ no_third_is base kept_numbers closed h it.0
 
       after_is : (answer : Answer) → IsBroadcast h after_it answer → answer ≡ no_channel
-      after_is answer is = subst (λ (o : Option ChannelBook). IsBroadcastOf h after_it o answer) at_2 is
+      after_is answer is = subst (λ (o : Option ChannelBook). IsFound h after_it o answer) at_2 is
 
       -- no: IsBroadcast
       another_number : IsBroadcast h (commitment 2) (Ok of_newest) → ⊥
@@ -231,7 +111,7 @@ module _ (base : State) (law : KnownPublishes) (bases : HasBases (terms base) A 
 
       -- no: IsBroadcast
       another_htlc : IsBroadcast h (htlc_tx 2 0) (Ok (success base)) → ⊥
-      another_htlc is = timeout_not_success base (sym (same_ok (success base) (timeout base) (timeout_is (ok (success base)) is)))
+      another_htlc is = timeout_not_success base (sym (same_ok (success base) (timeout base) (htlc_is (ok (success base)) is)))
 
       -- no: IsBroadcast
       in_channel_after : IsBroadcast h after_it (Ok of_third) → ⊥
@@ -239,17 +119,12 @@ module _ (base : State) (law : KnownPublishes) (bases : HasBases (terms base) A 
 
       -- the channel before it has no commitment 2
       -- no: IsBroadcast
-      in_channel_before : HasBases other.state.held.terms other.state.held.side other.state.seed → AreNumbered other.state.held.terms other.state.held.side (other.state.number + 1) other.state.mine
-          → slice_get other.state.mine 2 ≡ None → IsBroadcast h before_it (Ok of_third) → ⊥
-      in_channel_before b numbered none is = by (subst (λ (o : Option ChannelBook). IsBroadcastOf h before_it o (Ok of_third)) at_0 is)
-        where
-          by : IsBroadcastOf h before_it (Some other) (Ok of_third) → ⊥
-          by (k, is_known_of, found) =
-              let e : found.0 ≡ signed_commitment_of other.state 2
-              = (law other.state (is_kept other.kept) (preimages_in 0 h) k b numbered is_known_of).same_commitment 2 found.0 found.1 in
-              let f : signed_commitment_of other.state 2 ≡ None
-              = ap (λ (o : Option CommitmentState). option_map (λ c. signed_transaction other.state.held.terms (contents_of other.state.held.terms c)) o) none in
-              not_ok of_third NoSuchTx (found.2 ∙ ap (λ (o : Option Transaction). ok_or o NoSuchTx) (e ∙ f))
+      in_channel_before : slice_get other.state.mine 2 ≡ None → IsBroadcast h before_it (Ok of_third) → ⊥
+      in_channel_before none is =
+          let by : Ok of_third ≡ found (signed_commitment_of other.state 2) = subst (λ (o : Option ChannelBook). IsFound h before_it o (Ok of_third)) at_0 is in
+          let e : signed_commitment_of other.state 2 ≡ None
+          = ap (λ (o : Option CommitmentState). option_map (λ c. signed_transaction other.state.held.terms (contents_of other.state.held.terms c)) o) none in
+          not_ok of_third NoSuchTx (by ∙ ap found e)
 
       -- ---- outcomes
 
@@ -284,7 +159,7 @@ module _ (base : State) (law : KnownPublishes) (bases : HasBases (terms base) A 
       close_refused (answer, is, e) = none-some NoSuchTx (sym (refusal_is answer (ok of_newest) (Some NoSuchTx) (close_is answer is) e))
 
       htlc_refused : IsBroadcastOutcome h (htlc_tx 2 0) (Some NoSuchTx) → ⊥
-      htlc_refused (answer, is, e) = none-some NoSuchTx (sym (refusal_is answer (ok (timeout base)) (Some NoSuchTx) (timeout_is answer is) e))
+      htlc_refused (answer, is, e) = none-some NoSuchTx (sym (refusal_is answer (ok (timeout base)) (Some NoSuchTx) (htlc_is answer is) e))
 
       -- no: IsBroadcastOutcome
       past_newest_goes_out : IsBroadcastOutcome h (commitment 4) None → ⊥

@@ -3,4 +3,4 @@ mod Rights
 mod Witnessed
 mod Clean
 mod Opened
-mod KnownExamples
+mod SignedExamples

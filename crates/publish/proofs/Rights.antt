@@ -2,7 +2,7 @@
 use Rattle.std.proofs.Common.{◌≡◌, Option, Some, None, Result, Ok, Err, refl, sym, ◌∙◌}
 use Rattle.std.specs.Prelude.{IfOk}
 use Rattle.tx.specs.Fields.{Transaction}
-use Rattle.publish.specs.Known.{IsSignedWhere}
+use Rattle.publish.specs.Signed.{IsSignedWhere}
 
 -- nothing is wanted
 pub nothing_wanted : (right : Type 0) (wanted answer : Option Transaction) → wanted ≡ None → answer ≡ None → IsSignedWhere right wanted answer

@@ -1,4 +1,4 @@
 pub mod Recorded
 pub mod Published
-pub mod Known
+pub mod Signed
 pub mod Opening

@@ -10,7 +10,7 @@ ghost use Rattle.commit.specs.Signing.{commitment_digest, htlc_digest as htlc_di
 ghost use Rattle.penalty.specs.Outputs.{AreOutputs};
 ghost use Rattle.resolve.specs.Signed.{IsCommitmentToken, AreHtlcTokens};
 ghost use Rattle.publish.specs.Published.{signed_transaction, branch_item, signed_htlc_tx_with, signed_htlc_of};
-ghost use Rattle.publish.specs.Known.{IsSignedWhere};
+ghost use Rattle.publish.specs.Signed.{IsSignedWhere};
 
 use crate::preimages::preimage_among;
 use crate::witnesses::{funding_witness, htlc_witness};

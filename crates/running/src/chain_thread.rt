@@ -11,7 +11,7 @@ ghost use Rattle.desk.specs.Seats.{IsSeatOf, HasSameCalls, number_in, calls_in, 
 ghost use Rattle.desk.specs.Histories.{GoesOn};
 ghost use Rattle.desk.specs.Answers.{IsHistoryFor};
 ghost use Rattle.running.specs.Threads.{IsChainThread, GoesOnPlaying};
-ghost use Rattle.running.specs.Broadcasts.{GoesOnWith, IsHtlcTxOf, IsSignedBy, IsFoundBy, IsBroadcast, broadcast_in, newest_of};
+ghost use Rattle.running.specs.Broadcasts.{IsTold, IsBroadcast, broadcast_in};
 ghost use Rattle.running.specs.Outcomes.{refusal_as, history_of, reorg_in, IsBroadcastOutcome, IsReorgOutcome, IsMiningOutcome, IsOutcome, PlaysChain};
 
 use crate::shared::{SharedState, SideState};
@@ -22,8 +22,6 @@ use chain::Coins;
 use desk::Seat;
 use mempool::ReorgError;
 use node::Pool;
-use publish::{signed_commitment_in, signed_htlc_tx_in};
-use resolve::Known;
 use scenario::Event;
 use std::alloc::{AllocError, Global};
 use std::sync::Wait;
@@ -116,75 +114,33 @@ fn reorg_in(event: &Event) -> Option<Reorg>
     }
 }
 
-// The preimages that a side knows in a channel: those of its fulfils, and those that blocks showed to its watcher. The only error is that memory ran out.
-fn preimages_for<R: Wait>(
-    rt: &R,
-    alloc: Global,
-    side: &SideState,
-    known: &Known,
-) -> Result<Vec<[u8; 32]>, AllocError>
-    ensures { IfOk result (λ v. GoesOnWith known.now.preimages v.items) }
-{
-    let mut preimages = Vec::from_slice(alloc, known.preimages.values())?;
-    let learnt = side.learnt.lock(rt);
-    preimages.extend_from_slice(learnt.as_slice())?;
-    Ok(preimages)
-}
-
-// An HTLC transaction of a side's commitment, by what is known of the channel. `None` if the side does not have it; the only error is that memory ran out.
-fn htlc_tx_by<R: Wait>(
-    rt: &R,
-    alloc: Global,
-    side: &SideState,
-    known: &Known,
-    number: u64,
-    htlc: u64,
-) -> Result<Option<Tx>, AllocError>
-    ensures { IfOk result (IsHtlcTxOf known.now number htlc) }
-{
-    let preimages = preimages_for(rt, alloc, side, known)?;
-    signed_htlc_tx_in(alloc, known, number, htlc as usize, &preimages)
-}
-
-// The number of the newest commitment: the older ones have the numbers below it.
-fn newest_in(known: &Known) -> u64
-    ensures { result ≡ newest_of known.now }
-{
-    known.older.len() as u64
-}
-
-// The transaction to broadcast, by what is known of the channel. `None` if the side does not have it; the only error is that memory ran out.
+// The transaction to broadcast, by the side's book and, of an HTLC transaction, what blocks showed to its watcher. `None` if the side does not have it.
 fn tx_by<R: Wait>(
     rt: &R,
     alloc: Global,
     side: &SideState,
-    known: &Known,
+    seat: &mut Seat,
     broadcast: &Broadcast,
-) -> Result<Option<Tx>, AllocError>
-    ensures { IfOk result (IsSignedBy known.now broadcast.now.choice) }
+) -> Result<Option<Tx>, KnowError>
+    requires { IsSeatOf side.now.desk seat.old }
+    ensures seat { HasSameCalls side.now.desk seat.old seat.new }
+    ensures history { IsHistoryFor (number_in seat.old) (calls_in seat.old) (last_in seat.old)
+        (last_in seat.new) }
+    ensures tx { IsTold (last_in seat.new) broadcast.now result }
 {
+    let channel = broadcast.channel;
     match broadcast.choice {
-        Choice::Commitment(number) => signed_commitment_in(alloc, known, number),
-        Choice::Newest => signed_commitment_in(alloc, known, newest_in(known)),
-        Choice::HtlcTx { number, htlc } => { htlc_tx_by(rt, alloc, side, known, number, htlc) }
+        Choice::Commitment(number) => side.desk.commitment(rt, alloc, seat, channel, Some(number)),
+        Choice::Newest => side.desk.commitment(rt, alloc, seat, channel, None),
+        Choice::HtlcTx { number, htlc } => {
+            let learnt = side.learnt.lock(rt);
+            side.desk
+                .htlc_tx(rt, alloc, seat, channel, number, htlc, learnt.as_slice())
+        }
     }
 }
 
-// The same, or that the side does not have it.
-fn found_by<R: Wait>(
-    rt: &R,
-    alloc: Global,
-    side: &SideState,
-    known: &Known,
-    broadcast: &Broadcast,
-) -> Result<Result<Tx, EventError>, AllocError>
-    ensures { IfOk result (IsFoundBy known.now broadcast.now.choice) }
-{
-    let tx = tx_by(rt, alloc, side, known, broadcast)?;
-    Ok(tx.ok_or(EventError::NoSuchTx))
-}
-
-// What is broadcast where nothing is known of the channel.
+// What is broadcast where the desk has no such channel.
 fn no_tx(error: KnowError) -> Result<Result<Tx, EventError>, AllocError>
     ensures { IfOk result (λ answer. (answer ≡ Err NoSuchChannel) × (error ≡ not_known)) }
 {
@@ -195,7 +151,7 @@ fn no_tx(error: KnowError) -> Result<Result<Tx, EventError>, AllocError>
 }
 
 // The transaction to broadcast. It refuses `NoSuchChannel`, and `NoSuchTx` where the side does not have it; the only other error is that memory ran out.
-#[tactic(auto, using(crate::proofs::Broadcasting::broadcast_known, crate::proofs::Broadcasting::no_broadcast))]
+#[tactic(auto, using(crate::proofs::Broadcasting::untold))]
 fn tx_of<R: Wait>(
     rt: &R,
     alloc: Global,
@@ -209,12 +165,8 @@ fn tx_of<R: Wait>(
         (last_in seat.new) }
     ensures tx { IfOk result (IsBroadcast (last_in seat.new) broadcast.now) }
 {
-    match side.desk.known(rt, seat, broadcast.channel) {
-        Ok(known) => {
-            let answer = found_by(rt, alloc, side, &known, broadcast);
-            drop(known);
-            answer
-        }
+    match tx_by(rt, alloc, side, seat, broadcast) {
+        Ok(tx) => Ok(tx.ok_or(EventError::NoSuchTx)),
         Err(error) => no_tx(error),
     }
 }

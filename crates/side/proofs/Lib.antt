@@ -2,5 +2,4 @@ pub mod Readings
 pub mod Followed
 pub mod ReadingExamples
 pub mod BatchExamples
-mod Broadcasts
 mod SpentPlaces

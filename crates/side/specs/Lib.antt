@@ -2,5 +2,4 @@ pub mod Due
 pub mod Reading
 pub mod Following
 pub mod Batches
-pub mod Broadcasting
 pub mod Marks

@@ -4,8 +4,7 @@
 //! more has to be known, and [`Reader::answer`] takes it; then [`Reader::read`] reads the block. The main contract is
 //! that of `read`: barring out-of-memory, it finds exactly what each channel's watch finds with what is known
 //! (`IsRead`). [`DueClaim`] is a claim that fell due, with the preimages that its slots need. [`worth_of`] and
-//! [`batch_of`] make the batch by which due claims of a channel are released. [`laws::known_publishes`] says that what
-//! is known of a channel suffices to broadcast what the channel itself would.
+//! [`batch_of`] make the batch by which due claims of a channel are released.
 //!
 //! It has two callers: `world`, which owns its books, and threads, which reach theirs through a lock. So its
 //! signatures have no book, no channel and no seat.
@@ -27,7 +26,6 @@ pub mod batches;
 mod due;
 mod following;
 mod fundings;
-pub mod laws;
 mod marks;
 mod reading;
 mod spent;

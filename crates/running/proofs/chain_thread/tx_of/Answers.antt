@@ -1,11 +1,7 @@
-use Rattle.std.specs.Prelude.{slice_get}
-use Rattle.book.specs.Books.{replay}
+use Rattle.std.proofs.Common.{sym, subst}
 use Rattle.desk.specs.Seats.{last_in}
-use Rattle.running.proofs.Broadcasting.{broadcast_known}
+use Rattle.running.specs.Broadcasts.{IsBroadcast}
 use Rattle.running.proofs.chain_thread.tx_of.Goals as goal
 
 pub returns-in-Ok-clause-tx : goal.returns-in-Ok-clause-tx
-returns-in-Ok-clause-tx g c =
-    let b = c.args.broadcast.now in
-    let history = last_in c.known.new.seat in
-    broadcast_known history b (slice_get (replay history) b.channel) c.in-Ok.known c.found_by-answer.result c.in-Ok.ensures.known c.found_by-answer.ensures
+returns-in-Ok-clause-tx g c = subst (IsBroadcast (last_in c.tx_by.new.seat) c.args.broadcast.now) (sym c.ok_or.ensures.value) c.in-Ok.ensures.tx

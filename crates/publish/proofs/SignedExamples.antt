@@ -1,19 +1,14 @@
--- What is known by number, and the transactions of it, each field as BOLT 3 has it, by amounts that were worked out by hand.
+-- What is signed, each field as BOLT 3 has it, by amounts that were worked out by hand.
 use Rattle.std.proofs.Common.{◌≡◌, ℕ, true, false, List, [], ◌∷◌, map, Option, Some, None, refl}
 use Rattle.std.specs.Str.{bytes_eq}
 use Rattle.sha2.specs.Sha256.{sha256}
 use Rattle.script.specs.Token.{token_of}
 use Rattle.tx.specs.declared.input.OutPoint.{OutPoint}
 use Rattle.tx.specs.Fields.{Transaction}
-use Rattle.keys.specs.Rights.{Rights, MaySign}
 use Rattle.terms.specs.declared.htlcs.Htlc.{Htlc}
 use Rattle.terms.specs.declared.numbers.Obscured.{Obscured}
-use Rattle.terms.specs.declared.sides.Side.{Side}
-use Rattle.terms.specs.declared.sides.Side.TheVariants.{A, B}
 use Rattle.terms.specs.declared.agreement.Terms.{Terms}
-use Rattle.terms.specs.Agreement.{party}
 use Rattle.terms.specs.Scripts.{is_lesser}
-use Rattle.terms.specs.Sides.{other}
 use Rattle.commit.specs.declared.fees.Direction.{Direction}
 use Rattle.commit.specs.declared.fees.Direction.TheVariants.{Offered, Received}
 use Rattle.commit.specs.declared.outputs.CommitmentOutput.{CommitmentOutput}
@@ -21,24 +16,12 @@ use Rattle.commit.specs.Keys.{KeyBytes}
 use Rattle.sighash.specs.Programs.{script_hash_program, key_hash_program}
 use Rattle.commit.specs.Outputs.{to_local_script, htlc_script, to_remote_output, to_local_output, htlc_output}
 use Rattle.commit.specs.Commitments.{Contents, id_of, transaction_of, htlcs_from, htlc_tx_of}
-use Rattle.commit.specs.Signing.{funding_script, commitment_digest, htlc_digest, htlc_digests}
-use Rattle.resolve.specs.declared.known.SignedCommitment.{SignedCommitment}
-use Rattle.resolve.specs.declared.known.Known.{Known}
-use Rattle.publish.specs.Known.{owned_at, commitment_known, htlc_tx_known, commitment_key, htlc_key, MaySignIf, IsSignedWhere}
-
--- the older ones from 0 on, then the newest, then none
-module _ (known : Known) (first second : SignedCommitment) where
-  abbrev after : List SignedCommitment → Known
-  after older = record known { older = older }
-
-  numbers : map (owned_at (after (first ∷ second ∷ []))) (0 ∷ 1 ∷ 2 ∷ 3 ∷ 4 ∷ []) ≡ Some first ∷ Some second ∷ Some known.own ∷ None ∷ None ∷ []
-  numbers = refl
-
-  first_one : map (owned_at (after [])) (0 ∷ 1 ∷ []) ≡ Some known.own ∷ None ∷ []
-  first_one = refl
+use Rattle.commit.specs.Signing.{funding_script, commitment_digest, htlc_digest}
+use Rattle.publish.specs.Published.{signed_transaction, signed_htlc_of}
+use Rattle.publish.specs.Signed.{IsSignedWhere}
 
 -- Commitment 0 of A pays both sides. Commitment 1, its newest, has an HTLC each way too, of 10,000 and 11,000 satoshis.
-module _ (known : Known) (terms : Terms) (funding : OutPoint) (hidden : Obscured) (keys : KeyBytes) (hash : List ℕ) where
+module _ (terms : Terms) (funding : OutPoint) (hidden : Obscured) (keys : KeyBytes) (hash : List ℕ) where
   abbrev htlc : ℕ → ℕ → Htlc
   htlc amount_msat expiry_height = record { id = 0; amount_msat = amount_msat; hash = hash; expiry_height = expiry_height }
 
@@ -50,21 +33,6 @@ module _ (known : Known) (terms : Terms) (funding : OutPoint) (hidden : Obscured
 
   abbrev both : Contents
   both = contents (htlc_output keys Offered (htlc 10000000 500) ∷ htlc_output keys Received (htlc 11000000 600) ∷ to_remote_output keys 20000 ∷ to_local_output 144 keys 57932 ∷ [])
-
-  -- a commitment with the tokens of its owner's peer
-  abbrev signed : Side → Contents → SignedCommitment
-  signed owner c = record {
-    commitment = c;
-    terms = terms;
-    owner = owner;
-    token = token_of (party (other owner) terms).bases.funding.bytes (commitment_digest terms c);
-    htlc_tokens = map (token_of c.keys.remote_htlc) (htlc_digests c);
-    funding = refl;
-    signed = refl;
-  }
-
-  abbrev of_a : Known
-  of_a = record known { own = signed A both; older = signed A plain ∷ [] }
 
   abbrev a : List ℕ
   a = terms.a.bases.funding.bytes
@@ -83,21 +51,17 @@ module _ (known : Known) (terms : Terms) (funding : OutPoint) (hidden : Obscured
 
   -- the lesser funding key's token comes first
   lesser_a : is_lesser b a ≡ false
-      → commitment_known of_a 0 ≡ Some (plain_with ([] ∷ token_of a (commitment_digest terms plain) ∷ token_of b (commitment_digest terms plain) ∷ funding_script terms ∷ []))
+      → signed_transaction terms plain ≡ (plain_with ([] ∷ token_of a (commitment_digest terms plain) ∷ token_of b (commitment_digest terms plain) ∷ funding_script terms ∷ []))
   unfolding transaction_of
   lesser_a e = rw e refl
 
   lesser_b : is_lesser b a ≡ true
-      → commitment_known of_a 0 ≡ Some (plain_with ([] ∷ token_of b (commitment_digest terms plain) ∷ token_of a (commitment_digest terms plain) ∷ funding_script terms ∷ []))
+      → signed_transaction terms plain ≡ (plain_with ([] ∷ token_of b (commitment_digest terms plain) ∷ token_of a (commitment_digest terms plain) ∷ funding_script terms ∷ []))
   unfolding transaction_of
   lesser_b e = rw e refl
 
-  -- the values that each commitment pays, by its number
-  abbrev values : Option Transaction → Option (List ℕ)
-  values None = None
-  values (Some t) = Some (map (λ o. o.value) t.outputs)
-
-  commitments : map (λ n. values (commitment_known of_a n)) (0 ∷ 1 ∷ 2 ∷ []) ≡ Some (20000 ∷ 79276 ∷ []) ∷ Some (10000 ∷ 11000 ∷ 20000 ∷ 57932 ∷ []) ∷ None ∷ []
+  -- the values that each commitment pays
+  commitments : map (λ c. map (λ o. o.value) (signed_transaction terms c).outputs) (plain ∷ both ∷ []) ≡ (20000 ∷ 79276 ∷ []) ∷ (10000 ∷ 11000 ∷ 20000 ∷ 57932 ∷ []) ∷ []
   unfolding transaction_of
   commitments = refl
 
@@ -116,45 +80,24 @@ module _ (known : Known) (terms : Terms) (funding : OutPoint) (hidden : Obscured
   }
 
   -- HTLC-timeout pays 663 less, has the expiry as its lock time and needs no preimage
-  timeout : (preimages : List (List ℕ)) → htlc_tx_known of_a 1 0 preimages ≡ Some (second_stage 0 9337 500 Offered (htlc 10000000 500) [])
+  timeout : (preimages : List (List ℕ)) → signed_htlc_of both 0 preimages ≡ Some (second_stage 0 9337 500 Offered (htlc 10000000 500) [])
   unfolding htlcs_from htlc_tx_of
   timeout preimages = refl
 
   -- HTLC-success pays 703 less, has lock time 0 and shows the first preimage that has the hash
   success : (x y : List ℕ) → bytes_eq (sha256 x) hash ≡ false → bytes_eq (sha256 y) hash ≡ true
-      → htlc_tx_known of_a 1 1 (x ∷ y ∷ []) ≡ Some (second_stage 1 10297 0 Received (htlc 11000000 600) y)
+      → signed_htlc_of both 1 (x ∷ y ∷ []) ≡ Some (second_stage 1 10297 0 Received (htlc 11000000 600) y)
   unfolding htlcs_from htlc_tx_of
   success x y e f = rw (e, f) refl
 
-  -- none without the preimage, past the last HTLC, of a commitment with no HTLC, and past the newest commitment
-  no_preimage : (x : List ℕ) → bytes_eq (sha256 x) hash ≡ false → map (htlc_tx_known of_a 1 1) ([] ∷ (x ∷ []) ∷ []) ≡ None ∷ None ∷ []
+  -- none without the preimage, past the last HTLC, and of a commitment with no HTLC
+  no_preimage : (x : List ℕ) → bytes_eq (sha256 x) hash ≡ false → map (signed_htlc_of both 1) ([] ∷ (x ∷ []) ∷ []) ≡ None ∷ None ∷ []
   unfolding htlcs_from
   no_preimage x e = rw e refl
 
-  no_htlc : (preimages : List (List ℕ)) → map (λ (n, i). htlc_tx_known of_a n i preimages) ((1, 2) ∷ (0, 0) ∷ (2, 0) ∷ []) ≡ None ∷ None ∷ None ∷ []
+  no_htlc : (preimages : List (List ℕ)) → map (λ (c, i). signed_htlc_of c i preimages) ((both, 2) ∷ (plain, 0) ∷ []) ≡ None ∷ None ∷ []
   unfolding htlcs_from
   no_htlc preimages = refl
-
-  -- its owner signs by its own funding key, and by the commitment's local HTLC key
-  keys_of_a : map (commitment_key of_a) (0 ∷ 1 ∷ 2 ∷ []) ≡ Some a ∷ Some a ∷ None ∷ []
-  keys_of_a = refl
-
-  keys_of_b : map (commitment_key (record known { own = signed B both; older = [] })) (0 ∷ 1 ∷ []) ≡ Some b ∷ None ∷ []
-  keys_of_b = refl
-
-  htlc_keys : map (htlc_key of_a) (0 ∷ 1 ∷ 2 ∷ []) ≡ Some keys.local_htlc ∷ Some keys.local_htlc ∷ None ∷ []
-  htlc_keys = refl
-
--- without a key there is no right, and with one the right is that to the key
-module _ (r : Rights) (key : List ℕ) where
-  no_key : MaySignIf r None → ⊥
-  no_key h = h
-
-  a_key : MaySign r key → MaySignIf r (Some key)
-  a_key h = h
-
-  that_key : MaySignIf r (Some key) → MaySign r key
-  that_key h = h
 
 -- an answer with the right and without it, where a transaction is wanted and where none is
 module _ (t : Transaction) where
