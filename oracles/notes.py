@@ -980,28 +980,33 @@ def refused_note(events, event):
     return f"event {event} is the first that was refused, UnknownHtlc: {json.dumps(events[event])}"
 
 
+def at_stake(pays=AMOUNT, gets=0, is_closed=False):
+    """What a side may pay by the hash, and what is left to it."""
+    rest = ", unless a transaction deep in the chain took back or left out what it offers there" * is_closed
+    return f": it pays up to {pays} millisatoshis by that hash, and {gets} are left to it{rest}"
+
+
 def fail_rows():
     """A fails what it forwards: up to each step by which the fail of B is irrevocably committed, by a preimage that A has or has not, and after a fail of B that is refused."""
-    fails = "A fails an HTLC in channel 1"
-    early = "before B's fail of the same hash in channel 0 is irrevocably committed: B may still take that one, and is paid by A alone"
+    fails = "A fails HTLC 0 of channel 1"
     for steps in range(6):
         it = Forward()
         it.add("fail", "B", 0, 0)
         for step, side in ((it.deliver, "A"), (it.sign, "B"), (it.deliver, "B"), (it.sign, "A"), (it.deliver, "A"))[:steps]:
             step(side, 0)
         event = it.add("fail", "A", 1, 0)
-        yield it.row(*[f"event {event}: {fails} {early}"] * (steps < 5))
-    stands = "while it offers the same hash in channel 0: whoever fulfils that one is paid by A alone"
-    for is_known, why in ((True, "whose preimage it has by B's fulfil in channel 0: A alone pays there"), (False, stands)):
+        yield it.row(*[f"event {event}: {fails} before B's fail of the same hash in channel 0 is irrevocably committed{at_stake()}"] * (steps < 5))
+    stands = " while it offers the same hash in channel 0"
+    for is_known, why in ((True, ", whose preimage it has by B's fulfil in channel 0"), (False, stands)):
         it = Forward()
         it.add("fulfil", "B", 0, 0, PREIMAGE)
         if is_known:
             it.deliver("A", 0)
             it.commit("B", 0)
-        yield it.row(f"event {it.add('fail', 'A', 1, 0)}: {fails} {why}")
+        yield it.row(f"event {it.add('fail', 'A', 1, 0)}: {fails}{why}{at_stake()}")
     it = Forward()
     first, event = it.add("fail", "B", 0, 7), it.add("fail", "A", 1, 0)
-    yield it.row(refused_note(it.events, first), "there is no such HTLC: A offered 1 in channel 0, numbered from 0", f"event {event}: {fails} {stands}")
+    yield it.row(refused_note(it.events, first), "there is no such HTLC: A offered 1 in channel 0, numbered from 0", f"event {event}: {fails}{stands}{at_stake()}")
     yield from one_channel_rows(fails)
     # A's own HTLC-timeout transaction is deep in the chain
     it = Forward()
@@ -1009,7 +1014,7 @@ def fail_rows():
     it.add("blocks", EXPIRY)
     it.add("broadcast", "A", 0, 1, 0)
     it.add("blocks", 7)
-    yield it.row(f"event {it.add('fail', 'A', 1, 0)}: {fails} {stands.replace(':', ', which is closed:')}, unless a transaction deep in the chain took it back or left it out")
+    yield it.row(f"event {it.add('fail', 'A', 1, 0)}: {fails}{stands}, which is closed{at_stake(is_closed=True)}")
     # the order turned round: A offers what it failed, alone or after B offered it again
     for again in (False, True):
         it = Forward(("B", 1))
@@ -1018,57 +1023,106 @@ def fail_rows():
         it.commit("A", 1)
         if again:
             it.offer("B", 1)
-        late = f"event {it.offer('A', 0)}: A offers in channel 0 the hash of an HTLC that it failed in channel 1: whoever fulfils that one is paid by A alone"
+        late = f"event {it.offer('A', 0)}: A offers in channel 0 the hash of HTLC 0 of channel 1, which it failed{at_stake()}"
         yield it.row(*[late] * (not again))
+    # two are offered to A, which fails one of them, and another one after a fail that is irrevocably committed
+    it = Forward(("B", 1), ("B", 1), ("A", 0), ("A", 0))
+    first = it.add("fail", "A", 1, 0)
+    it.deliver("B", 1)
+    it.commit("A", 1)
+    second = it.add("fail", "A", 1, 1)
+    yield it.row(f"event {first}: {fails}{stands}{at_stake(2 * AMOUNT, AMOUNT)}", f"event {second}: {fails.replace('0', '1', 1)}{stands}{at_stake(2 * AMOUNT)}")
+    # an ordinary retry, of which A is the payer
+    it = Forward(("A", 0), ("B", 1))
+    for side, channel in (("A", 1), ("B", 0)):
+        it.add("fail", side, channel, 0)
+        it.deliver("AB".strip(side), channel)
+        it.commit(side, channel)
+    it.offer("A", 0)
+    it.offer("B", 1)
+    yield it.row()
 
 
 def one_channel_rows(fails):
-    """A fails in channel 1 while its own offer of the hash stands there, or with the preimage: by B's fulfil there, and by its own there and in channel 0."""
+    """A fails in channel 1 while its own offer of the hash stands there, or with the preimage: by B's fulfil there, and by its own there and in channel 0, before the fail and after it."""
     it = Forward(("B", 1), ("A", 1))
-    yield it.row(f"event {it.add('fail', 'A', 1, 0)}: {fails} while it offers the same hash in channel 1: whoever fulfils that one is paid by A alone")
+    yield it.row(f"event {it.add('fail', 'A', 1, 0)}: {fails} while it offers the same hash in channel 1{at_stake()}")
     it = Forward(("B", 1), ("A", 1))
     it.add("fulfil", "B", 1, 0, PREIMAGE)
     it.deliver("A", 1)
-    yield it.row(f"event {it.add('fail', 'A', 1, 0)}: {fails} whose preimage it has by B's fulfil in channel 1: A alone pays there")
+    yield it.row(f"event {it.add('fail', 'A', 1, 0)}: {fails}, whose preimage it has by B's fulfil in channel 1{at_stake()}")
     for channel, number in ((1, 1), (0, 0)):
         it = Forward(("B", channel), ("B", 1))
         it.add("fulfil", "A", channel, 0, PREIMAGE)
-        yield it.row(f"event {it.add('fail', 'A', 1, number)}: {fails} whose preimage it has by its own fulfil in channel {channel}: it gives up what it could take")
+        yield it.row(f"event {it.add('fail', 'A', 1, number)}: A fails HTLC {number} of channel 1, whose preimage it has by its own fulfil in channel {channel}, and can't fulfil it any more")
+        for again in (False, True):
+            it = Forward(("B", channel), ("B", 1))
+            it.add("fail", "A", 1, number)
+            it.deliver("B", 1)
+            it.commit("A", 1)
+            if again:
+                it.offer("B", 1)
+            event = it.add("fulfil", "A", channel, 0, PREIMAGE)
+            late = f"event {event}: A fulfils HTLC 0 of channel {channel} after it failed HTLC {number} of channel 1, which has the same hash: it can't fulfil that one any more"
+            yield it.row(*[late] * (not again))
+
+
+def fulfilled_in_0(*offers):
+    """B fulfils what A offered it in channel 0, which A knows and is irrevocably committed; and the number of the event."""
+    it = Forward(*offers)
+    event = it.add("fulfil", "B", 0, 0, PREIMAGE)
+    it.deliver("A", 0)
+    it.commit("B", 0)
+    return it, event
 
 
 def fulfil_rows():
-    """A fulfils what it forwards: too early, so that it is refused, and on both sides of the height from which on it may be taken back, in a channel that is closed before or after."""
+    """A fulfils what it forwards: too early, so that it is refused, and on both sides of the height at which it is too late, in a channel that is closed before or after, or not at all."""
     it = Forward()
     it.events.insert(2, ["fulfil", "A", 1, 0, PREIMAGE])
     event = it.add("fulfil", "B", 0, 0, PREIMAGE)
     it.deliver("A", 0)
     it.add("close", "B", 1)
-    learnt = "A learns by this fulfil in channel 0 the preimage of an HTLC in channel 1, and does not fulfil that one: a fulfil in one channel is not known in another"
+    left = f"event {event}: B fulfils HTLC 0 of channel 0, and A does not fulfil B's HTLC 0 of channel 1, which has the same hash: "
     early = "HTLC 0 of channel 1 is not yet committed on both sides: B signs, A revokes and signs, and B revokes, in this order"
-    yield it.row(refused_note(it.events, 2), early, f"event {event}: {learnt}")
-    # what takes the HTLC back has the lock time of its expiry, and may stand in a block above that height (BIP 65): in the next block, and in this one
-    for blocks, takes in ((EXPIRY - 1, None), (EXPIRY, "takes it back in the next block"), (EXPIRY + 1, "took it back on the chain")):
-        it = Forward()
-        it.add("fulfil", "B", 0, 0, PREIMAGE)
-        it.deliver("A", 0)
+    yield it.row(refused_note(it.events, 2), early, f"{left}a fulfil in one channel is not known in another")
+    # what takes the HTLC back has the lock time of its expiry, and may stand in a block above that height (BIP 65); the next block gives a claim, or has the commitment, and the one after that has the claim
+    rest = f"B may take it back in any block above {EXPIRY}, and a claim that the next block gives is in block {EXPIRY + 1} at the earliest"
+    for blocks in (EXPIRY - 2, EXPIRY - 1):
+        is_late = blocks + 2 > EXPIRY
+        it, _ = fulfilled_in_0()
         it.add("close", "B", 1)
         it.add("blocks", blocks)
+        late = f"event {it.add('fulfil', 'A', 1, 0, PREIMAGE)}: A fulfils HTLC 0 of channel 1 at height {blocks}, and the channel is closed: {rest}"
+        yield it.row(*[late] * is_late)
+        # it is never fulfilled, and the channel stays open
+        it, event = fulfilled_in_0()
+        it.add("blocks", blocks)
+        left = f"event {event}: B fulfils HTLC 0 of channel 0, and A does not fulfil B's HTLC 0 of channel 1, which has the same hash: "
+        yield it.row(*[f"{left}B may take that one back in any block above {EXPIRY}"] * is_late)
+        # in the same channel, which is closed: the preimage is known there
+        it = Forward(("B", 1), ("B", 1))
         event = it.add("fulfil", "A", 1, 0, PREIMAGE)
-        late = f"event {event}: A fulfils an HTLC in channel 1 at height {blocks}, and the channel is closed, and the HTLC expired at height {EXPIRY}: where B {takes}, the fulfil takes nothing"
-        yield it.row(*[late] * (takes is not None))
-    # the channel is closed after it, by either side, up to each step by which the fulfil is irrevocably committed: the second one brings it into B's commitment, the fourth one into A's
-    for closer, left in (("B", 2), ("A", 4)):
+        it.deliver("B", 1)
+        it.commit("A", 1)
+        it.add("blocks", blocks)
+        it.add("close", "B", 1)
+        yield it.row(*[f"event {event}: A fulfils HTLC 0 of channel 1, and not HTLC 1 of channel 1, which has the same hash: B may take that one back in any block above {EXPIRY}"] * is_late)
+    # the commitment is revoked, and A takes all of it; and the channel is closed with B's newest one
+    for number in (0, 1):
+        it, event = fulfilled_in_0()
+        it.add("broadcast", "B", 1, number)
+        yield it.row(*[f"event {event}: B fulfils HTLC 0 of channel 0, and A does not fulfil B's HTLC 0 of channel 1, which has the same hash: a fulfil in one channel is not known in another"] * number)
+    # the channel is closed after it, by either side, up to each step by which the fulfil is irrevocably committed: the second one brings it into B's commitment, the fourth one into A's; or it stays open
+    for closer, gone in (("B", 2), ("A", 4), (None, 4)):
         for steps in range(6):
-            it = Forward()
-            it.add("fulfil", "B", 0, 0, PREIMAGE)
-            it.deliver("A", 0)
-            it.add("blocks", EXPIRY)
+            it, _ = fulfilled_in_0()
+            it.add("blocks", EXPIRY - 1)
             event = it.add("fulfil", "A", 1, 0, PREIMAGE)
             for step, side in ((it.deliver, "B"), (it.sign, "A"), (it.deliver, "A"), (it.sign, "B"), (it.deliver, "B"))[:steps]:
                 step(side, 1)
-            closed = it.add("close", closer, 1)
-            late = f"event {event}: A fulfils an HTLC in channel 1, and event {closed} closes the channel at height {EXPIRY} before the fulfil is committed, and the HTLC expired at height {EXPIRY}: where B takes it back in the next block, the fulfil takes nothing"
-            yield it.row(*[late] * (steps < left))
+            closed = f", and event {it.add('close', closer, 1)} closes the channel at height {EXPIRY - 1} before the fulfil is committed" if closer else f", which is not committed at the end, at height {EXPIRY - 1}"
+            yield it.row(*[f"event {event}: A fulfils HTLC 0 of channel 1{closed}: {rest}"] * (steps < gone))
 
 
 # ---- the calls

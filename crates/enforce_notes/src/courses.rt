@@ -1,9 +1,11 @@
 // What became of the HTLCs of a scenario: who offered each, and how its receiver removed it.
 
+use crate::closings::{Closing, closing_of, least_with_output};
+use crate::messages::{Steps, deliveries, steps_of};
 use digest::sha256;
 use scenario::Event;
 use std::alloc::{AllocError, Global};
-use terms::Side;
+use terms::{ProposedTerms, Side};
 use updates::OwnUpdate;
 
 /// An HTLC that was offered.
@@ -18,9 +20,12 @@ pub struct Course {
     pub expiry_height: u32,
     /// The event that offered it.
     pub event: usize,
+    /// The event by which its receiver knows that it is irrevocably committed (BOLT 2): from then on the receiver may remove it.
+    pub committed: Option<usize>,
     pub removal: Option<Removal>,
-    /// The first event that sends a commitment of its channel to the pool.
-    pub closed: Option<usize>,
+    pub closing: Option<Closing>,
+    /// Whether it surely has an output in each commitment that it is in.
+    pub has_output: bool,
 }
 
 /// How an HTLC was removed.
@@ -29,32 +34,47 @@ pub struct Removal {
     /// The event of the fulfil or the fail.
     pub event: usize,
     pub is_fulfil: bool,
-    /// The event by which it came to who had offered the HTLC.
-    pub came: Option<usize>,
-    /// The event by which the newest commitment of who had offered the HTLC has it no more.
-    pub left_offerer: Option<usize>,
-    /// The event by which the newest commitment of who removed the HTLC has it no more.
-    pub left_receiver: Option<usize>,
-    /// The event by which who had offered the HTLC knows that it is irrevocably committed (BOLT 2): no commitment that may be broadcast without a penalty has the HTLC.
-    pub committed: Option<usize>,
+    pub steps: Steps,
 }
 
-// A message that is sent and not yet delivered.
-#[derive(Clone, Copy)]
-struct Sent {
-    channel: u64,
-    // who gets it
-    to: Side,
-    // the event that sent it
-    event: usize,
-    // whether it is a signature, which is answered by a revocation
-    is_signature: bool,
+impl Course {
+    /// How it was fulfilled.
+    pub fn fulfil(&self) -> Option<Removal> {
+        match self.removal {
+            Some(removal) if removal.is_fulfil => Some(removal),
+            _ => None,
+        }
+    }
+
+    /// How it was failed.
+    pub fn fail(&self) -> Option<Removal> {
+        match self.removal {
+            Some(removal) if !removal.is_fulfil => Some(removal),
+            _ => None,
+        }
+    }
+
+    /// Whether its channel is closed before an event.
+    pub fn is_closed(&self, end: usize) -> bool {
+        match self.closing {
+            Some(closing) => closing.event < end,
+            None => false,
+        }
+    }
 }
 
-/// The HTLCs of a scenario that has this many channels, in the order of their offers. Each of the events was carried out.
+/// Whether something comes before an event.
+pub(crate) fn is_reached(place: Option<usize>, end: usize) -> bool {
+    match place {
+        Some(at) => at < end,
+        None => false,
+    }
+}
+
+/// The HTLCs of a scenario with these channels, in the order of their offers. Each of the events was carried out.
 pub(crate) fn courses_of(
     alloc: Global,
-    channels: usize,
+    channels: &[ProposedTerms],
     events: &[Event],
 ) -> Result<Vec<Course>, AllocError> {
     let came = deliveries(alloc, events)?;
@@ -66,34 +86,27 @@ pub(crate) fn courses_of(
             update,
         } = event
         {
-            if *channel < channels as u64 {
+            if *channel < channels.len() as u64 {
                 let place = (*side, *channel, at);
                 add_update(&mut courses, events, came.as_slice(), place, update)?;
             }
         }
     }
-    for (at, event) in events.iter().enumerate() {
-        if let Some(channel) = closed_by(event) {
-            close(&mut courses, channel, at);
-        }
+    for (index, terms) in channels.iter().enumerate() {
+        let channel = index as u64;
+        let closing = closing_of(events, came.as_slice(), channel);
+        let least = least_with_output(terms, channel, events);
+        close(&mut courses, channel, closing, least);
     }
     Ok(courses)
 }
 
-// The channel of which an event sends a commitment to the pool.
-fn closed_by(event: &Event) -> Option<u64> {
-    match event {
-        Event::Close { channel, .. } => Some(*channel),
-        Event::Broadcast { channel, .. } => Some(*channel),
-        _ => None,
-    }
-}
-
-// Keeps the event that closes a channel, if it is the first.
-fn close(courses: &mut Vec<Course>, channel: u64, at: usize) {
+// Keeps how a channel is closed, and which of its HTLCs have at least so many millisatoshis.
+fn close(courses: &mut Vec<Course>, channel: u64, closing: Option<Closing>, least: u64) {
     for course in courses.iter_mut() {
-        if course.channel == channel && course.closed.is_none() {
-            course.closed = Some(at);
+        if course.channel == channel {
+            course.closing = closing;
+            course.has_output = course.amount_msat >= least;
         }
     }
 }
@@ -107,6 +120,7 @@ fn add_update(
     update: &OwnUpdate,
 ) -> Result<(), AllocError> {
     let (side, channel, at) = place;
+    let steps = steps_of(events, came, channel, side, at);
     match update {
         OwnUpdate::Offer {
             amount_msat,
@@ -121,14 +135,16 @@ fn add_update(
                 hash: *hash,
                 expiry_height: *expiry_height,
                 event: at,
+                committed: steps.committed,
                 removal: None,
-                closed: None,
+                closing: None,
+                has_output: false,
             })?;
         }
         OwnUpdate::Fulfil { id, preimage } => {
-            remove(courses, events, came, place, *id, Some(sha256(preimage)));
+            remove(courses, place, *id, Some(sha256(preimage)), steps);
         }
-        OwnUpdate::Fail { id } => remove(courses, events, came, place, *id, None),
+        OwnUpdate::Fail { id } => remove(courses, place, *id, None, steps),
         _ => {}
     }
     Ok(())
@@ -147,134 +163,20 @@ fn count_of(courses: &[Course], channel: u64, by: Side) -> u64 {
 // Removes the HTLC of the peer with this number, if it stands, and if it has this hash where one is given.
 fn remove(
     courses: &mut Vec<Course>,
-    events: &[Event],
-    came: &[Option<usize>],
     place: (Side, u64, usize),
     id: u64,
     hash: Option<[u8; 32]>,
+    steps: Steps,
 ) {
-    let (side, channel, at) = place;
+    let (side, channel, event) = place;
     for course in courses.iter_mut() {
         let is_it = course.channel == channel && course.by == side.other() && course.id == id;
         if is_it && course.removal.is_none() && hash.unwrap_or(course.hash) == course.hash {
             course.removal = Some(Removal {
-                event: at,
+                event,
                 is_fulfil: hash.is_some(),
-                came: delivery_of(came, at),
-                left_offerer: left_offerer_at(events, came, place),
-                left_receiver: left_receiver_at(events, came, place),
-                committed: committed_at(events, came, place),
+                steps,
             });
         }
     }
-}
-
-// The event by which the commitment of who had offered an HTLC is without it: who removed it signs.
-fn left_offerer_at(
-    events: &[Event],
-    came: &[Option<usize>],
-    place: (Side, u64, usize),
-) -> Option<usize> {
-    let (side, channel, at) = place;
-    let signed = signature_after(events, channel, side, at)?;
-    delivery_of(came, signed)
-}
-
-// The event by which the commitment of who removed an HTLC is without it: the other side revokes and signs.
-fn left_receiver_at(
-    events: &[Event],
-    came: &[Option<usize>],
-    place: (Side, u64, usize),
-) -> Option<usize> {
-    let (side, channel, _) = place;
-    let revoked = left_offerer_at(events, came, place)?;
-    let answered = signature_after(events, channel, side.other(), revoked)?;
-    delivery_of(came, answered)
-}
-
-// The event by which a removal is irrevocably committed: a revocation answers.
-fn committed_at(
-    events: &[Event],
-    came: &[Option<usize>],
-    place: (Side, u64, usize),
-) -> Option<usize> {
-    let done = left_receiver_at(events, came, place)?;
-    delivery_of(came, done)
-}
-
-// The event by which the message that an event sent is delivered.
-fn delivery_of(came: &[Option<usize>], event: usize) -> Option<usize> {
-    match came.get(event) {
-        Some(at) => *at,
-        None => None,
-    }
-}
-
-// The first event after another one by which a side signs in a channel.
-fn signature_after(events: &[Event], channel: u64, by: Side, after: usize) -> Option<usize> {
-    for (at, event) in events.iter().enumerate() {
-        if let Event::Sign {
-            side,
-            channel: place,
-        } = event
-        {
-            if at > after && *side == by && *place == channel {
-                return Some(at);
-            }
-        }
-    }
-    None
-}
-
-// Of each event the one by which the message that it sends is delivered: a side gets the messages of the other one in their order.
-fn deliveries(alloc: Global, events: &[Event]) -> Result<Vec<Option<usize>>, AllocError> {
-    let mut sent: Vec<Sent> = Vec::new(alloc);
-    let mut came: Vec<Option<usize>> = Vec::new(alloc);
-    for (at, event) in events.iter().enumerate() {
-        came.push(None)?;
-        if let Some(message) = message_of(event, at) {
-            sent.push(message)?;
-        } else if let Event::Deliver { side, channel } = event {
-            if let Some(message) = taken(&mut sent, *channel, *side) {
-                if let Some(delivery) = came.get_mut(message.event) {
-                    *delivery = Some(at);
-                }
-                if message.is_signature {
-                    sent.push(Sent {
-                        to: side.other(),
-                        event: at,
-                        is_signature: false,
-                        ..message
-                    })?;
-                }
-            }
-        }
-    }
-    Ok(came)
-}
-
-// Takes the first message to a side in a channel, if there is one.
-fn taken(sent: &mut Vec<Sent>, channel: u64, side: Side) -> Option<Sent> {
-    match sent
-        .iter()
-        .position(|message| message.channel == channel && message.to == side)
-    {
-        Some(place) if place < sent.len() => Some(sent.remove(place)),
-        _ => None,
-    }
-}
-
-// The message that an event sends.
-fn message_of(event: &Event, at: usize) -> Option<Sent> {
-    let (side, channel, is_signature) = match event {
-        Event::Own { side, channel, .. } => (*side, *channel, false),
-        Event::Sign { side, channel } => (*side, *channel, true),
-        _ => return None,
-    };
-    Some(Sent {
-        channel,
-        to: side.other(),
-        event: at,
-        is_signature,
-    })
 }

@@ -1,227 +1,167 @@
-// Notes on a side that fails an HTLC at its own cost: a forwarder whose own offer of that hash may still be taken, or comes after, and whoever has the preimage.
+// Notes on a side that fails an HTLC at its own cost: a forwarder who may have to pay more by the hash than it gets, then or by an offer after it, and whoever has the preimage, then or after it.
 
 use crate::courses::{Course, Removal};
-use crate::fulfils::name_of;
+use crate::names::{name_of, owner_of};
+use crate::sources::{Source, is_paid, source_before};
+use crate::stakes::{Stake, is_failed};
 use page::Page;
-use page::Piece::{self, Count, Text};
+use page::Piece::{Count, Sum, Text};
+use terms::Side;
 
-// What a side loses that failed an HTLC.
-#[derive(Clone, Copy)]
-struct Loss {
-    failed: Course,
-    // the fail, or an offer after it
-    event: usize,
-    // an HTLC of the same hash
-    other: Course,
-    cause: Cause,
-}
-
-// How a side loses by the other HTLC of the same hash.
-#[derive(Clone, Copy)]
-enum Cause {
-    // It offers that one.
-    Offered,
-    // It offers that one in a channel that is closed.
-    Closed,
-    // It offers that one, and the fail of that one is not irrevocably committed.
-    Uncommitted,
-    // It pays that one, and has the preimage by that.
-    Paid,
-    // It has the preimage by its peer's fulfil of that one.
-    Learnt,
-    // It has the preimage, and fulfilled that one.
-    Shown,
-    // It offers that one after the fail.
-    OfferedAfter,
-}
-
-/// Notes the first event by which a side that fails an HTLC loses. By the same hash its peer may take more than is left to the side: what the side offered after it was offered that HTLC counts, up to where
-/// the removal is irrevocably committed (BOLT 2). Or the side has the preimage.
-pub fn note_fail(notes: &mut Page, courses: &[Course]) {
-    let mut first: Option<Loss> = None;
-    for course in courses {
-        if let Some(event) = failed_at(course) {
-            first = match (first, loss_by(courses, course, event)) {
-                (Some(loss), Some(found)) if found.event < loss.event => Some(found),
-                (Some(loss), _) => Some(loss),
-                (None, found) => found,
-            };
+/// Notes that a side loses by a fail of an HTLC, if it does.
+pub fn note_fail(notes: &mut Page, courses: &[Course], failed: &Course, fail: &Removal) {
+    let end = fail.event.saturating_add(1);
+    let stake = Stake::before(courses, failed, failed.by.other(), end);
+    if let Some(other) = stake.loss() {
+        write_fail(notes, failed, fail.event);
+        write_cause(notes, &other, end);
+        write_stake(notes, &stake, other.is_closed(end));
+    } else if let Some(source) = source_before(courses, failed, end) {
+        write_fail(notes, failed, fail.event);
+        write_known(notes, &source, failed.by.other());
+    } else if let Some(fulfilled) = fulfilled_after(courses, failed, fail.event) {
+        if gets_less(courses, failed, fail.event, &fulfilled) {
+            write_less(notes, failed, &fulfilled);
         }
     }
-    if let Some(loss) = first {
-        write_loss(notes, &loss);
-    }
 }
 
-// The event by which an HTLC is failed.
-fn failed_at(course: &Course) -> Option<usize> {
-    match course.removal {
-        Some(removal) if !removal.is_fulfil => Some(removal.event),
-        _ => None,
-    }
-}
-
-// What a side loses that fails an HTLC by an event, then or by an offer after it.
-fn loss_by(courses: &[Course], failed: &Course, event: usize) -> Option<Loss> {
-    let (event, other, cause) = if let Some(standing) = standing_at(courses, failed, event) {
-        (event, standing, cause_of(&standing, event))
-    } else if let Some(known) = known_at(courses, failed, event) {
-        let is_own = known.by == failed.by;
-        let cause = if is_own { Cause::Shown } else { Cause::Learnt };
-        (event, known, cause)
-    } else {
-        let offer = offer_after(courses, failed, event)?;
-        (offer.event, offer, Cause::OfferedAfter)
-    };
-    Some(Loss {
-        failed: *failed,
-        event,
-        other,
-        cause,
-    })
-}
-
-// The first HTLC that the side which fails one by an event offered, and that the peer may take at its cost.
-fn standing_at(courses: &[Course], failed: &Course, event: usize) -> Option<Course> {
-    let (mut first, mut risk, mut left): (Option<Course>, u128, u128) = (None, 0, 0);
-    for course in courses {
-        let amount = u128::from(course.amount_msat);
-        if course.hash == failed.hash && course.event < event {
-            if is_forward(course, failed) && !is_failed_for_good(course, event) {
-                risk = risk.saturating_add(amount);
-                if first.is_none() {
-                    first = Some(*course);
-                }
-            } else if course.by == failed.by && !is_failed(course, event) {
-                left = left.saturating_add(amount);
-            }
-        }
-    }
-    if risk > left { first } else { None }
-}
-
-// Whether an HTLC was offered by who got another one before.
-fn is_forward(course: &Course, before: &Course) -> bool {
-    course.by == before.by.other() && course.event > before.event
-}
-
-// Whether an HTLC is failed, and that is irrevocably committed before an event.
-fn is_failed_for_good(course: &Course, event: usize) -> bool {
-    match course.removal {
-        Some(removal) => !removal.is_fulfil && is_reached(removal.committed, event),
-        None => false,
-    }
-}
-
-// Whether an HTLC is failed by an event, or before it.
-fn is_failed(course: &Course, event: usize) -> bool {
-    match failed_at(course) {
-        Some(at) => at <= event,
-        None => false,
-    }
-}
-
-// Whether something comes before an event.
-fn is_reached(place: Option<usize>, event: usize) -> bool {
-    match place {
-        Some(at) => at < event,
-        None => false,
-    }
-}
-
-// Why an HTLC that a side offers is a loss to it once it fails another one.
-fn cause_of(standing: &Course, event: usize) -> Cause {
-    let is_closed = is_reached(standing.closed, event);
-    match standing.removal {
-        Some(removal) if is_known(&removal, event) && is_closed => Cause::Learnt,
-        Some(removal) if is_known(&removal, event) => Cause::Paid,
-        _ if is_closed => Cause::Closed,
-        Some(removal) if !removal.is_fulfil && removal.event < event => Cause::Uncommitted,
-        _ => Cause::Offered,
-    }
-}
-
-// Whether a fulfil came before an event.
-fn is_known(removal: &Removal, event: usize) -> bool {
-    removal.is_fulfil && is_reached(removal.came, event)
-}
-
-// The first HTLC by whose fulfil the side which fails one by an event has the preimage: its own fulfil, or one that came to it.
-fn known_at(courses: &[Course], failed: &Course, event: usize) -> Option<Course> {
-    for course in courses {
-        if let Some(removal) = course.removal {
-            let is_shown = if course.by == failed.by {
-                removal.is_fulfil && removal.event < event
-            } else {
-                is_known(&removal, event)
-            };
-            if is_shown && course.hash == failed.hash {
-                return Some(*course);
-            }
-        }
-    }
-    None
-}
-
-// The first offer after the fail of an HTLC, of who failed it, that its peer may take at its cost.
-fn offer_after(courses: &[Course], failed: &Course, event: usize) -> Option<Course> {
-    for course in courses {
-        if is_forward(course, failed) && course.hash == failed.hash && course.event > event {
-            let after = course.event.saturating_add(1);
-            if standing_at(courses, failed, after).is_some() {
-                return Some(*course);
-            }
-        }
-    }
-    None
-}
-
-// Writes what a side loses.
-fn write_loss(notes: &mut Page, loss: &Loss) {
-    let side = Text(name_of(loss.failed.by.other()));
-    let (event, channel) = (Count(loss.event as u64), Count(loss.failed.channel));
-    match loss.cause {
-        Cause::OfferedAfter => notes.write(
-            "note: event %: % offers in channel % the hash of an HTLC that it failed in channel %: whoever fulfils that one is paid by % alone\n",
-            &[event, side, Count(loss.other.channel), channel, side],
-        ),
-        cause => {
+/// Notes an offer of the hash of an HTLC that its side failed before, if the side may have to pay more by that hash than it gets.
+pub fn note_offer(notes: &mut Page, courses: &[Course], offered: &Course) {
+    if let Some(failed) = failed_before(courses, offered) {
+        let end = offered.event.saturating_add(1);
+        let stake = Stake::before(courses, offered, offered.by, end);
+        if stake.loss().is_some() {
             notes.write(
-                "note: event %: % fails an HTLC in channel % ",
-                &[event, side, channel],
+                "note: event %: % offers in channel % the hash of HTLC % of channel %, which it failed",
+                &[
+                    Count(offered.event as u64),
+                    Text(name_of(offered.by)),
+                    Count(offered.channel),
+                    Count(failed.id),
+                    Count(failed.channel),
+                ],
             );
-            write_cause(notes, cause, side, loss);
+            write_stake(notes, &stake, offered.is_closed(end));
         }
     }
 }
 
-// Writes why a side loses that fails an HTLC.
-fn write_cause(notes: &mut Page, cause: Cause, side: Piece, loss: &Loss) {
-    let (peer, place) = (Text(name_of(loss.failed.by)), Count(loss.other.channel));
-    match cause {
-        Cause::Closed => notes.write(
-            "while it offers the same hash in channel %, which is closed: whoever fulfils that one is paid by % alone, unless a transaction deep in the chain took it back or left it out\n",
-            &[place, side],
-        ),
-        Cause::Uncommitted => notes.write(
-            "before %'s fail of the same hash in channel % is irrevocably committed: % may still take that one, and is paid by % alone\n",
-            &[peer, place, peer, side],
-        ),
-        Cause::Paid => notes.write(
-            "whose preimage it has by %'s fulfil in channel %: % alone pays there\n",
-            &[peer, place, side],
-        ),
-        Cause::Learnt => notes.write(
-            "whose preimage it has by %'s fulfil in channel %: it gives up what it could take\n",
-            &[peer, place],
-        ),
-        Cause::Shown => notes.write(
-            "whose preimage it has by its own fulfil in channel %: it gives up what it could take\n",
-            &[place],
-        ),
-        _ => notes.write(
-            "while it offers the same hash in channel %: whoever fulfils that one is paid by % alone\n",
-            &[place, side],
-        ),
+// The first HTLC of the same hash that the side which offers one failed before.
+fn failed_before(courses: &[Course], offered: &Course) -> Option<Course> {
+    for course in courses {
+        if course.by != offered.by
+            && course.hash == offered.hash
+            && is_failed(course, offered.event)
+        {
+            return Some(*course);
+        }
     }
+    None
+}
+
+// The HTLC of the same hash that is fulfilled first after the fail of one, where it was offered before the fail.
+fn fulfilled_after(courses: &[Course], failed: &Course, event: usize) -> Option<(Course, usize)> {
+    let mut first: Option<(Course, usize)> = None;
+    for course in courses {
+        if let Some(fulfil) = course.fulfil() {
+            let is_it = course.by == failed.by && course.hash == failed.hash;
+            let is_first = match first {
+                Some((_, at)) => fulfil.event < at,
+                None => true,
+            };
+            if is_it && course.event < event && event < fulfil.event && is_first {
+                first = Some((*course, fulfil.event));
+            }
+        }
+    }
+    first
+}
+
+// Whether a side that offers nothing by a hash gets less by a fulfil than it was offered before its fail.
+fn gets_less(
+    courses: &[Course],
+    failed: &Course,
+    event: usize,
+    fulfilled: &(Course, usize),
+) -> bool {
+    let (side, end) = (failed.by.other(), fulfilled.1.saturating_add(1));
+    let before = Stake::before(courses, failed, side, event);
+    let after = Stake::before(courses, failed, side, end);
+    after.pays == 0 && after.gets < before.gets
+}
+
+// Writes that an HTLC is failed by an event.
+fn write_fail(notes: &mut Page, failed: &Course, event: usize) {
+    notes.write(
+        "note: event %: % fails HTLC % of channel %",
+        &[
+            Count(event as u64),
+            Text(name_of(failed.by.other())),
+            Count(failed.id),
+            Count(failed.channel),
+        ],
+    );
+}
+
+// Writes what another HTLC is to a side that fails one, by the events before one.
+fn write_cause(notes: &mut Page, other: &Course, end: usize) {
+    let (peer, place) = (Text(name_of(other.by.other())), Count(other.channel));
+    if is_paid(other, end) {
+        notes.write(
+            ", whose preimage it has by %'s fulfil in channel %",
+            &[peer, place],
+        );
+    } else if is_failed(other, end) && !other.is_closed(end) {
+        notes.write(
+            " before %'s fail of the same hash in channel % is irrevocably committed",
+            &[peer, place],
+        );
+    } else {
+        notes.write(" while it offers the same hash in channel %", &[place]);
+    }
+    if other.is_closed(end) {
+        notes.push(", which is closed");
+    }
+}
+
+// Writes what a side may have to pay, and what it may get, where that depends on a closed channel or not.
+fn write_stake(notes: &mut Page, stake: &Stake, is_closed: bool) {
+    notes.write(
+        ": it pays up to % millisatoshis by that hash, and % are left to it",
+        &[Sum(stake.pays), Sum(stake.gets)],
+    );
+    if is_closed {
+        notes.push(
+            ", unless a transaction deep in the chain took back or left out what it offers there",
+        );
+    }
+    notes.push("\n");
+}
+
+// Writes that a side has the preimage of what it fails.
+fn write_known(notes: &mut Page, source: &Source, side: Side) {
+    notes.write(
+        ", whose preimage it has by % fulfil in channel %, and can't fulfil it any more\n",
+        &[
+            Text(owner_of(source.fulfilled.by.other(), side)),
+            Count(source.fulfilled.channel),
+        ],
+    );
+}
+
+// Writes that a side fulfils an HTLC after it failed another one of that hash.
+fn write_less(notes: &mut Page, failed: &Course, fulfilled: &(Course, usize)) {
+    let (other, event) = fulfilled;
+    notes.write(
+        "note: event %: % fulfils HTLC % of channel % after it failed HTLC % of channel %, which has the same hash: it can't fulfil that one any more\n",
+        &[
+            Count(*event as u64),
+            Text(name_of(failed.by.other())),
+            Count(other.id),
+            Count(other.channel),
+            Count(failed.id),
+            Count(failed.channel),
+        ],
+    );
 }

@@ -2,7 +2,7 @@
 //!
 //! [`notes_of`] makes a text from the words of a call, its status, the input that was read and what was printed. It says where a script or a scenario is at fault, what bytes and texts look
 //! like that are no witness script, which branches ended by a rule that is stricter than consensus, which paths no witness meets, what endangers money, which
-//! member of a scenario stands twice, and which HTLC of a payment in parts is not fulfilled. It is a pure function, proved not to panic. What it says is tested, not proved, but for whether a member stands twice (`json_names`).
+//! member of a scenario stands twice, and which HTLCs cost their receiver money. It is a pure function, proved not to panic. What it says is tested, not proved, but for whether a member stands twice (`json_names`).
 //! [`scenario_notes`] is the part of it that reads a refused scenario, [`played_notes`] the part on a played one, and [`repeat_notes`] the part on members. [`Kept`] is a reader and [`Copied`] a writer that keep what passes through them.
 //!
 //! `script_notes` makes the notes on scripts, messages and wrong words. `enforce` writes the notes on standard error, after all that `enforce_words` printed. They change no status.
@@ -16,10 +16,12 @@
 //! The test `names_opcodes_outside_the_table` of `notes_tests` has these lines.
 #![tactic(auto)]
 
+mod closings;
 mod courses;
 mod fails;
 mod forms;
-mod fulfils;
+mod late;
+mod messages;
 mod names;
 mod played;
 mod proposals;
@@ -27,6 +29,8 @@ mod readers;
 mod refused;
 mod repeats;
 mod scenarios;
+mod sources;
+mod stakes;
 mod uncounted;
 mod writers;
 
