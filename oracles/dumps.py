@@ -208,30 +208,78 @@ def objects_of(dump):
         elif call[0] == "close":
             channels[call[1]].close()
     found = [channel.summary(index) for index, channel in enumerate(channels)]
-    notes = list(lacking(channels))
+    notes = list(preimage_notes(channels, dump["history"]))
     return [*found, {"entries": len(dump["history"]), "channels": len(channels), **({"notes": notes} if notes else {})}]
 
 
-def lacking(channels):
-    """The received HTLCs of each channel, in its newest commitments, whose preimage another channel has alone; or the channel itself, which failed them."""
-    for index, channel in enumerate(channels):
-        own = [sha256(it).hex() for it in channel.preimages]
-        for other, one in enumerate(channels):
-            others = [sha256(it).hex() for it in one.preimages]
-            for htlc in channel.htlcs():
-                if htlc["direction"] == "received" and (htlc["ours"] or htlc["theirs"]) and htlc["hash"] in others:
-                    number = htlc["id"]
-                    is_failed = ["fail", number] in channel.updates[0]
-                    if htlc["hash"] in own and not (index == other and is_failed):
-                        continue
-                    if is_failed:
-                        yield f"channel {index} failed the received HTLC {number}, whose preimage channel {other} has: it can't be fulfilled any more"
-                        continue
-                    yield f"channel {index} lacks the preimage of the received HTLC {number}, which channel {other} has: it can't be claimed before it is fulfilled in channel {index} too"
+def received_in(history):
+    """What became of received HTLCs, by their channels and numbers: the entry of each, its amount, hash and expiry, and the entry of its fulfil or fail."""
+    found, removed = {}, {}
+    for at, call in enumerate(entry["call"] for entry in history):
+        if call[0] == "step" and call[2] == "receive" and call[3][0] == "add":
+            found[call[1], call[3][1]] = (at, *call[3][2:])
+        elif call[0] == "step" and call[2] in ("fulfil", "fail"):
+            removed[call[1], call[3]] = (call[2], at)
+    return found, removed
+
+
+def is_given_up(one, history):
+    """Whether the book fulfils another HTLC of the hash after it failed this one, which it had then, and gets less than before, while it offers nothing by that hash."""
+    found, removed = received_in(history)
+    kind, failed = removed[one]
+    same = [it for it in found if found[it][2] == found[one][2]]
+    ends = [removed[it][1] for it in same if removed.get(it, ("",))[0] == "fulfil" and found[it][0] < failed < removed[it][1]]
+    if not ends or any(it["call"][0] == "step" and it["call"][2] == "offer" and it["call"][4] == found[one][2] for it in history):
+        return False
+    offered = [sum(found[it][1] for it in same if found[it][0] < end and not (it in removed and removed[it][0] == "fail" and removed[it][1] < end)) for end in (failed, min(ends))]
+    return kind == "fail" and offered[1] < offered[0]
+
+
+def preimage_notes(channels, history):
+    """The received HTLCs whose preimage the book has, in its own channel or else another one: failed while it stands or given up; lacking in its channel; or not fulfilled in a channel that is not closed."""
+    hashes = [[sha256(it).hex() for it in channel.preimages] for channel in channels]
+    found, removed = received_in(history)
+    for (index, number), (_, _, payment_hash, expiry) in sorted(found.items(), key=lambda it: (it[0][0], it[1][0])):
+        places = [it for it in (index, *range(len(channels))) if payment_hash in hashes[it]]
+        stands = any(it["direction"] == "received" and it["id"] == number and (it["ours"] or it["theirs"]) for it in channels[index].htlcs())
+        is_failed = removed.get((index, number), ("",))[0] == "fail"
+        if not places:
+            continue
+        if is_failed and (stands or is_given_up((index, number), history)):
+            yield f"channel {index} failed the received HTLC {number}, whose preimage channel {places[0]} has: it can't be fulfilled any more"
+        elif stands and not is_failed and places[0] != index:
+            yield f"channel {index} lacks the preimage of the received HTLC {number}, which channel {places[0]} has: it can't be claimed before it is fulfilled in channel {index} too"
+        elif stands and (index, number) not in removed and channels[index].closed is None:
+            yield f"channel {index} has the preimage of the received HTLC {number}, and did not fulfil it: the peer may take it back in any block above {expiry}"
+
+
+def in_parts(seeds, channels, *steps):
+    """A scenario in which A offers B an HTLC of one hash in each of two channels, B fails that in channel 1, and fulfils that in channel 0, all irrevocably committed. Between the fail and the fulfil are steps: offers by A, or by B, each with its channel and amount."""
+    preimage, events, revoked = "07" * 32, [], {}
+
+    def commit(side, channel):
+        for signer in (side, "AB".strip(side)):
+            peer = "AB".strip(signer)
+            number = revoked.get((peer, channel), 0)
+            events.extend([["keep", signer, channel, number - 1]] * (number > 0) + [["sign", signer, channel], ["deliver", peer, channel], ["deliver", signer, channel]])
+            revoked[peer, channel] = number + 1
+
+    def make(name, side, channel, *rest):
+        events.extend([[name, side, channel, *rest], ["deliver", "AB".strip(side), channel]])
+        commit(side, channel)
+
+    payment = sha256(bytes.fromhex(preimage)).hex()
+    make("offer", "A", 0, 9_000_500, payment, 77)
+    make("offer", "A", 1, 8_000_300, payment, 66)
+    make("fail", "B", 1, 0)
+    for side, channel, amount in steps:
+        make("offer", side, channel, amount, payment, 55)
+    make("fulfil", "B", 0, 0, preimage)
+    return {"seeds": seeds, "channels": channels, "events": events}
 
 
 def new_dumps():
-    """Dumps that oracles/histories.py makes anew: of two channels that are unlike in all their terms, by A, who closed the second one, by B, by A before the close, and by A once it failed what it has the preimage of, by the other channel or by the same, or another one; and of a channel whose funding output has another index than 0."""
+    """Dumps that oracles/histories.py makes anew: of two channels that are unlike in all their terms, by A, who closed the second one, by B, by A before the close, and by A once it failed what it has the preimage of, by the other channel or by the same, or another one, or leaves that one; of parts, one of which B failed, with or without a retry; and of a channel whose funding output has another index than 0."""
     with open(f"{TOP}/oracles/unlike_channels.json", encoding="utf-8") as file:
         unlike = json.load(file)
     before = dict(unlike, events=[it for it in unlike["events"] if it[0] != "close"])
@@ -239,8 +287,10 @@ def new_dumps():
     # the HTLC whose preimage A shows in channel 1 is offered twice there, and the second one is failed, or stands
     at = before["events"].index(next(it for it in before["events"] if it[:4] == ["offer", "B", 1, 11_400_001])) + 2
     twice = [*before["events"][:at], *before["events"][at - 2 :]]
-    failed += [dict(before, events=twice + rest) for rest in ([["fail", "A", 1, 2]], [])]
-    return [Books(unlike).dump("A"), Books(unlike).dump("B"), Books(before).dump("A"), *(Books(it).dump("A") for it in failed), Books(dict(unlike, events=[]), 70_000).dump("B")]
+    failed += [dict(before, events=twice + rest) for rest in ([["fail", "A", 1, 2]], [], [["close", "A", 1]])]
+    # the other part is fulfilled after the fail: alone, after a retry that is less by a millisatoshi, or is not, or after B offered the hash
+    parts = [in_parts(unlike["seeds"], unlike["channels"], *it) for it in ((), [("A", 1, 8_000_299)], [("A", 1, 8_000_300)], [("B", 1, 7_000_100)])]
+    return [Books(unlike).dump("A"), Books(unlike).dump("B"), Books(before).dump("A"), *(Books(it).dump("A") for it in failed), *(Books(it).dump("B") for it in parts), Books(dict(unlike, events=[]), 70_000).dump("B")]
 
 
 def json_line(value):

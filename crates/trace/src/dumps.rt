@@ -18,6 +18,7 @@ ghost use Rattle.std.specs.Prelude.{◌≤◌};
 mod claims;
 mod loading;
 mod preimages;
+mod received;
 mod standing;
 mod telling;
 
@@ -31,6 +32,7 @@ use enforce_notes::repeat_notes;
 use loading::load_dump;
 use page::Page;
 use page::Piece::Count;
+use script_notes::text_of;
 use std::alloc::{AllocError, Global};
 use std::io::{Read, Write};
 use streams::{InputError, read_all, refuse_memory, write_refusal, write_told};
@@ -65,7 +67,10 @@ pub fn run_words(alloc: Global, words: &[String], input: &mut dyn Read, out: &mu
 // The notes on a book, and on the text of its dump.
 fn notes_of(alloc: Global, book: &Book, bytes: &[u8]) -> Result<String, AllocError> {
     let mut notes = repeat_notes(alloc, bytes)?;
-    note_preimages(&mut notes, alloc, book)?;
+    let mut page = Page::new(alloc);
+    note_preimages(&mut page, book);
+    let text = text_of(&page)?;
+    notes.push_str(text.as_str())?;
     Ok(notes)
 }
 
