@@ -225,6 +225,17 @@ def low_values(told: dict[str, Any]) -> Iterator[tuple[dict[str, Any], list[str]
             yield {**asked, "whose": "peer"}, []
 
 
+def feerates(told: dict[str, Any]) -> Iterator[tuple[dict[str, Any], bool]]:
+    """Feerates, and whether the HTLC transactions are those that the peer signed: by one of which each fee is the same,
+    rounded down (BOLT 3, "Fee Calculation"), and by no other.
+    """
+    case = told["cases"][1]
+    signed = case["feerate_per_kw"]
+    for feerate in range(signed - 3, signed + 3):
+        fees = [[it * weight // 1000 for weight in (663, 703)] for it in (feerate, signed)]
+        yield request(told, case, "own", feerate_per_kw=feerate), fees[0] == fees[1]
+
+
 def faults(told: dict[str, Any]) -> Iterator[tuple[str, str, int, str]]:
     """Requests with a part at fault, each with its refusal and the note that names the part."""
     asked = request(told, told["cases"][1], "own")

@@ -133,6 +133,39 @@ def shared(told: dict[str, Any]) -> Iterator[tuple[dict[str, Any], list[int | No
         yield asked, [500, least + 1, least + 1, None, 644]
 
 
+def unknown_notes(answer: dict[str, Any]) -> list[str]:
+    """What is noted of the outputs without a name in an answer."""
+    found = [it["index"] for it in answer["others"] if it["name"] == "unknown"]
+    more = f" and {len(found) - 1} more" * (len(found) > 1)
+    if not found:
+        return []
+    return [
+        f"others: output {found[0]}{more}: no script of this commitment has this program: compare channel_type,"
+        " delay_blocks, htlcs, keys and, for anchors, funding_keys"
+    ]
+
+
+def wrong_expiries(told: dict[str, Any]) -> Iterator[tuple[dict[str, Any], dict[str, Any]]]:
+    """An expiry that is one block late: the script of an offered HTLC does not have it, so that heights are late too, and
+    that of a received one has it, so that its output is another's.
+    """
+    case = told["cases"][1]
+    outputs, txid = [], case["txid_hash_order"]
+    for it in case["outputs"]:
+        script = it.get("witness_script") or f"76a914{it['script_pubkey'][4:]}88ac"
+        outputs.append((it["kind"], it["value_sat"], it["script_pubkey"], script, it.get("cltv_expiry")))
+    for at, it in enumerate(case["outputs"]):
+        if "htlc" in it:
+            htlcs = [htlc(told, number) for number in case["htlcs_given"]]
+            late = case["htlcs_given"].index(it["htlc"])
+            htlcs[late] = {**htlcs[late], "expiry_height": it["cltv_expiry"] + 1}
+            found = [(*each[:4], each[4] + 1) if place == at else each for place, each in enumerate(outputs)]
+            is_known = it["kind"] == "offered"
+            claims = [claim(told, txid, place, each, 0) for place, each in enumerate(found) if is_known or place != at]
+            left = others([(at, "unknown")] * (not is_known))
+            yield request(told, case, htlcs=htlcs), {"claims": claims, "others": left}
+
+
 def unlisted(told: dict[str, Any]) -> Iterator[tuple[dict[str, Any], list[str]]]:
     """Two outputs of offered HTLCs of one hash, of which the request has both, or one; and the note."""
     case, numbers = told["cases"][1], SHARED_HTLCS

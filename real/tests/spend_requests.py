@@ -238,16 +238,17 @@ def givens(told: dict[str, Any]) -> Iterator[tuple[dict[str, Any], tuple[str, in
         )
         yield {**paying, **most, "feerate_per_kw": limit + 1}, ("TooHighFeerate", 14), [over]
     for least, limit in (({}, 253), ({"least_feerate_per_kw": 25}, 25), ({"least_feerate_per_kw": 300}, 300)):
-        low = [
-            "the feerate_per_kw is below 253, the least that nodes before Bitcoin Core 29.1 pass on by default; later"
-            " ones pass on nothing below 25"
-        ]
-        yield {**paying, **least, "feerate_per_kw": limit}, None, low * (limit < 253)
+        least_paying = {**paying, **least, "feerate_per_kw": limit}
+        yield least_paying, None, cheap_notes(told, least_paying)
         under = (
-            "by default nodes pass on nothing below 253 satoshis for 1,000 units of weight, or from Bitcoin Core 29.1"
-            f" on below 25; least_feerate_per_kw lowers the limit of {limit}"
+            "by default nodes pass on nothing below one satoshi for a virtual byte, 250 for 1,000 units of weight, or"
+            f" from Bitcoin Core 29.1 on below a tenth of that; least_feerate_per_kw lowers the limit of {limit}"
         )
-        yield {**paying, **least, "feerate_per_kw": limit - 1}, ("TooLowFeerate", 15), [under]
+        yield {**least_paying, "feerate_per_kw": limit - 1}, ("TooLowFeerate", 15), [under]
+    # the fee is rounded up, so that 250 is a satoshi for each virtual byte of any weight
+    for feerate in (0, 24, 247, 248, 249, 250, 252):
+        cheap = {**paying, "least_feerate_per_kw": 0, "feerate_per_kw": feerate}
+        yield cheap, None, cheap_notes(told, cheap)
     both = {"least_feerate_per_kw": 301, "most_feerate_per_kw": 299}
     over = (
         "300 satoshis for 1,000 units of weight are 1 for a virtual byte; most_feerate_per_kw raises the limit of 299"
@@ -390,6 +391,16 @@ def destination_notes(destination: str) -> list[str]:
         "destination: anyone can spend from it today: no rule stands yet for witness version"
         f" {code - 0x50} with {size} bytes"
     ]
+
+
+def cheap_notes(told: dict[str, Any], asked: dict[str, Any]) -> list[str]:
+    """What is noted of a fee below a satoshi for each virtual byte (BIP 141) of the greatest transaction."""
+    plan = wanted_plan(told, asked, [0], 501)
+    size = -(-plan["weight"] // 4)
+    return [
+        f"the fee is {plan['fee']} satoshis for at most {size} virtual bytes: by default nodes before Bitcoin Core 29.1"
+        " pass on nothing below one for each, and later ones nothing below a tenth"
+    ] * (plan["fee"] < size)
 
 
 def named(told: dict[str, Any]) -> Iterator[tuple[dict[str, Any], tuple[str, int], list[str]]]:
@@ -579,6 +590,16 @@ def open_to_others(told: dict[str, Any]) -> Iterator[tuple[dict[str, Any], list[
     for alone, destination, what in own_bytes(told):
         again = f"destination: what it pays to is {what}: anyone can spend from it, or nobody"
         yield {**alone, "destination": destination}, [again] * bool(what)
+    another = (
+        "destination: it pays to a key that the script of outputs[0] has, or has the hash of, and that stands in no"
+        " slot: see that it is yours"
+    )
+    for paying, destination, is_noted in others_keys(told):
+        yield {**paying, "destination": destination}, [
+            *[another] * is_noted, *otherwise(paying["outputs"])
+        ]
+    for outputs, notes in known_keys(told):
+        yield {**asked, "preimages": [], "outputs": outputs}, [*notes, *otherwise(outputs)]
 
 
 def hash160(text: str) -> str:
@@ -629,8 +650,6 @@ def own_bytes(told: dict[str, Any]) -> Iterator[tuple[dict[str, Any], str, str]]
         ("5120" + program[4:], "the hash in the program of outputs[0]"),
         ("0014" + hash160(script), "the hash of the script of outputs[0]"),
         (f"a914{hash160(script)}87", ""),
-        # the script has the hash of the key by which its peer takes it at once
-        ("0014" + pushed, ""),
         (f"a914{pushed}87", "a push of the script of outputs[0]"),
     ):
         yield one, destination, what
@@ -646,6 +665,69 @@ def own_bytes(told: dict[str, Any]) -> Iterator[tuple[dict[str, Any], str, str]]
     given = {**alone, "outputs": [{**item, "slots": [["exact", "aa" * 32], *item["slots"]]}]}
     yield given, "0020" + "aa" * 32, "outputs[0].slots[0]"
     yield given, "0014" + hash160("aa" * 32), "the hash of outputs[0].slots[0]"
+
+
+def others_keys(told: dict[str, Any]) -> Iterator[tuple[dict[str, Any], str, bool]]:
+    """Requests that pay to a key of their script in its own place, and whether that is noted: the key of another path
+    is, and one that a slot has is not.
+    """
+    asked, _, _ = next(requests(told))
+    first = {**asked["outputs"][0], "value": 1_000_000}
+    keys, script = told["terms"]["keys"], first["script"]
+    revoking, own, peer = keys["local_revocation_pubkey"], keys["remote_htlcpubkey"], keys["local_htlcpubkey"]
+    pushed = script[6:46]
+    one = {**asked, "outputs": [first]}
+    # the penalty's path: what has the hash is the key of a slot then
+    penalty = {**first, "path": 0, "slots": [["exact", revoking], ["sig", revoking]]}
+    taken = {**asked, "outputs": [penalty], "preimages": []}
+    both = {**asked, "outputs": [first, {**penalty, "outpoint": "08" * 32 + ":1"}]}
+    nested = f"a914{hash160('0014' + pushed)}87"
+    for it, destination, is_noted in (
+        (one, "0014" + pushed, True),
+        (one, f"76a914{pushed}88ac", True),
+        (one, nested, True),
+        (one, f"a914{hash160('0014' + pushed[:-2] + '00')}87", False),
+        (one, "0014" + pushed[:-2] + "00", False),
+        (taken, "0014" + pushed, False),
+        (taken, nested, False),
+        (taken, "0014" + hash160(own), True),
+        (one, "0014" + hash160(own), False),
+        (one, "0014" + hash160(peer), True),
+        (one, f"76a914{hash160(peer)}88ac", True),
+        (one, f"a914{hash160('0014' + hash160(peer))}87", True),
+        (one, "5120" + peer[2:], True),
+        (one, "5120" + own[2:], False),
+        # another output's slot has it
+        (both, "0014" + pushed, False),
+        (both, "0014" + hash160(peer), True),
+    ):
+        yield it, destination, is_noted
+
+
+def known_keys(told: dict[str, Any]) -> Iterator[tuple[list[dict[str, Any]], list[str]]]:
+    """Outputs whose keys all know, or nobody (SEC 2, 2.4.1; BIP 341), with their notes, and one of another key."""
+    known = "a key that has to sign is one that all know: "
+    generator = f"{known}the point G, whose private key is 1: anyone can sign for it"
+    other = f"{known}the point H of BIP 341, whose private key nobody knows: nobody can sign for it"
+    key = told["terms"]["keys"]["remote_htlcpubkey"]
+    by_g, by_h = "02" + POINT_G, "02" + POINT_H
+
+    def of_key(it: str, place: int) -> dict[str, Any]:
+        return scripted_claim(f"21{it}ac", [["sig", it]], 1_000_000, place)
+
+    pair = f"5221{by_g}21{by_g}52ae"
+    both = scripted_claim(pair, [["sig", by_g], ["sig", by_g], ["exact", ""]], 1_000_000, 5)
+    shared = scripted_claim(f"5221{by_g}21{key}52ae", [["sig", key], ["sig", by_g], ["exact", ""]], 1_000_000, 6)
+    for outputs, notes in (
+        ([of_key(key, 0)], []),
+        ([of_key(by_g, 0)], [f"outputs[0]: {generator}"]),
+        ([of_key(by_h, 0)], [f"outputs[0]: {other}"]),
+        ([of_key(by_g[:-1] + "9", 0)], []),
+        ([of_key(key, 0), of_key(by_g, 1), of_key(by_h, 2)], [f"outputs[1] and 1 more: {generator}"]),
+        ([both], [f"outputs[0]: {generator}"]),
+        ([of_key(key, 0), both, shared], [f"outputs[1] and 1 more: {generator}"]),
+    ):
+        yield outputs, notes
 
 
 def no_json() -> Iterator[tuple[str, str]]:

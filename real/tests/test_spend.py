@@ -99,7 +99,14 @@ class RevokedTest(CheckedCase):
     def test_answers(self) -> None:
         for asked, answer in revoked_requests.answers(self.told):
             found = spend_answers(line(asked), "revoked")
-            self.check(found == (line(answer), 0, []), f"the outputs of a commitment: {found}")
+            wanted = line(answer), 0, revoked_requests.unknown_notes(answer)
+            self.check(found == wanted, f"the outputs of a commitment: {found}")
+
+    def test_wrong_expiries(self) -> None:
+        for asked, answer in revoked_requests.wrong_expiries(self.told):
+            found = spend_answers(line(asked), "revoked")
+            wanted = line(answer), 0, revoked_requests.unknown_notes(answer)
+            self.check(found == wanted, f"the outputs of a commitment with a late expiry: {found}")
 
     def test_shared_hashes(self) -> None:
         for asked, heights in revoked_requests.shared(self.told):
@@ -141,7 +148,17 @@ class CloseTest(CheckedCase):
     def test_answers(self) -> None:
         for asked, answer in close_requests.answers(self.told):
             found = spend_answers(line(asked), "close")
-            self.check(found == (line(answer), 0, []), f"the outputs of a commitment: {found}")
+            wanted = line(answer), 0, revoked_requests.unknown_notes(answer)
+            self.check(found == wanted, f"the outputs of a commitment: {found}")
+
+    def test_feerates(self) -> None:
+        """By another feerate the HTLC transactions are others than those that the peer signed."""
+        digests = sorted(it["bip143_digest"] for it in self.told["cases"][1]["htlc_transactions"])
+        for asked, is_signed in close_requests.feerates(self.told):
+            claims = json.loads(spend_answer(line(asked), "close")[0])["claims"]
+            slots = [given for it in claims for kind, given in it["output"]["slots"] if kind == "exact"]
+            found = sorted(it[66:-2] for it in slots if len(it) == 132)
+            self.check((found == digests) == is_signed, f"by {asked['feerate_per_kw']} the peer signs {found}")
 
     def test_bounds(self) -> None:
         for asked, heights in close_requests.bounds(self.told):

@@ -32,11 +32,11 @@ pub struct CloseRequest {
     pub confirmed_height: Option<u32>,
 }
 
-/// Reads whose commitment it is.
-pub fn whose_of(value: &Value) -> Option<Whose>
-    ensures { result ≡ whose_of (view value.now) }
+/// Reads whose commitment a request is about.
+pub fn member_whose(form: &Value) -> Option<Whose>
+    ensures { result ≡ member_of (codes "whose") whose_of (view form.now) }
 {
-    let name = value.as_str()?;
+    let name = form.member("whose")?.as_str()?;
     if name == "own" {
         Some(Whose::Ours)
     } else if name == "peer" {
@@ -46,10 +46,11 @@ pub fn whose_of(value: &Value) -> Option<Whose>
     }
 }
 
-/// Reads a height, or null.
-pub fn height_of(value: &Value) -> Option<Option<u32>>
-    ensures { result ≡ height_of (view value.now) }
+/// Reads the height of a request's block, or null.
+pub fn member_height(form: &Value) -> Option<Option<u32>>
+    ensures { result ≡ member_of (codes "confirmed_height") height_of (view form.now) }
 {
+    let value = form.member("confirmed_height")?;
     if value.is_null() {
         return Some(None);
     }
@@ -67,15 +68,21 @@ impl ReadValue for CloseRequest {
 
     #[tactic(auto, unfolding(crate::specs::CloseRequests::close_request_of))]
     fn read_value(alloc: Global, value: &Value) -> Result<CloseRequest, ShapeError> {
-        let form = object_of(value, 10).ok_or(ShapeError::BadShape)?;
-        let commitment = commitment_of(form).ok_or(ShapeError::BadShape)?;
-        let whose = whose_of(form.member("whose").ok_or(ShapeError::BadShape)?).ok_or(
-            ShapeError::BadShape,
-        )?;
-        let feerate_per_kw: u32 = member(form, "feerate_per_kw").ok_or(ShapeError::BadShape)?;
-        let confirmed_height = height_of(
-            form.member("confirmed_height").ok_or(ShapeError::BadShape)?,
-        ).ok_or(ShapeError::BadShape)?;
+        let Some(form) = object_of(value, 10) else {
+            return Err(ShapeError::BadShape);
+        };
+        let Some(commitment) = commitment_of(form) else {
+            return Err(ShapeError::BadShape);
+        };
+        let Some(whose) = member_whose(form) else {
+            return Err(ShapeError::BadShape);
+        };
+        let Some(feerate_per_kw) = member::<u32>(form, "feerate_per_kw") else {
+            return Err(ShapeError::BadShape);
+        };
+        let Some(confirmed_height) = member_height(form) else {
+            return Err(ShapeError::BadShape);
+        };
         Ok(CloseRequest {
             commitment,
             whose,

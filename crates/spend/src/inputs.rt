@@ -1,12 +1,13 @@
-// Notes on the inputs of a plan: what they wait for in one transaction, what they cost, who else can take their outputs, and keys that nobody can sign for.
+// Notes on the inputs of a plan: what they wait for in one transaction, what they cost, who else can take their outputs, and keys that nobody can sign for, or anyone.
 
 use crate::asking::Asked;
-use crate::outputs_at_fault::has_if;
+use crate::outputs_at_fault::looks_of;
 use crate::plans::Plan;
 use claim::Claim;
+use filling::MissingSignature;
 use page::Page;
 use page::Piece::{Count, Sum};
-use script_notes::is_curve_x;
+use script_notes::{is_curve_x, origin_of_point};
 use std::alloc::Global;
 use tx::TxIn;
 use warnings::{Taker, taker_of};
@@ -21,8 +22,7 @@ const SIGNATURE_SIZE: u128 = 73;
 pub fn note_inputs(alloc: Global, notes: &mut Page, asked: &Asked, plan: &Plan) {
     let claims = asked.claims.values();
     note_places(notes, asked);
-    note_heights(notes, claims);
-    note_ages(notes, claims);
+    note_waits(notes, claims);
     note_costs(notes, asked, plan);
     note_takers(
         notes,
@@ -36,7 +36,8 @@ pub fn note_inputs(alloc: Global, notes: &mut Page, asked: &Asked, plan: &Plan) 
         Taker::Finder,
         ": whoever sees such a witness can spend too: what has a given hash is asked for, and no signature of a key that the script fixes\n",
     );
-    note_points(notes, plan);
+    note_keys(notes, plan, false);
+    note_keys(notes, plan, true);
     note_others(alloc, notes, claims);
 }
 
@@ -65,7 +66,9 @@ fn note_others(alloc: Global, notes: &mut Page, claims: &[Claim]) {
     let (mut first, mut index) = (None, 0u64);
     for claim in claims {
         let facts = claim.path().facts.values();
-        if first.is_none() && (has_if(alloc, claim.script()) || taker_of(facts) != Taker::Signer) {
+        if first.is_none()
+            && (looks_of(alloc, claim.script()).0 || taker_of(facts) != Taker::Signer)
+        {
             first = Some(index);
         }
         index = index.wrapping_add(1);
@@ -80,15 +83,22 @@ fn note_others(alloc: Global, notes: &mut Page, claims: &[Claim]) {
     }
 }
 
-// Notes the output whose lock is the highest, if another one has a lower lock.
-fn note_heights(notes: &mut Page, claims: &[Claim]) {
+// Notes the output whose lock is the highest, and the one that has to be the oldest, each if another one waits less.
+fn note_waits(notes: &mut Page, claims: &[Claim]) {
     let (mut least, mut most, mut output, mut index) = (u64::MAX, 0u64, 0u64, 0u64);
+    let (mut youngest, mut oldest, mut place) = (u16::MAX, 0u16, 0u64);
     for claim in claims {
         let height = claim.path().lock.unwrap_or(0);
         least = least.min(height);
         if most < height {
             most = height;
             output = index;
+        }
+        let age = claim.path().age.unwrap_or(0);
+        youngest = youngest.min(age);
+        if oldest < age {
+            oldest = age;
+            place = index;
         }
         index = index.wrapping_add(1);
     }
@@ -98,56 +108,41 @@ fn note_heights(notes: &mut Page, claims: &[Claim]) {
             &[Count(output), Count(most)],
         );
     }
-}
-
-// Notes the output that has to be the oldest, if another one may be younger.
-fn note_ages(notes: &mut Page, claims: &[Claim]) {
-    let (mut least, mut most, mut output, mut index) = (u16::MAX, 0u16, 0u64, 0u64);
-    for claim in claims {
-        let age = claim.path().age.unwrap_or(0);
-        least = least.min(age);
-        if most < age {
-            most = age;
-            output = index;
-        }
-        index = index.wrapping_add(1);
-    }
-    if least < most {
+    if youngest < oldest {
         notes.write(
             "note: outputs[%] waits for an age of % blocks, and with it all that one transaction spends\n",
-            &[Count(output), Count(u64::from(most))],
+            &[Count(place), Count(u64::from(oldest))],
         );
     }
 }
 
 // Notes the outputs that have less than their inputs cost.
 fn note_costs(notes: &mut Page, asked: &Asked, plan: &Plan) {
-    let mut index: u64 = 0;
-    for (place, (input, claim)) in plan
-        .spend
-        .tx
-        .inputs()
-        .iter()
-        .zip(asked.claims.values())
-        .enumerate()
-    {
-        let missing = plan
-            .spend
-            .signatures
-            .values()
-            .iter()
-            .filter(|it| it.input == place)
-            .count();
-        let cost = cost_sat(asked.feerate_per_kw, input, missing as u128);
+    let inputs = plan.spend.tx.inputs();
+    for (place, claim) in asked.claims.values().iter().enumerate() {
         let value = claim.place().value;
-        if u128::from(value) < cost {
-            notes.write(
-                "note: outputs[%] has % satoshis, and its input costs %: more is left without it\n",
-                &[Count(index), Count(value), Sum(cost)],
-            );
+        if let Some(input) = inputs.get(place) {
+            let missing = missing_at(plan.spend.signatures.values(), place);
+            let cost = cost_sat(asked.feerate_per_kw, input, missing);
+            if u128::from(value) < cost {
+                notes.write(
+                    "note: outputs[%] has % satoshis, and its input costs %: more is left without it\n",
+                    &[Count(place as u64), Count(value), Sum(cost)],
+                );
+            }
         }
-        index = index.wrapping_add(1);
     }
+}
+
+// How many signatures an input lacks.
+fn missing_at(signatures: &[MissingSignature], input: usize) -> u128 {
+    let mut count: u128 = 0;
+    for signature in signatures {
+        if signature.input == input {
+            count = count.saturating_add(1);
+        }
+    }
+    count
 }
 
 // The satoshis that an input costs at most, once it has the signatures that it lacks.
@@ -195,27 +190,41 @@ fn note_takers(notes: &mut Page, claims: &[Claim], taker: Taker, words: &str) {
     }
 }
 
-// Notes the first key that is no point of the curve, and how many signatures such keys have to make.
-fn note_points(notes: &mut Page, plan: &Plan) {
-    let (mut count, mut first) = (0u64, None);
+// Notes the first key that has to sign and is no point of the curve, or is one whose private key all know or nobody, and how many more outputs ask for such a key.
+fn note_keys(notes: &mut Page, plan: &Plan, is_known: bool) {
+    let (mut count, mut first, mut last) = (0u64, None, None);
     for signature in plan.spend.signatures.values() {
-        if !is_curve_x(&signature.key.bytes[1..]) {
+        let key = &signature.key.bytes;
+        let is_such = if is_known {
+            key[0] == 2 && origin_of_point(&key[1..]).is_some()
+        } else {
+            !is_curve_x(&key[1..])
+        };
+        if is_such && last != Some(signature.input) {
             if count == 0 {
                 first = Some(signature);
             }
+            last = Some(signature.input);
             count = count.wrapping_add(1);
         }
     }
-    if let Some(signature) = first {
-        note_first(
-            notes,
-            signature.input as u64,
-            count,
-            ": nobody can sign for a key that is no point of the curve: ",
-        );
-        notes.hex("", &signature.key.bytes);
-        notes.push("\n");
+    let Some(signature) = first else {
+        return;
+    };
+    let input = signature.input as u64;
+    match origin_of_point(&signature.key.bytes[1..]) {
+        Some(origin) => {
+            let words = ": a key that has to sign is one that all know: ";
+            note_first(notes, input, count, words);
+            notes.push(origin);
+        }
+        None => {
+            let words = ": nobody can sign for a key that is no point of the curve: ";
+            note_first(notes, input, count, words);
+            notes.hex("", &signature.key.bytes);
+        }
     }
+    notes.push("\n");
 }
 
 // Begins a note on the first of some outputs.

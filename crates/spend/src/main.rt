@@ -17,7 +17,7 @@ mod close_requests;
 mod destinations;
 mod dust;
 mod errors;
-mod htlc_values;
+mod found_notes;
 mod inputs;
 mod notes;
 mod outputs;
@@ -28,7 +28,6 @@ mod requests;
 mod revoked_answers;
 mod revoked_requests;
 mod shapes;
-mod shared_hashes;
 mod telling;
 mod weights;
 

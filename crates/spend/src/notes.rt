@@ -10,8 +10,8 @@ use crate::inputs::note_inputs;
 use crate::outputs_at_fault::{note_claims_at_fault, note_slots, output_at};
 use crate::plans::{Plan, asked_fee};
 use crate::request_bytes::note_request_bytes;
-use crate::requests::{LEAST_FEERATE_PER_KW, MOST_FEERATE_PER_KW};
-use crate::shapes::{Member, note_shape, note_whole, said};
+use crate::requests::MOST_FEERATE_PER_KW;
+use crate::shapes::{Member, note_shape, said};
 use json_names::{RepeatedMember, first_repeated_member};
 use json_value::Value;
 use page::Page;
@@ -40,7 +40,7 @@ pub(crate) fn say(notes: &Page, err: &mut dyn Write) {
 pub fn say_plan(alloc: Global, asked: &Asked, plan: &Plan, err: &mut dyn Write) {
     let mut notes = Page::new(alloc);
     note_destination(alloc, &mut notes, asked);
-    note_feerate(&mut notes, asked);
+    note_feerate(&mut notes, asked, plan);
     let total = total_of(asked);
     if plan.fee_sat.saturating_mul(DEAR) > total {
         notes.write(
@@ -115,11 +115,13 @@ fn origin_of_destination(program: &[u8]) -> Option<Origin> {
     }
 }
 
-// Notes a feerate that nodes do not pass on, or that is above the limit that a request has without its own.
-fn note_feerate(notes: &mut Page, asked: &Asked) {
-    if asked.feerate_per_kw < LEAST_FEERATE_PER_KW {
-        notes.push(
-            "note: the feerate_per_kw is below 253, the least that nodes before Bitcoin Core 29.1 pass on by default; later ones pass on nothing below 25\n",
+// Notes a fee that nodes do not pass on, and a feerate that is high, or above the limit that a request has without its own.
+fn note_feerate(notes: &mut Page, asked: &Asked, plan: &Plan) {
+    let size = plan.weight.saturating_add(3) / 4;
+    if plan.fee_sat < size {
+        notes.write(
+            "note: the fee is % satoshis for at most % virtual bytes: by default nodes before Bitcoin Core 29.1 pass on nothing below one for each, and later ones nothing below a tenth\n",
+            &[Sum(plan.fee_sat), Sum(size)],
         );
     }
     if NOTED_FEERATE_PER_KW <= asked.feerate_per_kw && asked.feerate_per_kw <= MOST_FEERATE_PER_KW {
@@ -153,7 +155,7 @@ pub fn say_refusal(alloc: Global, asked: &Asked, error: PlanError, err: &mut dyn
             ],
         ),
         PlanError::TooLowFeerate => notes.write(
-            "note: by default nodes pass on nothing below 253 satoshis for 1,000 units of weight, or from Bitcoin Core 29.1 on below 25; least_feerate_per_kw lowers the limit of %\n",
+            "note: by default nodes pass on nothing below one satoshi for a virtual byte, 250 for 1,000 units of weight, or from Bitcoin Core 29.1 on below a tenth of that; least_feerate_per_kw lowers the limit of %\n",
             &[Count(u64::from(asked.least_feerate_per_kw))],
         ),
         PlanError::ValueTooLarge => notes.write(
@@ -192,22 +194,8 @@ fn note_fee(alloc: Global, notes: &mut Page, asked: &Asked)
     }
 }
 
-/// Says which part of the bytes is refused.
-pub fn say_input(alloc: Global, bytes: &[u8], error: PlanError, err: &mut dyn Write) {
-    let mut notes = Page::new(alloc);
-    match Value::from_slice(alloc, bytes) {
-        Ok(value) => match error {
-            PlanError::BadShape => note_value(alloc, &mut notes, bytes, &value),
-            PlanError::BadClaim => note_claims(alloc, &mut notes, &value),
-            _ => {}
-        },
-        Err(_) => note_place(alloc, &mut notes, bytes),
-    }
-    say(&notes, err);
-}
-
-/// Says which part of a request about a commitment is refused: a request with these members.
-pub fn say_commitment_input(
+/// Says which part of the bytes is refused, where a request has these members.
+pub fn say_input(
     alloc: Global,
     bytes: &[u8],
     error: PlanError,
@@ -216,14 +204,11 @@ pub fn say_commitment_input(
 ) {
     let mut notes = Page::new(alloc);
     match Value::from_slice(alloc, bytes) {
-        Ok(value) => {
-            if let PlanError::BadShape = error {
-                match first_repeated_member(alloc, bytes) {
-                    Ok(Some(member)) => note_repeated(&mut notes, &member, None),
-                    _ => note_whole(alloc, &mut notes, &value, members),
-                }
-            }
-        }
+        Ok(value) => match error {
+            PlanError::BadShape => note_value(alloc, &mut notes, bytes, &value, members),
+            PlanError::BadClaim => note_claims(alloc, &mut notes, &value),
+            _ => {}
+        },
         Err(_) => note_place(alloc, &mut notes, bytes),
     }
     say(&notes, err);
@@ -243,10 +228,10 @@ fn note_repeated(notes: &mut Page, member: &RepeatedMember, output: Option<u64>)
 }
 
 // Notes the member that stands twice, or the first part that does not have its shape.
-fn note_value(alloc: Global, notes: &mut Page, bytes: &[u8], value: &Value) {
+fn note_value(alloc: Global, notes: &mut Page, bytes: &[u8], value: &Value, members: &[Member]) {
     match first_repeated_member(alloc, bytes) {
         Ok(Some(member)) => note_repeated(notes, &member, output_at(bytes, member.at)),
-        _ => note_shape(alloc, notes, value),
+        _ => note_shape(alloc, notes, value, members),
     }
 }
 

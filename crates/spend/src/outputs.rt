@@ -36,8 +36,12 @@ fn outpoint_in(form: &Value) -> Option<OutPoint>
 fn place_in(alloc: Global, form: &Value) -> Result<Place, ShapeError>
     ensures { Gives (λ p. p) result (place_in (view form.now)) }
 {
-    let outpoint = outpoint_in(form).ok_or(ShapeError::BadShape)?;
-    let value = member(form, "value").ok_or(ShapeError::BadShape)?;
+    let Some(outpoint) = outpoint_in(form) else {
+        return Err(ShapeError::BadShape);
+    };
+    let Some(value) = member::<u64>(form, "value") else {
+        return Err(ShapeError::BadShape);
+    };
     Ok(Place {
         outpoint,
         value,
@@ -50,8 +54,12 @@ fn place_in(alloc: Global, form: &Value) -> Result<Place, ShapeError>
 fn output_of(alloc: Global, value: &Value) -> Result<PlainClaim, ShapeError>
     ensures { Gives (λ c. c) result (output_of (view value.now)) }
 {
-    let form = object_of(value, 7).ok_or(ShapeError::BadShape)?;
-    let path: u64 = member(form, "path").ok_or(ShapeError::BadShape)?;
+    let Some(form) = object_of(value, 7) else {
+        return Err(ShapeError::BadShape);
+    };
+    let Some(path) = member::<u64>(form, "path") else {
+        return Err(ShapeError::BadShape);
+    };
     Ok(PlainClaim {
         path: path as usize,
         script: read_member(alloc, form, "script")?,

@@ -91,7 +91,7 @@ fn note_preimage(notes: &mut Page, output: u64, claim: &Claim, hashes: &[[u8; 32
     let mut place: u64 = 0;
     for slot in claim.slots() {
         if let Slot::Preimage(hash) = slot {
-            if notes.text().is_empty() && !hashes.iter().any(|one| one == hash) {
+            if notes.text().is_empty() && !is_among(hashes, hash) {
                 notes.write(
                     "note: outputs[%].slots[%]: preimages has none whose SHA-256 is %\n",
                     &[Count(output), Count(place), Hash(*hash)],
@@ -102,14 +102,25 @@ fn note_preimage(notes: &mut Page, output: u64, claim: &Claim, hashes: &[[u8; 32
     }
 }
 
+// Whether a hash is among others.
+fn is_among(hashes: &[[u8; 32]], hash: &[u8; 32]) -> bool {
+    for other in hashes {
+        if other == hash {
+            return true;
+        }
+    }
+    false
+}
+
 /// Notes what nodes do not pass on: slots that IF or NOTIF may take and that are neither the empty item nor 01, and scripts and slots that are too long, too many or not minimally pushed.
 pub fn note_slots(alloc: Global, notes: &mut Page, claims: &[Claim]) {
     let mut output: u64 = 0;
     for claim in claims {
-        if has_if(alloc, claim.script()) {
+        let (has_if, has_long_push) = looks_of(alloc, claim.script());
+        if has_if {
             note_conditions(notes, output, claim);
         }
-        if let Some(reason) = unrelayed(alloc, claim) {
+        if let Some(reason) = unrelayed(claim, has_long_push) {
             notes.count("note: outputs[", output);
             notes.push("]: nodes pass on no spend of it: ");
             notes.push(reason);
@@ -119,15 +130,15 @@ pub fn note_slots(alloc: Global, notes: &mut Page, claims: &[Claim]) {
     }
 }
 
-// Why nodes do not pass on a spend of an output, whatever its transaction (Bitcoin Core's limits of standard witnesses).
-fn unrelayed(alloc: Global, claim: &Claim) -> Option<&'static str> {
+// Why nodes do not pass on a spend of an output, whatever its transaction (Bitcoin Core's limits of standard witnesses); its script may have a push that is not minimal.
+fn unrelayed(claim: &Claim, has_long_push: bool) -> Option<&'static str> {
     if claim.script().len() > MAX_RELAYED_SCRIPT {
         Some("its script has more than 3600 bytes")
     } else if claim.slots().len() > MAX_RELAYED_ITEMS {
         Some("it has more than 100 slots")
-    } else if claim.slots().iter().any(|slot| is_too_long(slot)) {
+    } else if has_long_slot(claim.slots()) {
         Some("it has a slot above 80 bytes")
-    } else if has_long_push(alloc, claim.script()) {
+    } else if has_long_push {
         Some(
             "its script pushes a number by two bytes that an opcode of one byte pushes too (minimal pushes)",
         )
@@ -137,30 +148,27 @@ fn unrelayed(alloc: Global, claim: &Claim) -> Option<&'static str> {
 }
 
 // Whether a slot is too long for nodes to pass it on.
-fn is_too_long(slot: &Slot) -> bool {
-    match slot {
-        Slot::Exact(item) => item.item.len() > MAX_RELAYED_ITEM,
-        _ => false,
+fn has_long_slot(slots: &[Slot]) -> bool {
+    for slot in slots {
+        if let Slot::Exact(item) = slot {
+            if item.item.len() > MAX_RELAYED_ITEM {
+                return true;
+            }
+        }
     }
+    false
 }
 
-// Whether a script has a push that is not minimal.
-fn has_long_push(alloc: Global, bytes: &[u8]) -> bool {
-    match Script::parse(alloc, bytes) {
-        Ok(script) => script.ops().iter().any(|op| short_of(op).is_some()),
-        Err(_) => false,
+/// Whether a script has an IF or a NOTIF, and whether it has a push that is not minimal.
+pub fn looks_of(alloc: Global, bytes: &[u8]) -> (bool, bool) {
+    let (mut has_if, mut has_long_push) = (false, false);
+    if let Ok(script) = Script::parse(alloc, bytes) {
+        for op in script.ops() {
+            has_if = has_if || matches!(op, Op::If | Op::NotIf);
+            has_long_push = has_long_push || short_of(op).is_some();
+        }
     }
-}
-
-/// Whether a script has an IF or a NOTIF.
-pub fn has_if(alloc: Global, bytes: &[u8]) -> bool {
-    match Script::parse(alloc, bytes) {
-        Ok(script) => script.ops().iter().any(|op| match op {
-            Op::If | Op::NotIf => true,
-            _ => false,
-        }),
-        Err(_) => false,
-    }
+    (has_if, has_long_push)
 }
 
 // Notes the slots of a claim that are to be true, or false, and are not minimally so.

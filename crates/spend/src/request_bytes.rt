@@ -1,4 +1,4 @@
-// Destinations that are made of the request's own bytes: an id, a preimage, a hash, a key or a script in the place of a key, or of the hash of one.
+// Destinations that are made of the request's own bytes: an id, a preimage, a hash, a key or a script in the place of a key, or of the hash of one; and a key of a script that no slot has.
 
 use crate::asking::Asked;
 use claim::{Claim, Slot};
@@ -29,43 +29,43 @@ struct Paid<'a> {
 }
 
 impl Paid<'_> {
-    // Whether these bytes are paid, or what they hash to: what stands before their name then.
-    fn origin(&self, bytes: &[u8]) -> Option<&'static str> {
-        if self.bytes == bytes {
-            Some("")
-        } else {
-            self.hash_of(bytes)
+    // Whether what bytes hash to is paid.
+    fn is_hash_of(&self, bytes: &[u8]) -> bool {
+        match self.bytes.len() {
+            20 => self.bytes == hash160(bytes).as_slice(),
+            _ => self.bytes == sha256(bytes).as_slice(),
         }
     }
 
-    // The same where what bytes hash to is paid.
-    fn hash_of(&self, bytes: &[u8]) -> Option<&'static str> {
-        let is_hash = match self.bytes.len() {
-            20 => self.bytes == hash160(bytes).as_slice(),
-            _ => self.bytes == sha256(bytes).as_slice(),
+    // Whether the key with this HASH160 is paid where its owner can spend: by P2PKH, by P2WPKH, or by that nested in P2SH.
+    fn is_for_hash(&self, hash: &[u8]) -> bool {
+        if hash.len() != 20 {
+            return false;
+        }
+        match self.kind {
+            Kind::KeyHash => self.bytes == hash,
+            Kind::ShortHash => {
+                let mut program = [0u8; 22];
+                program[1] = 20;
+                program[2..].copy_from_slice(hash);
+                self.is_hash_of(&program)
+            }
+            _ => false,
+        }
+    }
+
+    // Whether a key is paid where its owner can spend: by its hash, or by taproot.
+    fn is_for_key(&self, key: &[u8]) -> bool {
+        let [2 | 3, x @ ..] = key else {
+            return false;
         };
-        if is_hash { Some("the hash of ") } else { None }
-    }
-
-    // The same where bytes are paid as they stand.
-    fn same_as(&self, bytes: &[u8]) -> Option<&'static str> {
-        if self.bytes == bytes { Some("") } else { None }
-    }
-
-    fn is_key_hash(&self) -> bool {
-        matches!(self.kind, Kind::KeyHash)
-    }
-
-    fn is_short_hash(&self) -> bool {
-        matches!(self.kind, Kind::ShortHash)
-    }
-
-    fn is_script_hash(&self) -> bool {
-        matches!(self.kind, Kind::ScriptHash)
-    }
-
-    fn is_key(&self) -> bool {
-        matches!(self.kind, Kind::Key)
+        if x.len() != 32 {
+            return false;
+        }
+        match self.kind {
+            Kind::Key => self.bytes == x,
+            _ => self.is_for_hash(&hash160(key)),
+        }
     }
 }
 
@@ -82,38 +82,44 @@ fn paid_by(program: &[u8]) -> Option<Paid<'_>> {
     Some(Paid { kind, bytes })
 }
 
-// Notes what is paid to, if it is there; whether it was.
-fn note_found(
-    notes: &mut Page,
-    found: Option<&'static str>,
-    name: &'static str,
-    places: &[Piece],
-) -> bool {
-    match found {
-        Some(before) => {
-            notes.push("note: destination: what it pays to is ");
-            notes.push(before);
-            notes.write(name, places);
-            notes.push(": anyone can spend from it, or nobody\n");
-            true
-        }
-        None => false,
-    }
+// Writes a note on what is paid.
+fn write_found(notes: &mut Page, before: &str, name: &str, places: &[Piece]) {
+    notes.push("note: destination: what it pays to is ");
+    notes.push(before);
+    notes.write(name, places);
+    notes.push(": anyone can spend from it, or nobody\n");
 }
 
-/// Notes a destination that is made of bytes of the request; whether it did. What its owner can spend as before is not noted: a key, its hash, or the hash of a script, each in its own place.
+// Notes bytes that are paid as they stand, or what they hash to, each if it is to be noted; whether it was.
+fn note_bytes(
+    notes: &mut Page,
+    paid: &Paid<'_>,
+    bytes: &[u8],
+    as_they_stand: bool,
+    hashed: bool,
+    name: &str,
+    places: &[Piece],
+) -> bool {
+    let before = if as_they_stand && paid.bytes == bytes {
+        ""
+    } else if hashed && paid.is_hash_of(bytes) {
+        "the hash of "
+    } else {
+        return false;
+    };
+    write_found(notes, before, name, places);
+    true
+}
+
+/// Notes a destination that is made of bytes of the request; whether it did. What its owner can spend as before is not noted: a key of a slot, its hash, or the hash of a script, each in its own place.
 pub fn note_request_bytes(alloc: Global, notes: &mut Page, asked: &Asked) -> bool {
     let Some(paid) = paid_by(asked.destination.bytes()) else {
         return false;
     };
     let mut place: u64 = 0;
     for preimage in asked.preimages.values() {
-        if note_found(
-            notes,
-            paid.origin(preimage),
-            "preimages[%]",
-            &[Count(place)],
-        ) {
+        let at = [Count(place)];
+        if note_bytes(notes, &paid, preimage, true, true, "preimages[%]", &at) {
             return true;
         }
         place = place.wrapping_add(1);
@@ -122,7 +128,7 @@ pub fn note_request_bytes(alloc: Global, notes: &mut Page, asked: &Asked) -> boo
     for claim in asked.claims.values() {
         if note_place(notes, &paid, claim, output)
             || note_slots(notes, &paid, claim, output)
-            || note_script(alloc, notes, &paid, claim, output)
+            || note_script(alloc, notes, &paid, asked, claim.script(), output)
         {
             return true;
         }
@@ -137,58 +143,81 @@ fn note_place(notes: &mut Page, paid: &Paid<'_>, claim: &Claim, output: u64) -> 
     let txid = claim.outpoint().txid;
     let mut shown = txid;
     shown.reverse();
-    if note_found(notes, paid.origin(&txid), "the id of outputs[%]", &at)
-        || note_found(notes, paid.origin(&shown), "the id of outputs[%]", &at)
-    {
-        return true;
-    }
     let program = claim.place().program.bytes();
-    let is_nested = paid.is_short_hash();
-    if !is_nested
-        && note_found(
+    let hash = match program {
+        [_, _, hash @ ..] => hash,
+        _ => &[],
+    };
+    let is_nested = matches!(paid.kind, Kind::ShortHash);
+    let is_other = matches!(paid.kind, Kind::ShortHash | Kind::Key);
+    let is_key = matches!(paid.kind, Kind::KeyHash | Kind::Key);
+    let (id, script) = ("the id of outputs[%]", claim.script());
+    note_bytes(notes, paid, &txid, true, true, id, &at)
+        || note_bytes(notes, paid, &shown, true, true, id, &at)
+        || note_bytes(
             notes,
-            paid.hash_of(program),
+            paid,
+            program,
+            false,
+            !is_nested,
             "the program of outputs[%]",
             &at,
         )
-    {
-        return true;
-    }
-    if let [_, _, hash @ ..] = program {
-        let is_again = match hash.len() {
-            20 => paid.is_key_hash(),
-            _ => paid.is_script_hash(),
-        };
-        let name = "the hash in the program of outputs[%]";
-        if !is_again && note_found(notes, paid.same_as(hash), name, &at) {
-            return true;
-        }
-    }
-    let is_script = paid.is_short_hash() || paid.is_script_hash();
-    let found = paid.hash_of(claim.script());
-    !is_script && note_found(notes, found, "the script of outputs[%]", &at)
+        || note_bytes(
+            notes,
+            paid,
+            hash,
+            is_other,
+            false,
+            "the hash in the program of outputs[%]",
+            &at,
+        )
+        || note_bytes(
+            notes,
+            paid,
+            script,
+            false,
+            is_key,
+            "the script of outputs[%]",
+            &at,
+        )
 }
 
 // Notes a key, in another place than its own: its x coordinate in taproot, and its hash in P2PKH and P2WPKH. Its P2WPKH program is nested in P2SH alone.
 fn note_key(notes: &mut Page, paid: &Paid<'_>, key: &[u8], output: u64) -> bool {
     let at = [Count(output)];
-    let [sign, x @ ..] = key else {
+    let [2 | 3, x @ ..] = key else {
         return false;
     };
-    if x.len() != 32 || (*sign != 2 && *sign != 3) {
+    if x.len() != 32 {
         return false;
     }
     let mut program = [0u8; 22];
     program[1] = 20;
     program[2..].copy_from_slice(&hash160(key));
     let nested = "the P2WPKH program of a key of outputs[%]";
-    if !paid.is_short_hash() && note_found(notes, paid.hash_of(&program), nested, &at) {
-        return true;
-    }
-    let name = "the x coordinate of a key of outputs[%]";
-    (!paid.is_key() && note_found(notes, paid.same_as(x), name, &at))
-        || note_found(notes, paid.hash_of(x), name, &at)
-        || (!paid.is_key_hash() && note_found(notes, paid.hash_of(key), "a key of outputs[%]", &at))
+    let is_nested = matches!(paid.kind, Kind::ShortHash);
+    let is_x = matches!(paid.kind, Kind::Key);
+    let is_hash = matches!(paid.kind, Kind::KeyHash);
+    note_bytes(notes, paid, &program, false, !is_nested, nested, &at)
+        || note_bytes(
+            notes,
+            paid,
+            x,
+            !is_x,
+            true,
+            "the x coordinate of a key of outputs[%]",
+            &at,
+        )
+        || note_bytes(
+            notes,
+            paid,
+            key,
+            false,
+            !is_hash,
+            "a key of outputs[%]",
+            &at,
+        )
 }
 
 // Notes a key, a payment hash or an item of a witness.
@@ -199,20 +228,20 @@ fn note_slots(notes: &mut Page, paid: &Paid<'_>, claim: &Claim, output: u64) -> 
         let is_noted = match slot {
             Slot::Sig(key) => note_key(notes, paid, &key.bytes, output),
             Slot::Preimage(hash) => {
-                let is_short = paid.bytes == ripemd160(hash).as_slice();
-                let found = if is_short {
-                    Some("the hash of ")
+                let name = "the payment hash in outputs[%].slots[%]";
+                if paid.bytes == ripemd160(hash).as_slice() {
+                    write_found(notes, "the hash of ", name, &at);
+                    true
                 } else {
-                    paid.origin(hash)
-                };
-                note_found(notes, found, "the payment hash in outputs[%].slots[%]", &at)
+                    note_bytes(notes, paid, hash, true, true, name, &at)
+                }
             }
             Slot::Exact(item) => {
                 let item = item.item.bytes();
                 if item.len() == 33 {
                     note_key(notes, paid, item, output)
                 } else {
-                    note_found(notes, paid.origin(item), "outputs[%].slots[%]", &at)
+                    note_bytes(notes, paid, item, true, true, "outputs[%].slots[%]", &at)
                 }
             }
         };
@@ -224,32 +253,41 @@ fn note_slots(notes: &mut Page, paid: &Paid<'_>, claim: &Claim, output: u64) -> 
     false
 }
 
-// Notes what a script pushes: a key, or a hash. That of a key is its own in P2PKH and P2WPKH.
+// Notes what a script pushes: a key, or a hash. That of a key is its own in P2PKH and P2WPKH, if a slot of the request has the key.
 fn note_script(
     alloc: Global,
     notes: &mut Page,
     paid: &Paid<'_>,
-    claim: &Claim,
+    asked: &Asked,
+    script: &[u8],
     output: u64,
 ) -> bool {
-    let Ok(script) = Script::parse(alloc, claim.script()) else {
+    let Ok(script) = Script::parse(alloc, script) else {
         return false;
     };
     let ops = script.ops();
-    for (at, op) in ops.iter().enumerate() {
+    let at = [Count(output)];
+    for (place, op) in ops.iter().enumerate() {
         if let Op::Push(item) = op {
             let item = item.bytes();
-            let is_own = paid.is_key_hash() && is_key_hashed(&ops[..at]);
-            let found = paid.same_as(item);
+            let is_hashed = is_key_hashed(&ops[..place]);
+            let is_own = is_hashed && matches!(paid.kind, Kind::KeyHash);
+            let name = "a push of the script of outputs[%]";
             if note_key(notes, paid, item, output)
-                || (!is_own
-                    && note_found(
-                        notes,
-                        found,
-                        "a push of the script of outputs[%]",
-                        &[Count(output)],
-                    ))
+                || note_bytes(notes, paid, item, !is_own, false, name, &at)
             {
+                return true;
+            }
+            let is_paid = if is_hashed {
+                paid.is_for_hash(item)
+            } else {
+                paid.is_for_key(item)
+            };
+            if is_paid && !is_shown(paid, asked) {
+                notes.write(
+                    "note: destination: it pays to a key that the script of outputs[%] has, or has the hash of, and that stands in no slot: see that it is yours\n",
+                    &at,
+                );
                 return true;
             }
         }
@@ -260,4 +298,21 @@ fn note_script(
 // Whether opcodes end by taking the hash of a copy, as a script does that has a key by its hash.
 fn is_key_hashed(ops: &[Op]) -> bool {
     matches!(ops, [.., Op::Dup, Op::Hash160])
+}
+
+// Whether a slot of a request has the key that is paid.
+fn is_shown(paid: &Paid<'_>, asked: &Asked) -> bool {
+    for claim in asked.claims.values() {
+        for slot in claim.slots() {
+            let is_key = match slot {
+                Slot::Sig(key) => paid.is_for_key(&key.bytes),
+                Slot::Exact(item) => paid.is_for_key(item.item.bytes()),
+                Slot::Preimage(_) => false,
+            };
+            if is_key {
+                return true;
+            }
+        }
+    }
+    false
 }

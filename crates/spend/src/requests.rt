@@ -5,7 +5,7 @@ ghost use Rattle.json_value.specs.View.{view};
 ghost use Rattle.serde_json.specs.Find.{get};
 ghost use Rattle.texts.specs.Values.{Gives, member_of, list_of};
 ghost use Rattle.spend.specs.Outputs.{output_of};
-ghost use Rattle.spend.specs.Limits.{count_of, limit_or, form_of, least_feerate_of, most_feerate_of};
+ghost use Rattle.spend.specs.Limits.{count_of, limit_or, form_of};
 
 use crate::outputs::outputs_of;
 use json_value::Value;
@@ -13,14 +13,14 @@ use lists::{ByteString, List};
 use std::alloc::Global;
 use texts::{FromValue, PlainClaim, ReadValue, ShapeError, member, object_of, read_member};
 
-/// The least feerate that is taken where a request has no other limit: one satoshi for a virtual byte, rounded up, the least that nodes before Bitcoin Core 29.1 pass on by default.
-pub const LEAST_FEERATE_PER_KW: u32 = 253;
+/// The least feerate that is taken where a request has no other limit: one satoshi for a virtual byte, the least that nodes before Bitcoin Core 29.1 pass on by default, where fees are rounded down (BOLT 3).
+const LEAST_FEERATE_PER_KW: u32 = 253;
 
 /// The greatest feerate that is taken where a request has no other limit: 1,000 satoshis for a virtual byte.
 pub const MOST_FEERATE_PER_KW: u32 = 250_000;
 
 /// What the JSON object asks for, as it was read. Nothing of it is tested yet.
-#[derive(Debug, Drop)]
+#[derive(Drop)]
 pub struct Request {
     /// The outputs to spend, each as a claim.
     pub claims: List<PlainClaim>,
@@ -66,27 +66,17 @@ fn form_of(value: &Value) -> Option<&Value>
     object_of(value, 4 + least + most)
 }
 
-// The least feerate that is taken.
-fn least_feerate_of(form: &Value) -> Option<u32>
-    ensures { result ≡ least_feerate_of (view form.now) }
-{
-    limit_or(LEAST_FEERATE_PER_KW, form, "least_feerate_per_kw")
-}
-
-// The greatest feerate that is taken.
-fn most_feerate_of(form: &Value) -> Option<u32>
-    ensures { result ≡ most_feerate_of (view form.now) }
-{
-    limit_or(MOST_FEERATE_PER_KW, form, "most_feerate_per_kw")
-}
-
 // Reads the outputs.
 fn claims_of(alloc: Global, form: &Value) -> Result<List<PlainClaim>, ShapeError>
     ensures { Gives (λ c. c) result
         (member_of (codes "outputs") (list_of output_of) (view form.now)) }
 {
-    let outputs = form.member("outputs").ok_or(ShapeError::BadShape)?;
-    let values = outputs.as_array().ok_or(ShapeError::BadShape)?;
+    let Some(outputs) = form.member("outputs") else {
+        return Err(ShapeError::BadShape);
+    };
+    let Some(values) = outputs.as_array() else {
+        return Err(ShapeError::BadShape);
+    };
     Ok(List::from_vec(outputs_of(alloc, values)?))
 }
 
@@ -98,10 +88,23 @@ impl ReadValue for Request {
 
     #[tactic(auto, unfolding(crate::specs::Requests::request_of))]
     fn read_value(alloc: Global, value: &Value) -> Result<Request, ShapeError> {
-        let form = form_of(value).ok_or(ShapeError::BadShape)?;
-        let least_feerate_per_kw = least_feerate_of(form).ok_or(ShapeError::BadShape)?;
-        let most_feerate_per_kw = most_feerate_of(form).ok_or(ShapeError::BadShape)?;
-        let feerate_per_kw: u32 = member(form, "feerate_per_kw").ok_or(ShapeError::BadShape)?;
+        let Some(form) = form_of(value) else {
+            return Err(ShapeError::BadShape);
+        };
+        let Some(least_feerate_per_kw) = limit_or(
+            LEAST_FEERATE_PER_KW,
+            form,
+            "least_feerate_per_kw",
+        ) else {
+            return Err(ShapeError::BadShape);
+        };
+        let Some(most_feerate_per_kw) = limit_or(MOST_FEERATE_PER_KW, form, "most_feerate_per_kw")
+        else {
+            return Err(ShapeError::BadShape);
+        };
+        let Some(feerate_per_kw) = member::<u32>(form, "feerate_per_kw") else {
+            return Err(ShapeError::BadShape);
+        };
         Ok(Request {
             destination: read_member(alloc, form, "destination")?,
             preimages: read_member(alloc, form, "preimages")?,

@@ -38,11 +38,11 @@ pub struct RevokedRequest {
     pub confirmed_height: u32,
 }
 
-/// Reads the type of a channel (BOLT 9, without `option_`).
-pub fn channel_type_of(value: &Value) -> Option<ChannelType>
-    ensures { result ≡ channel_type_of (view value.now) }
+/// Reads the type of the channel of a request (BOLT 9, without `option_`).
+pub fn member_channel_type(form: &Value) -> Option<ChannelType>
+    ensures { result ≡ member_of (codes "channel_type") channel_type_of (view form.now) }
 {
-    let name = value.as_str()?;
+    let name = form.member("channel_type")?.as_str()?;
     if name == "static_remotekey" {
         Some(ChannelType::StaticRemoteKey)
     } else if name == "anchors" {
@@ -52,12 +52,12 @@ pub fn channel_type_of(value: &Value) -> Option<ChannelType>
     }
 }
 
-/// Reads the keys of a commitment, an object of five members.
+/// Reads the keys of the commitment of a request, an object of five members.
 #[tactic(auto, unfolding(crate::specs::RevokedRequests::keys_of))]
-pub fn keys_of(value: &Value) -> Option<CommitmentKeys>
-    ensures { result ≡ keys_of (view value.now) }
+pub fn member_keys(form: &Value) -> Option<CommitmentKeys>
+    ensures { result ≡ member_of (codes "keys") keys_of (view form.now) }
 {
-    let form = object_of(value, 5)?;
+    let form = object_of(form.member("keys")?, 5)?;
     Some(CommitmentKeys {
         revocation: member(form, "revocation")?,
         delayed: member(form, "delayed")?,
@@ -79,10 +79,11 @@ fn keys_of_funding(value: &Value) -> Option<FundingKeys>
     })
 }
 
-/// Reads the keys of the funding output, or null.
-pub fn funding_keys_of(value: &Value) -> Option<Option<FundingKeys>>
-    ensures { result ≡ funding_keys_of (view value.now) }
+/// Reads the keys of the funding output of a request, or null.
+pub fn member_funding_keys(form: &Value) -> Option<Option<FundingKeys>>
+    ensures { result ≡ member_of (codes "funding_keys") funding_keys_of (view form.now) }
 {
+    let value = form.member("funding_keys")?;
     if value.is_null() {
         return Some(None);
     }
@@ -98,10 +99,10 @@ pub fn commitment_of(form: &Value) -> Option<Commitment>
     ensures { result ≡ commitment_of (view form.now) }
 {
     Some(Commitment {
-        channel_type: channel_type_of(form.member("channel_type")?)?,
-        keys: keys_of(form.member("keys")?)?,
+        channel_type: member_channel_type(form)?,
+        keys: member_keys(form)?,
         delay_blocks: member(form, "delay_blocks")?,
-        funding_keys: funding_keys_of(form.member("funding_keys")?)?,
+        funding_keys: member_funding_keys(form)?,
     })
 }
 
@@ -155,14 +156,6 @@ fn each_htlc(alloc: Global, values: &[Value]) -> Result<Vec<RevokedHtlc>, ShapeE
     Ok(htlcs)
 }
 
-// Reads an array of HTLCs.
-fn htlcs_of(alloc: Global, value: &Value) -> Result<List<RevokedHtlc>, ShapeError>
-    ensures { Gives (λ xs. xs) result (list_of htlc_of (view value.now)) }
-{
-    let values = value.as_array().ok_or(ShapeError::BadShape)?;
-    Ok(List::from_vec(each_htlc(alloc, values)?))
-}
-
 // The transaction that bytes are, with or without witnesses.
 fn transaction_in(alloc: Global, bytes: &[u8]) -> Result<Tx, ShapeError>
     ensures { Gives (λ t. t) result (transaction_in bytes.now) }
@@ -179,31 +172,30 @@ fn transaction_in(alloc: Global, bytes: &[u8]) -> Result<Tx, ShapeError>
     }
 }
 
-/// Reads a transaction in hexadecimal.
-pub fn transaction_of(alloc: Global, value: &Value) -> Result<Tx, ShapeError>
-    ensures { Gives (λ t. t) result (transaction_of (view value.now)) }
-{
-    let bytes = bytes_of(alloc, value)?;
-    transaction_in(alloc, &bytes)
-}
-
 /// Reads the HTLCs of a request.
 pub fn member_htlcs(alloc: Global, form: &Value) -> Result<List<RevokedHtlc>, ShapeError>
     ensures { Gives (λ xs. xs) result
         (member_of (codes "htlcs") (list_of htlc_of) (view form.now)) }
 {
-    htlcs_of(alloc, form.member("htlcs").ok_or(ShapeError::BadShape)?)
+    let Some(value) = form.member("htlcs") else {
+        return Err(ShapeError::BadShape);
+    };
+    let Some(values) = value.as_array() else {
+        return Err(ShapeError::BadShape);
+    };
+    Ok(List::from_vec(each_htlc(alloc, values)?))
 }
 
-/// Reads the transaction of a request.
+/// Reads the transaction of a request, in hexadecimal.
 pub fn member_transaction(alloc: Global, form: &Value) -> Result<Tx, ShapeError>
     ensures { Gives (λ t. t) result
         (member_of (codes "transaction") transaction_of (view form.now)) }
 {
-    transaction_of(
-        alloc,
-        form.member("transaction").ok_or(ShapeError::BadShape)?,
-    )
+    let Some(value) = form.member("transaction") else {
+        return Err(ShapeError::BadShape);
+    };
+    let bytes = bytes_of(alloc, value)?;
+    transaction_in(alloc, &bytes)
 }
 
 /// An object of seven members: `channel_type`, `confirmed_height`, `delay_blocks`, `funding_keys`, `htlcs`, `keys` and `transaction`.
@@ -214,9 +206,15 @@ impl ReadValue for RevokedRequest {
 
     #[tactic(auto, unfolding(crate::specs::RevokedRequests::revoked_request_of))]
     fn read_value(alloc: Global, value: &Value) -> Result<RevokedRequest, ShapeError> {
-        let form = object_of(value, 7).ok_or(ShapeError::BadShape)?;
-        let commitment = commitment_of(form).ok_or(ShapeError::BadShape)?;
-        let confirmed_height: u32 = member(form, "confirmed_height").ok_or(ShapeError::BadShape)?;
+        let Some(form) = object_of(value, 7) else {
+            return Err(ShapeError::BadShape);
+        };
+        let Some(commitment) = commitment_of(form) else {
+            return Err(ShapeError::BadShape);
+        };
+        let Some(confirmed_height) = member::<u32>(form, "confirmed_height") else {
+            return Err(ShapeError::BadShape);
+        };
         Ok(RevokedRequest {
             commitment,
             htlcs: member_htlcs(alloc, form)?,

@@ -1,7 +1,9 @@
 // Which part of a request does not have its shape, and what is wanted there.
 
-use crate::close_requests::{height_of, whose_of};
-use crate::revoked_requests::{channel_type_of, funding_keys_of, htlc_of, keys_of, transaction_of};
+use crate::close_requests::{member_height, member_whose};
+use crate::revoked_requests::{
+    htlc_of, member_channel_type, member_funding_keys, member_keys, member_transaction,
+};
 use claim::{Shell, Slot};
 use json_value::Value;
 use page::Page;
@@ -11,8 +13,7 @@ use texts::{FromValue, ReadValue};
 use tx::{MAX_INPUTS, OutPoint};
 use warnings::{TextFault, text_fault};
 
-// What a value is to be.
-#[derive(Clone, Copy)]
+// What a value is to be. Of a request's own members some have a kind that no other has.
 enum Kind {
     Satoshis,
     Feerate,
@@ -35,7 +36,6 @@ enum Kind {
 }
 
 // How many values a member has.
-#[derive(Clone, Copy)]
 enum Number {
     One,
     AtMostOne,
@@ -43,10 +43,10 @@ enum Number {
 }
 
 /// A member.
-#[derive(Clone, Copy)]
 pub struct Member(&'static str, Kind, Number);
 
-static REQUEST: [Member; 6] = [
+/// The members of a request for a spend.
+pub static REQUEST: [Member; 6] = [
     Member("destination", Kind::Bytes, Number::One),
     Member("feerate_per_kw", Kind::Feerate, Number::One),
     Member("least_feerate_per_kw", Kind::Feerate, Number::AtMostOne),
@@ -55,6 +55,7 @@ static REQUEST: [Member; 6] = [
     Member("outputs", Kind::Output, Number::Array),
 ];
 
+/// Those of a request about a revoked commitment.
 pub static REVOKED: [Member; 7] = [
     Member("channel_type", Kind::ChannelType, Number::One),
     Member("confirmed_height", Kind::Height, Number::One),
@@ -65,6 +66,7 @@ pub static REVOKED: [Member; 7] = [
     Member("transaction", Kind::Transaction, Number::One),
 ];
 
+/// Those of a request about an unrevoked commitment.
 pub static CLOSE: [Member; 10] = [
     Member("channel_type", Kind::ChannelType, Number::One),
     Member("confirmed_height", Kind::HeightOrNull, Number::One),
@@ -90,11 +92,11 @@ static OUTPUT: [Member; 8] = [
 ];
 
 impl Kind {
-    // Whether a value is of this kind. What an output has in it is not asked.
-    fn fits(self, alloc: Global, value: &Value) -> bool {
+    // Whether a value of an object is of this kind. What an output has in it is not asked.
+    fn fits(&self, alloc: Global, form: &Value, value: &Value) -> bool {
         match self {
             Kind::Satoshis | Kind::Path => value.as_u64().is_some(),
-            Kind::Feerate => u32::from_value(value).is_some(),
+            Kind::Feerate | Kind::Height => u32::from_value(value).is_some(),
             Kind::Bytes => match value.as_str() {
                 Some(text) => text_fault(text).is_none(),
                 None => false,
@@ -104,20 +106,19 @@ impl Kind {
             Kind::Slot => Slot::read_value(alloc, value).is_ok(),
             Kind::Preimage => <[u8; 32]>::from_value(value).is_some(),
             Kind::Output => value.as_object().is_some(),
-            Kind::ChannelType => channel_type_of(value).is_some(),
-            Kind::Height => u32::from_value(value).is_some(),
+            Kind::ChannelType => member_channel_type(form).is_some(),
             Kind::Blocks => u16::from_value(value).is_some(),
             Kind::Htlc => htlc_of(value).is_some(),
-            Kind::Keys => keys_of(value).is_some(),
-            Kind::Transaction => transaction_of(alloc, value).is_ok(),
-            Kind::Whose => whose_of(value).is_some(),
-            Kind::HeightOrNull => height_of(value).is_some(),
-            Kind::FundingKeys => funding_keys_of(value).is_some(),
+            Kind::Keys => member_keys(form).is_some(),
+            Kind::Transaction => member_transaction(alloc, form).is_ok(),
+            Kind::Whose => member_whose(form).is_some(),
+            Kind::HeightOrNull => member_height(form).is_some(),
+            Kind::FundingKeys => member_funding_keys(form).is_some(),
         }
     }
 
     // What is wanted, in words.
-    fn text(self) -> &'static str {
+    fn text(&self) -> &'static str {
         match self {
             Kind::Satoshis => "satoshis, as an integer without point, sign and quotes",
             Kind::Feerate => {
@@ -167,7 +168,7 @@ fn begin(notes: &mut Page, output: Option<u64>, name: &str) {
 }
 
 // Ends a note on a value with what is wanted in its place.
-fn wanted(notes: &mut Page, kind: Kind, value: &Value) {
+fn wanted(notes: &mut Page, kind: &Kind, value: &Value) {
     notes.push(": wanted: ");
     notes.push(kind.text());
     if let Kind::Bytes = kind {
@@ -188,26 +189,32 @@ fn wanted(notes: &mut Page, kind: Kind, value: &Value) {
     notes.push("\n");
 }
 
-// Notes the value of a member, or the first of its array, if it is of another kind.
-fn note_value(alloc: Global, notes: &mut Page, output: Option<u64>, member: Member, value: &Value) {
-    let Member(name, kind, number) = member;
-    let Number::Array = number else {
-        if !kind.fits(alloc, value) {
-            begin(notes, output, name);
-            wanted(notes, kind, value);
+// Notes the value of an object's member, or the first of its array, if it is of another kind.
+fn note_value(
+    alloc: Global,
+    notes: &mut Page,
+    output: Option<u64>,
+    form: &Value,
+    member: &Member,
+    value: &Value,
+) {
+    let Number::Array = member.2 else {
+        if !member.1.fits(alloc, form, value) {
+            begin(notes, output, member.0);
+            wanted(notes, &member.1, value);
         }
         return;
     };
     let Some(items) = value.as_array() else {
-        begin(notes, output, name);
+        begin(notes, output, member.0);
         notes.push(": wanted: an array\n");
         return;
     };
     for (index, item) in items.iter().enumerate() {
-        if !kind.fits(alloc, item) {
-            begin(notes, output, name);
+        if !member.1.fits(alloc, form, item) {
+            begin(notes, output, member.0);
             notes.write("[%]", &[Count(index as u64)]);
-            wanted(notes, kind, item);
+            wanted(notes, &member.1, item);
             return;
         }
     }
@@ -215,11 +222,25 @@ fn note_value(alloc: Global, notes: &mut Page, output: Option<u64>, member: Memb
 
 /// The name as it is said: a question mark for one that is long, or has characters that are not seen.
 pub fn said(name: &str) -> &str {
-    if name.len() <= 40 && name.as_bytes().iter().all(|byte| byte.is_ascii_graphic()) {
-        name
-    } else {
-        "?"
+    if name.len() > 40 {
+        return "?";
     }
+    for byte in name.as_bytes() {
+        if !byte.is_ascii_graphic() {
+            return "?";
+        }
+    }
+    name
+}
+
+// Whether a member has this name.
+fn has_name(members: &[Member], name: &str) -> bool {
+    for member in members {
+        if member.0 == name {
+            return true;
+        }
+    }
+    false
 }
 
 // Notes the first member of an object that does not belong to it, is missing, or is of another kind.
@@ -231,17 +252,17 @@ fn note_object(
     members: &[Member],
 ) {
     for (name, _) in value.as_object().unwrap_or(&[]) {
-        if notes.text().is_empty() && !members.iter().any(|member| member.0 == name.as_str()) {
+        if notes.text().is_empty() && !has_name(members, name.as_str()) {
             begin(notes, output, said(name.as_str()));
             notes.push(": no member of this name belongs here\n");
         }
     }
     for member in members {
         if notes.text().is_empty() {
-            match (value.member(member.0), member.2) {
-                (Some(found), _) => note_value(alloc, notes, output, *member, found),
-                (None, Number::AtMostOne) => {}
-                (None, _) => {
+            match value.member(member.0) {
+                Some(found) => note_value(alloc, notes, output, value, member, found),
+                None if matches!(member.2, Number::AtMostOne) => {}
+                None => {
                     begin(notes, output, member.0);
                     notes.push(": it is missing\n");
                 }
@@ -262,22 +283,20 @@ fn note_outpoint(notes: &mut Page, output: u64, value: &Value) {
     }
 }
 
-/// Notes a request that is no object, or its first member that does not have its shape.
-pub fn note_whole(alloc: Global, notes: &mut Page, value: &Value, members: &[Member]) {
+/// Notes a request that is no object, or the first part of it that does not have its shape, where it has these members.
+pub fn note_shape(alloc: Global, notes: &mut Page, value: &Value, members: &[Member]) {
     if value.as_object().is_none() {
         notes.push("note: the request: wanted: an object\n");
-    } else {
-        note_object(alloc, notes, None, value, members);
+        return;
+    }
+    note_object(alloc, notes, None, value, members);
+    if let Some(outputs) = value.member("outputs") {
+        note_outputs(alloc, notes, outputs.as_array().unwrap_or(&[]));
     }
 }
 
-/// Notes the first part of a request that does not have its shape.
-pub fn note_shape(alloc: Global, notes: &mut Page, value: &Value) {
-    note_whole(alloc, notes, value, &REQUEST);
-    let outputs = match value.member("outputs") {
-        Some(outputs) => outputs.as_array().unwrap_or(&[]),
-        None => &[],
-    };
+// Notes the first output that does not have its shape, or what is wrong with the whole where each has.
+fn note_outputs(alloc: Global, notes: &mut Page, outputs: &[Value]) {
     let mut index: u64 = 0;
     for output in outputs {
         if notes.text().is_empty() {

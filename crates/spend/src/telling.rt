@@ -4,17 +4,16 @@ ghost use Rattle.std.specs.Prelude.{◌≡◌, ◌≤◌};
 ghost use Rattle.spend.specs.Asking.{IsWithin};
 
 use crate::asking::{Asked, asked_in, read_in};
-use crate::close_answers::{close_answer_of, tell_close};
+use crate::close_answers::{CloseAnswer, close_answer_of, tell_close};
 use crate::close_requests::CloseRequest;
 use crate::errors::PlanError;
-use crate::htlc_values::say_low_values;
-use crate::notes::{say_commitment_input, say_input, say_plan, say_refusal};
+use crate::found_notes::say_found;
+use crate::notes::{say_input, say_plan, say_refusal};
 use crate::outputs::reversed;
 use crate::plans::{Plan, plan_of};
-use crate::revoked_answers::{answer_of, tell_answer};
+use crate::revoked_answers::{RevokedAnswer, answer_of, tell_answer};
 use crate::revoked_requests::RevokedRequest;
-use crate::shapes::{CLOSE, REVOKED};
-use crate::shared_hashes::say_shared_hashes;
+use crate::shapes::{CLOSE, Member, REQUEST, REVOKED};
 use claim::Claim;
 use filling::MissingSignature;
 use lists::ByteString;
@@ -83,66 +82,102 @@ fn tell_bytes(alloc: Global, bytes: &[u8], out: &mut dyn Write, err: &mut dyn Wr
             mem::forget(asked);
             status
         }
-        Err(error) => {
-            let status = refuse(alloc, error, out);
-            say_input(alloc, bytes, error, err);
-            status
-        }
+        Err(error) => refuse_input(alloc, bytes, error, &REQUEST, out, err),
     }
+}
+
+// Writes why bytes ask for nothing, and returns the status: a request has these members.
+fn refuse_input(
+    alloc: Global,
+    bytes: &[u8],
+    error: PlanError,
+    members: &[Member],
+    out: &mut dyn Write,
+    err: &mut dyn Write,
+) -> u8
+    ensures { result ≡ 1 }
+{
+    let status = refuse(alloc, error, out);
+    say_input(alloc, bytes, error, members, err);
+    status
 }
 
 // Writes what the revoked commitment that bytes spell lets claim, and returns the status.
 fn tell_revoked(alloc: Global, bytes: &[u8], out: &mut dyn Write, err: &mut dyn Write) -> u8
     ensures { result ≤ 1 }
 {
-    let request: RevokedRequest = match read_in(alloc, bytes) {
-        Ok(request) => request,
-        Err(error) => {
-            let status = refuse(alloc, error, out);
-            say_commitment_input(alloc, bytes, error, &REVOKED, err);
-            return status;
-        }
-    };
-    match answer_of(alloc, request) {
-        Ok(answer) => {
-            let mut line = Page::new(alloc);
-            tell_answer(&mut line, &answer);
-            let status = write_told(out, &mut line, 0);
-            say_shared_hashes(alloc, &answer.revoked, answer.found.claims.values(), err);
-            // not dropped: the program ends now, which frees all at once
-            mem::forget(answer);
-            status
-        }
-        Err(_) => refuse_memory(out),
+    match read_in::<RevokedRequest>(alloc, bytes) {
+        Ok(request) => match answer_of(alloc, request) {
+            Ok(answer) => {
+                let status = tell_revoked_answer(alloc, &answer, out, err);
+                mem::forget(answer);
+                status
+            }
+            Err(_) => refuse_memory(out),
+        },
+        Err(error) => refuse_input(alloc, bytes, error, &REVOKED, out, err),
     }
+}
+
+// Writes what was found of a revoked commitment, and returns the status.
+fn tell_revoked_answer(
+    alloc: Global,
+    answer: &RevokedAnswer,
+    out: &mut dyn Write,
+    err: &mut dyn Write,
+) -> u8
+    ensures { result ≤ 1 }
+{
+    let mut line = Page::new(alloc);
+    tell_answer(&mut line, answer);
+    let status = write_told(out, &mut line, 0);
+    say_found(
+        alloc,
+        &answer.revoked,
+        &answer.found,
+        answer.names.values(),
+        err,
+    );
+    status
 }
 
 // Writes what the unrevoked commitment that bytes spell lets claim, and returns the status.
 fn tell_unrevoked(alloc: Global, bytes: &[u8], out: &mut dyn Write, err: &mut dyn Write) -> u8
     ensures { result ≤ 1 }
 {
-    let request: CloseRequest = match read_in(alloc, bytes) {
-        Ok(request) => request,
-        Err(error) => {
-            let status = refuse(alloc, error, out);
-            say_commitment_input(alloc, bytes, error, &CLOSE, err);
-            return status;
-        }
-    };
-    match close_answer_of(alloc, request) {
-        Ok(answer) => {
-            let mut line = Page::new(alloc);
-            tell_close(&mut line, &answer);
-            let status = write_told(out, &mut line, 0);
-            let claims = answer.found.claims.values();
-            say_shared_hashes(alloc, &answer.close.commitment, claims, err);
-            say_low_values(alloc, claims, err);
-            // not dropped: the program ends now, which frees all at once
-            mem::forget(answer);
-            status
-        }
-        Err(_) => refuse_memory(out),
+    match read_in::<CloseRequest>(alloc, bytes) {
+        Ok(request) => match close_answer_of(alloc, request) {
+            Ok(answer) => {
+                let status = tell_close_answer(alloc, &answer, out, err);
+                mem::forget(answer);
+                status
+            }
+            Err(_) => refuse_memory(out),
+        },
+        Err(error) => refuse_input(alloc, bytes, error, &CLOSE, out, err),
     }
+}
+
+// Writes what was found of an unrevoked commitment, and returns the status.
+fn tell_close_answer(
+    alloc: Global,
+    answer: &CloseAnswer,
+    out: &mut dyn Write,
+    err: &mut dyn Write,
+) -> u8
+    ensures { result ≤ 1 }
+{
+    let mut line = Page::new(alloc);
+    tell_close(&mut line, answer);
+    let status = write_told(out, &mut line, 0);
+    say_found(
+        alloc,
+        &answer.close.commitment,
+        &answer.found,
+        answer.names.values(),
+        err,
+    );
+    status
 }
 
 // Writes the plan for what is asked, and returns the status.
@@ -183,8 +218,10 @@ fn tell_plan(alloc: Global, line: &mut Page, claims: &[Claim], plan: &Plan) {
         ],
     );
     let signatures = plan.spend.signatures.values();
-    for (index, (input, claim)) in tx.inputs().iter().zip(claims).enumerate() {
-        tell_input(line, index, input, claim, signatures);
+    for (index, claim) in claims.iter().enumerate() {
+        if let Some(input) = tx.inputs().get(index) {
+            tell_input(line, index, input, claim, signatures);
+        }
     }
     line.push("]}\n");
 }
@@ -225,7 +262,12 @@ fn tell_input(
 
 // Whether a signature is missing at an item of an input.
 fn is_missing(signatures: &[MissingSignature], input: usize, item: usize) -> bool {
-    signatures.iter().any(|signature| signature.input == input && signature.item == item)
+    for signature in signatures {
+        if signature.input == input && signature.item == item {
+            return true;
+        }
+    }
+    false
 }
 
 // Writes an item of a witness, an element of an array: in hexadecimal, or nothing where a signature is missing.
