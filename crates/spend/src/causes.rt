@@ -53,17 +53,27 @@ fn note_accepted(
     let slots = plain.slots.into_vec();
     match accept(alloc, checked, plain.path, slots, plain.place, plain.shell) {
         Ok(claim) => mem::forget(claim),
-        Err(error) => {
-            let (member, words) = words_of(&error);
-            note_cause(notes, output, member, &error, words);
-            match error {
-                AcceptError::NoSuchPath => notes.write(" %, numbered from 0\n", &[Count(count)]),
-                AcceptError::WrongArity => {
-                    notes.write(" %, and % stand here\n", &[Count(arity), Count(given)])
-                }
-                _ => {}
-            }
+        Err(error) => note_refused(notes, output, &error, count, arity, given),
+    }
+}
+
+// Notes why a claim is refused, on a script with this number of paths; its path has so many slots, and so many are given.
+fn note_refused(
+    notes: &mut Page,
+    output: u64,
+    error: &AcceptError,
+    count: u64,
+    arity: u64,
+    given: u64,
+) {
+    let (member, words) = words_of(error);
+    note_cause(notes, output, member, error, words);
+    match error {
+        AcceptError::NoSuchPath => notes.write(" %, numbered from 0\n", &[Count(count)]),
+        AcceptError::WrongArity => {
+            notes.write(" %, and % stand here\n", &[Count(arity), Count(given)])
         }
+        _ => {}
     }
 }
 

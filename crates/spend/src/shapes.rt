@@ -102,8 +102,8 @@ impl Kind {
                 None => false,
             },
             Kind::Outpoint => OutPoint::from_value(value).is_some(),
-            Kind::Shell => Shell::read_value(alloc, value).is_ok(),
-            Kind::Slot => Slot::read_value(alloc, value).is_ok(),
+            Kind::Shell => is_read::<Shell>(alloc, value),
+            Kind::Slot => is_read::<Slot>(alloc, value),
             Kind::Preimage => <[u8; 32]>::from_value(value).is_some(),
             Kind::Output => value.as_object().is_some(),
             Kind::ChannelType => member_channel_type(form).is_some(),
@@ -155,6 +155,11 @@ impl Kind {
             }
         }
     }
+}
+
+// Whether a value is read as one of a type.
+fn is_read<T: ReadValue + Drop>(alloc: Global, value: &Value) -> bool {
+    T::read_value(alloc, value).is_ok()
 }
 
 // Begins a note on the whole request, or on an output.
