@@ -276,6 +276,9 @@ def givens(told: dict[str, Any]) -> Iterator[tuple[dict[str, Any], tuple[str, in
     known = [*ORIGINS, "0014" + "00" * 19 + "01", "0014" + "ff" * 19 + "fe", "0020" + sha256(bytes(2)).hex(), "5120" + POINT_H[:-2] + "c1"]
     for destination in (curve, *known, *(it for it, _ in DUST)):
         yield {**paying, "destination": destination}, None, destination_notes(destination)
+    for destination, what in open_scripts(told):
+        again = f"destination: what it pays to is the hash of {what}: anyone can spend from it, or nobody"
+        yield {**paying, "destination": destination}, None, [again] * bool(what)
     # without the preimage RIPEMD-160 of its hash stands in the script
     pushed = "0014" + ripemd160(bytes.fromhex(preimage_slot(told, 1)[1])).hex()
     again = "destination: what it pays to is a push of the script of outputs[0]: anyone can spend from it, or nobody"
@@ -312,8 +315,9 @@ OPEN = [
     *("51024e73", "5103" + "11" * 3, "5115" + "00" * 21, "511f" + "11" * 31, "5121" + "11" * 33, "5128" + "11" * 40),
     *("5220" + "11" * 32, "6002" + "11" * 2, "6003" + "11" * 3, "6028" + "11" * 40),
 ]
-# the x coordinates of the point G (SEC 2, 2.4.1) and of the point H (BIP 341)
+# the x coordinates of the points G and 2G (SEC 2, 2.4.1) and of the point H (BIP 341)
 POINT_G = "79be667ef9dcbbac55a06295ce870b07029bfcdb2dce28d959f2815b16f81798"
+POINT_2G = "c6047f9441ed7d6d3045406e95c07cd85c778e4b8cef3ca7abac09b95c709ee5"
 POINT_H = "50929b74c1a04954b78b4b6035e97a5e078a5a0f28ec96d547bfee9ace803ac0"
 # programs whose hash or key is nobody's secret: HASH160 of nothing, of 51 and of the key 1 (BIP 173), SHA-256 of nothing
 # and of 51; then HASH160 of the keys 1 and -1 in 65 bytes and of -1 in 33, and SHA-256 of 00, of 6a and of ff; P2SH-P2WPKH,
@@ -391,6 +395,39 @@ def destination_notes(destination: str) -> list[str]:
         "destination: anyone can spend from it today: no rule stands yet for witness version"
         f" {code - 0x50} with {size} bytes"
     ]
+
+
+def open_scripts(told: dict[str, Any]) -> Iterator[tuple[str, str]]:
+    """Programs of scripts of CHECKMULTISIG and of at most one byte, nested and not, and what they are called: nothing
+    where the script has a key that is not known, wants three, or has two bytes.
+    """
+    byte, known = (
+        "the P2WSH program of a script of at most one byte",
+        "CHECKMULTISIG of keys that all know, or of its P2WSH program",
+    )
+    keys = [f"{sign}{x}" for x in (POINT_G, POINT_2G, POINT_H) for sign in ("02", "03")]
+    other = told["terms"]["keys"]["remote_htlcpubkey"]
+
+    def programs(script: str) -> list[str]:
+        by_hash = "0020" + hash256(script)
+        return [by_hash, f"a914{hash160(script)}87", f"a914{hash160(by_hash)}87"]
+
+    for script in ("51", "", "00", "ac", "ff"):
+        yield programs(script)[2], byte
+    yield programs("5151")[2], ""
+    for needed, found in (
+        *((1, [it]) for it in keys),
+        *((needed, [one, it]) for needed in (1, 2) for one in keys[:3] for it in keys),
+    ):
+        for program in programs(multisig(needed, found)):
+            yield program, known
+    for needed, found in ((1, [other]), (2, [keys[0], other]), (1, [other, keys[0]]), (2, keys[:3])):
+        for program in programs(multisig(needed, found)):
+            yield program, ""
+
+
+def multisig(needed: int, keys: list[str]) -> str:
+    return f"5{needed}{''.join('21' + it for it in keys)}5{len(keys)}ae"
 
 
 def cheap_notes(told: dict[str, Any], asked: dict[str, Any]) -> list[str]:
@@ -722,6 +759,14 @@ def known_keys(told: dict[str, Any]) -> Iterator[tuple[list[dict[str, Any]], lis
         ([of_key(key, 0)], []),
         ([of_key(by_g, 0)], [f"outputs[0]: {generator}"]),
         ([of_key(by_h, 0)], [f"outputs[0]: {other}"]),
+        (
+            [of_key("03" + POINT_G, 0)],
+            [f"outputs[0]: {known}the point -G, whose private key is n - 1: anyone can sign for it"],
+        ),
+        (
+            [of_key("02" + POINT_2G, 0)],
+            [f"outputs[0]: {known}the point 2G, whose private key is 2: anyone can sign for it"],
+        ),
         ([of_key(by_g[:-1] + "9", 0)], []),
         ([of_key(key, 0), of_key(by_g, 1), of_key(by_h, 2)], [f"outputs[1] and 1 more: {generator}"]),
         ([both], [f"outputs[0]: {generator}"]),

@@ -38,7 +38,7 @@ mod unknowns;
 pub use calls::{call_notes, secret_note, text_of};
 pub use curve::is_curve_x;
 pub use decided::short_of;
-pub use origins::{Origin, origin_of_hash, origin_of_point};
+pub use origins::{Origin, known_key, origin_of_hash, origin_of_point};
 pub use risks::{MAX_RELAYED_ITEM, MAX_RELAYED_ITEMS, MAX_RELAYED_SCRIPT};
 pub use scripts::notes;
 pub use strictness::is_der;

@@ -319,3 +319,15 @@ fn is_hash_of(bytes: &[u8], others: &[u8]) -> bool {
         bytes == sha256(others).as_slice()
     }
 }
+
+/// The keys of 33 bytes whose private key all know, or nobody, each by its place from 0; `None` after the last.
+pub fn known_key(place: usize) -> Option<[u8; 33]> {
+    match POINTS.get(place / 2) {
+        Some(point) => {
+            let mut key = [if place % 2 == 0 { 2u8 } else { 3 }; 33];
+            key[1..].copy_from_slice(&point.x);
+            Some(key)
+        }
+        None => None,
+    }
+}

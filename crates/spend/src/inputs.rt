@@ -196,7 +196,7 @@ fn note_keys(notes: &mut Page, plan: &Plan, is_known: bool) {
     for signature in plan.spend.signatures.values() {
         let key = &signature.key.bytes;
         let is_such = if is_known {
-            key[0] == 2 && origin_of_point(&key[1..]).is_some()
+            origin_of_point(key).is_some()
         } else {
             !is_curve_x(&key[1..])
         };
@@ -212,7 +212,7 @@ fn note_keys(notes: &mut Page, plan: &Plan, is_known: bool) {
         return;
     };
     let input = signature.input as u64;
-    match origin_of_point(&signature.key.bytes[1..]) {
+    match origin_of_point(&signature.key.bytes) {
         Some(origin) => {
             let words = ": a key that has to sign is one that all know: ";
             note_first(notes, input, count, words);

@@ -20,6 +20,7 @@ mod errors;
 mod found_notes;
 mod inputs;
 mod notes;
+mod open_scripts;
 mod outputs;
 mod outputs_at_fault;
 mod plans;

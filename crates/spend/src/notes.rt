@@ -7,6 +7,7 @@ use crate::causes::note_claims;
 use crate::dust::{dust_threshold, is_witness_program};
 use crate::errors::PlanError;
 use crate::inputs::note_inputs;
+use crate::open_scripts::note_open_script;
 use crate::outputs_at_fault::{note_claims_at_fault, note_slots, output_at};
 use crate::plans::{Plan, asked_fee};
 use crate::request_bytes::note_request_bytes;
@@ -69,7 +70,7 @@ fn note_destination(alloc: Global, notes: &mut Page, asked: &Asked) {
         notes.push("note: destination: what it pays to is ");
         notes.show(&origin);
         notes.push(": anyone can spend from it, or nobody\n");
-    } else if !note_request_bytes(alloc, notes, asked) {
+    } else if !note_open_script(notes, program) && !note_request_bytes(alloc, notes, asked) {
         note_taproot(notes, program);
     }
 }
