@@ -281,7 +281,7 @@ def givens(told: dict[str, Any]) -> Iterator[tuple[dict[str, Any], tuple[str, in
         yield {**paying, "destination": destination}, None, [again] * bool(what)
     # without the preimage RIPEMD-160 of its hash stands in the script
     pushed = "0014" + ripemd160(bytes.fromhex(preimage_slot(told, 1)[1])).hex()
-    again = "destination: what it pays to is a push of the script of outputs[0]: anyone can spend from it, or nobody"
+    again = "destination: what it pays to is the hash of 32 bytes of 01: anyone can spend from it, or nobody"
     yield {**paying, "destination": pushed}, None, [again]
     for destination in OPEN:
         yield {**paying, "destination": destination}, ("BadDestination", 13), destination_notes(destination)
@@ -664,11 +664,12 @@ def own_bytes(told: dict[str, Any]) -> Iterator[tuple[dict[str, Any], str, str]]
         (f"a914{hash160(shown)}87", "the hash of the id of outputs[0]"),
         ("0020" + preimage, "preimages[0]"),
         ("5120" + preimage, "preimages[0]"),
-        ("0020" + payment_hash, "the hash of preimages[0]"),
+        # each byte of the preimage is 02, as all know
+        ("0020" + payment_hash, "the hash of 32 bytes of 02"),
         ("5120" + payment_hash, "the hash of preimages[0]"),
-        ("0014" + hash160(preimage), "the hash of preimages[0]"),
-        (f"76a914{hash160(preimage)}88ac", "the hash of preimages[0]"),
-        (f"a914{hash160(preimage)}87", "the hash of preimages[0]"),
+        ("0014" + hash160(preimage), "the hash of 32 bytes of 02"),
+        (f"76a914{hash160(preimage)}88ac", "the hash of 32 bytes of 02"),
+        (f"a914{hash160(preimage)}87", "the hash of 32 bytes of 02"),
         ("0020" + hash256(payment_hash), "the hash of the payment hash in outputs[0].slots[0]"),
         ("0020" + x, "the x coordinate of a key of outputs[0]"),
         ("5120" + x, ""),
@@ -701,7 +702,7 @@ def own_bytes(told: dict[str, Any]) -> Iterator[tuple[dict[str, Any], str, str]]
     item = keyed_claim(told, "75", 1_000_000)
     given = {**alone, "outputs": [{**item, "slots": [["exact", "aa" * 32], *item["slots"]]}]}
     yield given, "0020" + "aa" * 32, "outputs[0].slots[0]"
-    yield given, "0014" + hash160("aa" * 32), "the hash of outputs[0].slots[0]"
+    yield given, "0014" + hash160("aa" * 32), "the hash of 32 bytes of aa"
 
 
 def others_keys(told: dict[str, Any]) -> Iterator[tuple[dict[str, Any], str, bool]]:
