@@ -19,20 +19,34 @@
 extern "C" {
 #endif
 
-enum {
+/* How a claim fills a slot of its path. */
+enum enforce_slot_kind {
     ENFORCE_SLOT_SIGNATURE = 1, /* The slot is the signature of `key` over the spend. */
     ENFORCE_SLOT_PREIMAGE = 2, /* The slot is 32 bytes whose SHA-256 is `hash`. */
     ENFORCE_SLOT_EXACT = 3, /* The slot is the `bytes_length` bytes from `bytes_at` on, at most 520. */
     ENFORCE_SLOT_GIVEN = 4, /* The slot is the signature of `key` over the digest `hash`, which was given over one transaction, with no witnesses the `bytes_length` bytes from `bytes_at` on. The claim is of this transaction alone, over whose digest the other signatures are too. No call reads such a slot. */
 };
 
-enum {
+/* The type of a channel. */
+enum enforce_channel_type {
     ENFORCE_CHANNEL_STATIC_REMOTE_KEY = 1, /* A channel without anchors: `option_static_remotekey` (BOLT 9). */
     ENFORCE_CHANNEL_ANCHORS = 2, /* A channel with `option_anchors` (BOLT 9). */
+};
+
+/* Whose commitment closed a channel. */
+enum enforce_whose {
     ENFORCE_CLOSE_OWN = 1, /* One's own commitment, the newest. */
     ENFORCE_CLOSE_PEERS = 2, /* The peer's newest commitment, or the one after it, while the newest is not revoked. */
+};
+
+/* Whether the owner of a commitment offered an HTLC or received it. */
+enum enforce_direction {
     ENFORCE_DIRECTION_OFFERED = 1, /* The owner of the commitment offered the HTLC. */
     ENFORCE_DIRECTION_RECEIVED = 2, /* The owner of the commitment received the HTLC. */
+};
+
+/* Which output of a commitment it is. */
+enum enforce_output_kind {
     ENFORCE_OUTPUT_UNKNOWN = 0, /* None that is known. */
     ENFORCE_OUTPUT_TO_LOCAL = 1, /* To the owner of the commitment, after the delay. The output of an HTLC transaction has the same script. */
     ENFORCE_OUTPUT_TO_REMOTE = 2, /* To the owner's peer. */
@@ -42,7 +56,8 @@ enum {
     ENFORCE_OUTPUT_PEERS_ANCHOR = 6, /* The peer's anchor. */
 };
 
-enum {
+/* Which form of BOLT 3 it is. */
+enum enforce_form_kind {
     ENFORCE_FORM_FUNDING = 1, /* A funding output: both keys, `key` and `other`, in whichever order. */
     ENFORCE_FORM_TO_LOCAL = 2, /* A to_local output: `key` revokes, or `other` after `delay_blocks`. */
     ENFORCE_FORM_KEY_HASH = 3, /* A to_remote output, P2WPKH of `key`: the script that it stands for. */
@@ -50,7 +65,8 @@ enum {
     ENFORCE_FORM_RECEIVED = 5, /* An HTLC that the commitment's owner received, with the same keys, and `expiry_height`. */
 };
 
-enum {
+/* What a path asks of the witness or the spend. */
+enum enforce_fact_kind {
     ENFORCE_FACT_HASH = 1, /* HASH160 of the slot is these 20 bytes. */
     ENFORCE_FACT_SIZE = 2, /* The slot has this number of bytes. */
     ENFORCE_FACT_TRUTH = 3, /* The slot counts as true. */
@@ -65,7 +81,8 @@ enum {
     ENFORCE_FACT_AGE = 12, /* CHECKSEQUENCEVERIFY of this number passes (BIP 112). Of it only the bits of 0x40ffff are kept. */
 };
 
-enum {
+/* Whether a call did what it is for, or why not. */
+enum enforce_status {
     ENFORCE_DONE = 0x0, /* The call did what it is for. */
     ENFORCE_NO_MEMORY = 0x1, /* Memory ran out. Nothing but the answer was written. */
     ENFORCE_TOO_SMALL = 0x2, /* A buffer is shorter than the answer says. Nothing but the answer was written. */
@@ -377,6 +394,59 @@ static inline const char *enforce_name(uint32_t status) {
     case ENFORCE_NOT_SIGHASH_ALL: return "NotSighashAll";
     case ENFORCE_NOT_ASKED: return "NotAsked";
     default: return "Unknown";
+    }
+}
+
+/* What a status says. */
+static inline const char *enforce_sentence(uint32_t status) {
+    switch (status) {
+    case ENFORCE_DONE: return "The call did what it is for.";
+    case ENFORCE_NO_MEMORY: return "Memory ran out. Nothing but the answer was written.";
+    case ENFORCE_TOO_SMALL: return "A buffer is shorter than the answer says. Nothing but the answer was written.";
+    case ENFORCE_BAD_OPCODE: return "A byte of the script is not an opcode; the answer has its position.";
+    case ENFORCE_TRUNCATED: return "A push has too few bytes after it; the answer has its position.";
+    case ENFORCE_TOO_LONG: return "The script has more than 10,000 bytes.";
+    case ENFORCE_OPEN_BRANCH: return "Branches of the script do not close.";
+    case ENFORCE_TOO_MANY_OPS: return "More than 201 opcodes count.";
+    case ENFORCE_UNDECIDED: return "No rule decides an opcode or the end; the answer has the opcode's index.";
+    case ENFORCE_TOO_MANY_PATHS: return "A 65th path begins.";
+    case ENFORCE_TOO_TALL: return "A path needs more than 1,000 stack elements.";
+    case ENFORCE_NO_SUCH_PATH: return "The script has no path of this index.";
+    case ENFORCE_WRONG_ARITY: return "The number of slots is not that of the path.";
+    case ENFORCE_UNMET: return "The slots do not show a fact of the path.";
+    case ENFORCE_CONTRADICTION: return "The path asks for one fact with both polarities.";
+    case ENFORCE_WRONG_PROGRAM: return "The program is not that of the script.";
+    case ENFORCE_WRONG_SHELL: return "The fixed transaction of a claim does not fit. No claim of these calls has one.";
+    case ENFORCE_NO_SUCH_FORM: return "There is no form of this kind.";
+    case ENFORCE_NOT_A_KEY: return "Bytes that are to be a key do not have the form of one.";
+    case ENFORCE_NOT_A_HEIGHT: return "The expiry is 500,000,000 or more, which is a time and not a height.";
+    case ENFORCE_FIXED_TRANSACTION: return "A claim has a fixed transaction. No claim of these calls has one.";
+    case ENFORCE_SAME_OUTPOINT: return "Two claims spend the same outpoint.";
+    case ENFORCE_OUTPUTS_EXCEED: return "The outputs are worth more than the claimed outputs together.";
+    case ENFORCE_MEASURED_SIGNATURE: return "The path of a claim asks for the length, the hash or the bytes of a signature.";
+    case ENFORCE_NO_PREIMAGE: return "No preimage is given for the hash of a slot.";
+    case ENFORCE_TRUNCATED_TRANSACTION: return "The bytes of the transaction end within a field.";
+    case ENFORCE_LONG_COUNT: return "A compactSize of the transaction is not minimal.";
+    case ENFORCE_BAD_MARKER: return "The marker of the transaction is not 0, or its flag is not 1 (BIP 144). No call here tells it: such bytes are read without witnesses.";
+    case ENFORCE_NO_INPUTS: return "There is no claim, or the transaction that is given has no input.";
+    case ENFORCE_NO_WITNESS: return "No witness of the transaction has an item.";
+    case ENFORCE_VALUE_TOO_LARGE: return "The value of an output is above 21,000,000 bitcoins.";
+    case ENFORCE_TRAILING: return "There are bytes after the lock time of the transaction.";
+    case ENFORCE_OVER_LIMIT: return "There are more than 4,000 claims or outputs, or the script of an output has more than 10,000 bytes; of a transaction that is given, a count is above its limit, or an input has a script.";
+    case ENFORCE_OUT_OF_RANGE: return "A row refers to bytes or to rows that are not there.";
+    case ENFORCE_NO_SUCH_SLOT: return "There is no slot of this kind.";
+    case ENFORCE_ITEM_TOO_LONG: return "The bytes of a slot are more than 520.";
+    case ENFORCE_NO_SUCH_CHANNEL_TYPE: return "There is no type of channels of this kind.";
+    case ENFORCE_NOT_A_COMMITMENT_KEY: return "Bytes that are to be a key of the commitment do not have the form of one; the answer has which of its fields it is, from 0.";
+    case ENFORCE_NO_SUCH_DIRECTION: return "There is no direction of this kind; the answer has the index of the HTLC.";
+    case ENFORCE_EXPIRY_TOO_LARGE: return "The expiry of an HTLC is 500,000,000 or more, which is a time and not a height; the answer has the index of the HTLC.";
+    case ENFORCE_NO_SUCH_CLOSE: return "It is neither one's own commitment nor the peer's.";
+    case ENFORCE_NO_SIGNATURE: return "A slot asks a signature, and the next one that is given is not of it; the answer has the input and the item that lack it.";
+    case ENFORCE_SIGNATURE_OUT_OF_RANGE: return "The row of a signature refers to bytes that are not there; the answer has its input and its item, as of the two below.";
+    case ENFORCE_NOT_DER: return "Bytes that are to be a signature are not in strict DER (BIP 66).";
+    case ENFORCE_NOT_SIGHASH_ALL: return "The hash type of a signature is not ALL, the byte 01.";
+    case ENFORCE_NOT_ASKED: return "A signature is given after that of the last slot that asks one; the answer has the input and the item of its row.";
+    default: return "These declarations do not have this status.";
     }
 }
 

@@ -15,6 +15,11 @@ enforce_tried rattle_alloc(size_t size, size_t align);
 enforce_tried rattle_realloc(uint8_t *block, size_t kept, size_t size, size_t align);
 void rattle_dealloc(uint8_t *block);
 
+/* Which library it is, for whoever has the file alone: `strings libenforce.a | grep "^enforce "`. */
+#ifdef ENFORCE_SOURCES
+__attribute__((used)) static const char which[] = "enforce " ENFORCE_SOURCES;
+#endif
+
 static uint8_t nothing;
 
 static enforce_tried tried(uint8_t *block) { return (enforce_tried){block != NULL, block ? block : &nothing}; }

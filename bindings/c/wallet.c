@@ -3,19 +3,25 @@
      cc $(pkg-config --cflags enforce) wallet.c $(pkg-config --libs enforce)
      ./a.out SCRIPT REVOCATION_KEY DELAY DELAYED_KEY */
 #include <enforce.h>
+#include <inttypes.h>
 #include <stdio.h>
 #include <stdlib.h>
 #include <string.h>
 
-static size_t read_hex(const char *from, uint8_t *bytes, size_t room) {
-    size_t length = strlen(from) / 2;
-    unsigned byte;
-    if (length > room) exit(2);
-    for (size_t i = 0; i < length; i++) {
-        if (sscanf(from + 2 * i, "%2x", &byte) != 1) exit(2);
-        bytes[i] = (uint8_t)byte;
-    }
-    return length;
+/* The bytes that hexadecimal digits spell, at least and at most this many; how many there are. */
+static size_t read_hex(const char *from, uint8_t *bytes, size_t least, size_t most) {
+    size_t length = strlen(from);
+    if (length % 2 || length < 2 * least || length > 2 * most || strspn(from, "0123456789abcdefABCDEF") != length) exit(2);
+    for (size_t i = 0; i < length / 2; i++) sscanf(from + 2 * i, "%2" SCNx8, bytes + i);
+    return length / 2;
+}
+
+/* A number of 16 bits. What is none ends the program: a delay that is cut short would be another one. */
+static uint16_t read_number(const char *from) {
+    char *end;
+    unsigned long found = strtoul(from, &end, 10);
+    if (*from < '0' || *from > '9' || *end || found > UINT16_MAX) exit(2);
+    return (uint16_t)found;
 }
 
 /* Whether these are the bytes of the form's script. */
@@ -57,9 +63,9 @@ int main(int argc, char **argv) {
     static uint8_t script[10001];
     enforce_form form = {.kind = ENFORCE_FORM_TO_LOCAL};
     if (argc != 5 || enforce_abi() != ENFORCE_ABI) return 2;
-    size_t length = read_hex(argv[1], script, sizeof script);
-    read_hex(argv[2], form.key, 33), read_hex(argv[4], form.other, 33);
-    form.delay_blocks = (uint16_t)atoi(argv[3]);
+    size_t length = read_hex(argv[1], script, 0, sizeof script);
+    read_hex(argv[2], form.key, 33, 33), read_hex(argv[4], form.other, 33, 33);
+    form.delay_blocks = read_number(argv[3]);
     if (is_form(script, length, &form)) printf("it is the to_local script with these keys\n");
     return tell(script, length);
 }

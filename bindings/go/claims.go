@@ -47,7 +47,7 @@ type Output struct {
 
 // MissingSignature is a signature that a transaction lacks: the item at this place of this input's witness, by this key over this digest (BIP 143, SIGHASH_ALL).
 type MissingSignature struct {
-	Input, Item int
+	Input, Item uint64
 	Key         [33]byte
 	Digest      [32]byte
 }
@@ -123,6 +123,9 @@ func rowsOf[T, R any](values []T, row func(*T) R) []R {
 // Proved of enforce_claim: whatever fills the slots as they say spends the output, in a transaction of version 2 with this sequence, whose lock time is a height (below 500,000,000) and not below this one. Signatures
 // are tokens there; a path that measures none of them takes a valid signature as well (UnsignedSpend refuses the others).
 func (claim *Claim) Accept() (Due, error) {
+	if err := sameABI(); err != nil {
+		return Due{}, err
+	}
 	var g given
 	var due C.enforce_due
 	var answer C.enforce_answer
@@ -138,6 +141,9 @@ func (claim *Claim) Accept() (Due, error) {
 //
 // Proved of enforce_unsigned_spend: with the token of each missing signature in its place, each input runs clean. Finish puts in the signature by the key over the digest, with the byte 01 after it.
 func UnsignedSpend(claims []Claim, outputs []Output, preimages [][32]byte) ([]byte, []MissingSignature, error) {
+	if err := sameABI(); err != nil {
+		return nil, nil, err
+	}
 	var g given
 	claimRows, outputRows := rowsOf(claims, g.claim), rowsOf(outputs, g.output)
 	data, size := bytesOf(g.bytes)
@@ -153,7 +159,7 @@ func UnsignedSpend(claims []Claim, outputs []Output, preimages [][32]byte) ([]by
 			missing := make([]MissingSignature, answer.signatures)
 			for i := range missing {
 				row := &signatures[i]
-				missing[i] = MissingSignature{int(row.input), int(row.item), *(*[33]byte)(unsafe.Pointer(&row.key)), *(*[32]byte)(unsafe.Pointer(&row.digest))}
+				missing[i] = MissingSignature{uint64(row.input), uint64(row.item), *(*[33]byte)(unsafe.Pointer(&row.key)), *(*[32]byte)(unsafe.Pointer(&row.digest))}
 			}
 			return tx[:answer.bytes], missing, nil
 		case C.ENFORCE_TOO_SMALL:
@@ -169,6 +175,9 @@ func UnsignedSpend(claims []Claim, outputs []Output, preimages [][32]byte) ([]by
 //
 // Proved of enforce_finish: where each is the key's over the digest, each input runs clean.
 func Finish(claims []Claim, outputs []Output, preimages [][32]byte, signed []Signed) ([]byte, error) {
+	if err := sameABI(); err != nil {
+		return nil, err
+	}
 	var g given
 	claimRows, outputRows, signedRows := rowsOf(claims, g.claim), rowsOf(outputs, g.output), rowsOf(signed, g.signed)
 	data, size := bytesOf(g.bytes)

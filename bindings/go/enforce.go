@@ -3,51 +3,17 @@
 //	paths, err := enforce.Paths([]byte{0x63, 0x51, 0x67, 0x52, 0x68}) // IF 1 ELSE 2 ENDIF
 //	fmt.Println(len(paths), err)                                      // 2 <nil>
 //
-// Nothing here signs, and nothing checks a signature but for its form. The keys are the caller's, and none is derived. Wants CGO_CFLAGS and CGO_LDFLAGS to name the folders of enforce.h and libenforce.a, as
-// `pkg-config --cflags enforce` and `pkg-config --libs-only-L enforce` do. cgo, and the copies between the rows of C and the types here, are trusted.
+// Nothing here signs, and nothing checks a signature but for its form. The keys are the caller's, and none is derived. Wants pkg-config to know enforce; where that tells of another library, `go clean -cache`. cgo, and the copies between the rows of C and the types
+// here, are trusted. The command sign goes from a script to the signed transaction.
 package enforce
 
 /*
-#cgo LDFLAGS: -l:libenforce.a
+#cgo pkg-config: enforce
 #include <enforce.h>
 */
 import "C"
 
-import (
-	"fmt"
-	"unsafe"
-)
-
-// Refused is why a call gives nothing: the status, its word, and the number that some refusals carry. Of a signature the number is the input, and Item its item.
-type Refused struct {
-	Status       uint32
-	Name         string
-	Number, Item uint64
-}
-
-func (r *Refused) Error() string {
-	switch r.Status {
-	case C.ENFORCE_BAD_OPCODE, C.ENFORCE_TRUNCATED, C.ENFORCE_UNDECIDED, C.ENFORCE_NOT_A_COMMITMENT_KEY, C.ENFORCE_NO_SUCH_DIRECTION, C.ENFORCE_EXPIRY_TOO_LARGE:
-		return fmt.Sprintf("%s %d", r.Name, r.Number)
-	case C.ENFORCE_NO_SIGNATURE, C.ENFORCE_SIGNATURE_OUT_OF_RANGE, C.ENFORCE_NOT_DER, C.ENFORCE_NOT_SIGHASH_ALL, C.ENFORCE_NOT_ASKED:
-		return fmt.Sprintf("%s %d %d", r.Name, r.Number, r.Item)
-	}
-	return r.Name
-}
-
-func refused(status C.uint32_t, number C.size_t) error {
-	return refusedAt(status, number, 0)
-}
-
-func refusedAt(status C.uint32_t, number, item C.size_t) error {
-	return &Refused{uint32(status), C.GoString(C.enforce_name(status)), uint64(number), uint64(item)}
-}
-
-func init() {
-	if C.enforce_abi() != C.ENFORCE_ABI {
-		panic("enforce: the library is of another version than enforce.h")
-	}
-}
+import "unsafe"
 
 // Key is where a key comes from: bytes of the script, or else the slot that has it.
 type Key struct {
@@ -56,9 +22,9 @@ type Key struct {
 	IsSlot bool
 }
 
-// Fact is what a path asks of the witness or the spend: the word of `enforce paths`, whether it is to hold, and what it says. Slots count from 0 at the top of the stack.
+// Fact is what a path asks of the witness or the spend: its kind, whether it is to hold, and what it says. Slots count from 0 at the top of the stack.
 type Fact struct {
-	Kind     string
+	Kind     FactKind
 	Holds    bool
 	Slots    []int
 	Keys     []Key
@@ -74,9 +40,21 @@ type Path struct {
 	Facts                  []Fact
 }
 
-var kinds = map[C.uint32_t]string{
-	C.ENFORCE_FACT_HASH: "hash", C.ENFORCE_FACT_SIZE: "size", C.ENFORCE_FACT_TRUTH: "truth", C.ENFORCE_FACT_IS: "is", C.ENFORCE_FACT_KEY: "key", C.ENFORCE_FACT_FORM: "form",
-	C.ENFORCE_FACT_SIGNED: "token", C.ENFORCE_FACT_CHOICE: "assigned", C.ENFORCE_FACT_LOCK: "lock", C.ENFORCE_FACT_AGE: "age",
+// Word is the word of `enforce paths` for the kind.
+func (kind FactKind) Word() string {
+	return words[kind]
+}
+
+var words = map[FactKind]string{
+	FactHash: "hash", FactSize: "size", FactTruth: "truth", FactIs: "is", FactKey: "key", FactForm: "form", FactSigned: "token", FactChoice: "assigned", FactLock: "lock", FactAge: "age",
+}
+
+// ReversedID is an id of a transaction in the other byte order: the hash's own is that of the rows here, and what nodes and explorers show is the other one.
+func ReversedID(id [32]byte) (reversed [32]byte) {
+	for i := range id {
+		reversed[31-i] = id[i]
+	}
+	return
 }
 
 // The first of some values, for C. Where there is none it is another one, since the library is given no nil.
@@ -110,7 +88,7 @@ func (r *rows) key(row *C.enforce_fact_row) Key {
 
 // The fact of these rows: the first, and those of a choice that follow it.
 func (r *rows) fact(head *C.enforce_fact_row, choice []C.enforce_fact_row) Fact {
-	fact := Fact{Kind: kinds[head.kind], Holds: bool(head.holds), Number: uint64(head.number)}
+	fact := Fact{Kind: FactKind(head.kind), Holds: bool(head.holds), Number: uint64(head.number)}
 	switch head.kind {
 	case C.ENFORCE_FACT_LOCK, C.ENFORCE_FACT_AGE:
 	case C.ENFORCE_FACT_SIGNED:
@@ -156,6 +134,9 @@ func (r *rows) path(row *C.enforce_path_row) Path {
 //
 // Proved of enforce_script_list: whatever meets a listed path runs clean, and whatever runs clean meets a listed path.
 func Paths(script []byte) ([]Path, error) {
+	if err := sameABI(); err != nil {
+		return nil, err
+	}
 	r := rows{make([]C.enforce_path_row, 64), make([]C.enforce_fact_row, 128), make([]byte, 1024)}
 	given, length := bytesOf(script)
 	for {
@@ -179,6 +160,9 @@ func Paths(script []byte) ([]Path, error) {
 
 // Text is the text of `enforce paths` on this script, without notes. Proved of enforce_script_text: the text of the listing, or the stated refusal.
 func Text(script []byte) (string, error) {
+	if err := sameABI(); err != nil {
+		return "", err
+	}
 	given, length := bytesOf(script)
 	text := make([]byte, 4096)
 	for {
@@ -196,26 +180,56 @@ func Text(script []byte) (string, error) {
 }
 
 // Program is the program that an output with this script has (BIP 141, P2WSH): 00, 20 and the script's SHA-256. Proved of enforce_script_program.
-func Program(script []byte) [34]byte {
+func Program(script []byte) ([34]byte, error) {
+	if err := sameABI(); err != nil {
+		return [34]byte{}, err
+	}
 	var program [34]C.uint8_t
 	given, length := bytesOf(script)
 	C.enforce_script_program(given, length, &program)
-	return *(*[34]byte)(unsafe.Pointer(&program))
+	return *(*[34]byte)(unsafe.Pointer(&program)), nil
 }
 
-// Form is a form of BOLT 3, of one of the kinds ENFORCE_FORM_.. of enforce.h, which say what each key is.
+// Form is a form of BOLT 3, with the keys of its script by the names that BOLT 3 has for them: "local" is the commitment's owner. A field that the kind does not name is not read.
 type Form struct {
-	Kind, ExpiryHeight uint32
-	DelayBlocks        uint16
-	Key, Other, Local  [33]byte
-	PaymentHash        [32]byte
+	Kind FormKind
+	// The keys of a funding output, in whichever order.
+	Own, Peers [33]byte
+	// The key that P2WPKH stands for: to_remote of a channel without anchors.
+	Key [33]byte
+	// Of to_local, and of HTLCs.
+	Revocation [33]byte
+	// Of to_local, after to_self_delay.
+	Delayed     [33]byte
+	DelayBlocks uint16
+	// Of HTLCs; the expiry, which is below 500,000,000, of those alone that the owner received.
+	RemoteHtlc, LocalHtlc [33]byte
+	PaymentHash           [32]byte
+	ExpiryHeight          uint32
+}
+
+func (f *Form) row() C.enforce_form {
+	row := C.enforce_form{kind: C.uint32_t(f.Kind), expiry_height: C.uint32_t(f.ExpiryHeight), delay_blocks: C.uint16_t(f.DelayBlocks)}
+	key, other := f.Revocation, f.RemoteHtlc
+	switch f.Kind {
+	case FormFunding:
+		key, other = f.Own, f.Peers
+	case FormToLocal:
+		other = f.Delayed
+	case FormKeyHash:
+		key = f.Key
+	}
+	*(*[33]byte)(unsafe.Pointer(&row.key)), *(*[33]byte)(unsafe.Pointer(&row.other)), *(*[33]byte)(unsafe.Pointer(&row.local)) = key, other, f.LocalHtlc
+	*(*[32]byte)(unsafe.Pointer(&row.payment_hash)) = f.PaymentHash
+	return row
 }
 
 // Script is the script of BOLT 3 with these keys and numbers. Proved of enforce_form_script: it, or the first refusal.
 func (f *Form) Script() ([]byte, error) {
-	form := C.enforce_form{kind: C.uint32_t(f.Kind), expiry_height: C.uint32_t(f.ExpiryHeight), delay_blocks: C.uint16_t(f.DelayBlocks)}
-	*(*[33]byte)(unsafe.Pointer(&form.key)), *(*[33]byte)(unsafe.Pointer(&form.other)), *(*[33]byte)(unsafe.Pointer(&form.local)) = f.Key, f.Other, f.Local
-	*(*[32]byte)(unsafe.Pointer(&form.payment_hash)) = f.PaymentHash
+	if err := sameABI(); err != nil {
+		return nil, err
+	}
+	form := f.row()
 	script := make([]byte, 256)
 	for {
 		var answer C.enforce_answer

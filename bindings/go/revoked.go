@@ -7,47 +7,6 @@ import "C"
 
 import "unsafe"
 
-// ChannelType is the type of a channel (BOLT 9).
-type ChannelType uint32
-
-// The types of channels: option_static_remotekey without anchors, and anchors.
-const (
-	StaticRemoteKey ChannelType = C.ENFORCE_CHANNEL_STATIC_REMOTE_KEY
-	Anchors         ChannelType = C.ENFORCE_CHANNEL_ANCHORS
-)
-
-// Direction says whether the owner of a commitment offered an HTLC or received it.
-type Direction uint32
-
-// The directions of HTLCs.
-const (
-	Offered  Direction = C.ENFORCE_DIRECTION_OFFERED
-	Received Direction = C.ENFORCE_DIRECTION_RECEIVED
-)
-
-// Whose says whose commitment closed a channel.
-type Whose uint32
-
-// One's own newest commitment; or the peer's newest, or the one after it while the newest is not revoked.
-const (
-	Own   Whose = C.ENFORCE_CLOSE_OWN
-	Peers Whose = C.ENFORCE_CLOSE_PEERS
-)
-
-// OutputKind is which output of a commitment it is. The output of an HTLC transaction has the script of to_local.
-type OutputKind uint32
-
-// The kinds of outputs.
-const (
-	ToUnknown     OutputKind = C.ENFORCE_OUTPUT_UNKNOWN
-	ToLocal       OutputKind = C.ENFORCE_OUTPUT_TO_LOCAL
-	ToRemote      OutputKind = C.ENFORCE_OUTPUT_TO_REMOTE
-	ToOffered     OutputKind = C.ENFORCE_OUTPUT_OFFERED
-	ToReceived    OutputKind = C.ENFORCE_OUTPUT_RECEIVED
-	ToOwnAnchor   OutputKind = C.ENFORCE_OUTPUT_OWN_ANCHOR
-	ToPeersAnchor OutputKind = C.ENFORCE_OUTPUT_PEERS_ANCHOR
-)
-
 // Htlc is an HTLC of a commitment. The expiry is below 500,000,000, and the hash is SHA-256 of the payment preimage.
 type Htlc struct {
 	Direction    Direction
@@ -184,6 +143,9 @@ func filled(call func(l *lists, answer *C.enforce_found_answer) C.uint32_t) (Fou
 //
 // Proved of enforce_revoked: each output is claimed, or is among the others; each claim is accepted, and is on the output that it says.
 func Revoked(commitment *Commitment, tx []byte, confirmedHeight uint32) (Found, error) {
+	if err := sameABI(); err != nil {
+		return Found{}, err
+	}
 	row, htlcs := commitment.rows()
 	given, length := bytesOf(tx)
 	return filled(func(l *lists, answer *C.enforce_found_answer) C.uint32_t {
@@ -199,6 +161,9 @@ func Revoked(commitment *Commitment, tx []byte, confirmedHeight uint32) (Found, 
 // Proved of enforce_close: each output is claimed in each way that there is, or is among the others. An HTLC of one's own commitment is claimed by its HTLC transaction, where there are no anchors: the slot with Given has
 // it, and UnsignedSpend refuses such a claim.
 func Close(whose Whose, commitment *Commitment, feeratePerKw uint32, preimages [][32]byte, tx []byte, confirmedHeight uint32) (Found, error) {
+	if err := sameABI(); err != nil {
+		return Found{}, err
+	}
 	row, htlcs := commitment.rows()
 	given, length := bytesOf(tx)
 	known := make([]C.enforce_preimage_row, len(preimages))

@@ -5,10 +5,10 @@ import enforce
 
 words = iter(sys.stdin.read().split())
 tx = bytes.fromhex(next(words))
-channel_type, delay_blocks = int(next(words)), int(next(words))
+channel_type, delay_blocks = enforce.ChannelType(int(next(words))), int(next(words))
 keys = [bytes.fromhex(next(words)) for _ in range(5)]
 height, program, fee = int(next(words)), bytes.fromhex(next(words)), int(next(words))
-htlcs = tuple(enforce.Htlc(int(it), int(next(words)), bytes.fromhex(next(words))) for it in words)
+htlcs = tuple(enforce.Htlc(enforce.Direction(int(it)), int(next(words)), bytes.fromhex(next(words))) for it in words)
 try:
     found = enforce.revoked(enforce.Commitment(channel_type, delay_blocks, *keys, htlcs), tx, height)
     for it in found.claims:
@@ -16,7 +16,7 @@ try:
     for it in found.others:
         print(f"other {it.index}")
     claims = [it.claim for it in found.claims]
-    spend = enforce.unsigned_spend(claims, [(max(0, sum(it.value for it in claims) - fee), program)])
+    spend = enforce.unsigned_spend(claims, [enforce.Output(max(0, sum(it.value for it in claims) - fee), program)])
 except enforce.Refused as refused:
     sys.exit(print(f"refused {refused.name}") or 1)
 print(f"tx {spend.tx.hex()}")

@@ -1,6 +1,6 @@
 """Makes the calls that standard input names, a line each, and prints what each answers, as answers.c does."""
 import sys
-from typing import List, Optional, Tuple, Union
+from typing import List, Optional, Union
 
 import enforce
 
@@ -22,7 +22,7 @@ def fact_text(fact: enforce.Fact) -> str:
         "age": lambda: str(fact.number),
     }
     slots = ",".join(map(str, fact.slots))
-    return " ".join(it for it in (fact.kind, slots, said.get(fact.kind, str)()) if it)
+    return " ".join(it for it in (fact.word, slots, said.get(fact.word, str)()) if it)
 
 
 def or_dash(number: Optional[int]) -> Union[int, str]:
@@ -56,9 +56,9 @@ def claim(text: str) -> enforce.Claim:
     return enforce.Claim(data(txid), int(index), int(value), data(script), data(program), int(path), tuple(map(slot, parts(slots, ","))))
 
 
-def output(text: str) -> Tuple[int, bytes]:
+def output(text: str) -> enforce.Output:
     value, script = text.split("/")
-    return int(value), data(script)
+    return enforce.Output(int(value), data(script))
 
 
 def spend(claims: str, outputs: str, preimages: str) -> str:
@@ -66,9 +66,9 @@ def spend(claims: str, outputs: str, preimages: str) -> str:
     return "\n".join([f"tx {found.tx.hex()}", *(f"sign {it.input} {it.item} {it.key.hex()} {it.digest.hex()}" for it in found.signatures)])
 
 
-def signed(text: str) -> Tuple[int, int, bytes]:
+def signed(text: str) -> enforce.Signed:
     index, item, signature = text.split("/")
-    return int(index), int(item), data(signature)
+    return enforce.Signed(int(index), int(item), data(signature))
 
 
 def finish(claims: str, outputs: str, preimages: str, signatures: str) -> str:
@@ -119,6 +119,20 @@ def close(whose: str, commitment: str, htlcs: str, feerate: str, preimages: str,
     return found_text(enforce.close(int(whose), commitment_of(commitment, htlcs), int(feerate), known, data(tx), int(height)))
 
 
+def form_text(kind: int, given: List[bytes], expiry_height: int, delay_blocks: int) -> str:
+    first, second, third, payment_hash = given
+    htlc_keys = {"revocation": first, "remote_htlc": second, "local_htlc": third, "payment_hash": payment_hash}
+    makers = {
+        enforce.FormKind.FUNDING: lambda: enforce.Funding(own=first, peers=second),
+        enforce.FormKind.TO_LOCAL: lambda: enforce.ToLocal(revocation=first, delayed=second, delay_blocks=delay_blocks),
+        enforce.FormKind.KEY_HASH: lambda: enforce.KeyHash(key=first),
+        enforce.FormKind.OFFERED: lambda: enforce.Offered(**htlc_keys),
+        enforce.FormKind.RECEIVED: lambda: enforce.Received(**htlc_keys, expiry_height=expiry_height),
+    }
+    # no class has another kind
+    return enforce.form_script(makers[kind]()).hex() if kind in makers else "refused NoSuchForm"
+
+
 def answer(name: str, *words: str) -> str:
     if name == "revoked":
         return revoked(*words)
@@ -131,8 +145,7 @@ def answer(name: str, *words: str) -> str:
     if name == "finish":
         return finish(*words)
     if name == "form":
-        keys = list(map(data, words[1:5]))
-        return enforce.form_script(int(words[0]), *keys, int(words[5]), int(words[6])).hex()
+        return form_text(int(words[0]), list(map(data, words[1:5])), int(words[5]), int(words[6]))
     script = data(words[0])
     if name == "text":
         return enforce.text(script).removesuffix("\n")

@@ -1,4 +1,4 @@
-"""The declarations of the library for C, in C, Rust and Python, as they are drawn from the sources of crates/enforce_c.
+"""The declarations of the library for C, in C, Rust and Python, as they are drawn from the sources of crates/enforce_c, and its kinds in Python and Go (kinds.py).
 
 Of each file of src/, in the order of the `mod` lines with lib.rs's own items last: the public constants, the structs that are laid out as in C, and the exports. The doc comments go along, and
 with each export its clause, and the file that defines the word of it.
@@ -7,13 +7,17 @@ import glob
 import os
 import re
 
+import kinds
+
 TOP = os.path.dirname(os.path.dirname(os.path.dirname(os.path.abspath(__file__))))
 SOURCES = f"{TOP}/crates/enforce_c/src"
 SPECS = "crates/enforce_c/specs"
 FILES = {
     "bindings/c/enforce.h": "header",
     "bindings/rust/src/raw.rs": "rust",
-    "bindings/python/enforce_raw.py": "python",
+    "bindings/python/enforce/raw.py": "python",
+    "bindings/python/enforce/kinds.py": "python_kinds",
+    "bindings/go/kinds.go": "go_kinds",
 }
 NOTE = "Drawn from crates/enforce_c/src by `bindings/library --write`: do not edit."
 # The size in bytes of a number, and its name in C, Rust and Python.
@@ -109,6 +113,15 @@ def status_word(name):
     return "".join(part.capitalize() for part in name.split("_"))
 
 
+# What is said of a status that the declarations do not have.
+UNKNOWN = "These declarations do not have this status."
+
+
+def text_in_quotes(text):
+    """A text as C and Rust write it."""
+    return '"' + text.replace("\\", "\\\\").replace('"', '\\"') + '"'
+
+
 # ---- C
 
 
@@ -158,10 +171,9 @@ def header(told):
         "#endif",
         "",
     ]
-    for file, constants in told.constants.items():
-        lines.append("enum {")
-        for name, number, doc in constants:
-            lines.append(f"    ENFORCE_{name} = {number:#x}, /* {doc} */" if file == "statuses" else f"    ENFORCE_{name} = {number}, /* {doc} */")
+    for kind, what, constants in kinds.groups(told):
+        lines += [f"/* {kinds.sentence(what)} */", f"enum {c_name(kind)} {{"] if kind else ["enum {"]
+        lines += [f"    ENFORCE_{name} = {kinds.shown(kind, number)}, /* {doc} */" for _, name, number, doc in constants]
         lines += ["};", ""]
     for name, doc, fields in told.structs:
         lines += [f"/* {doc} */", "typedef struct {"]
@@ -175,7 +187,9 @@ def header(told):
         lines += [f"/* {doc}", "", f"   Proved: {proved} */", f"{c_type(result, names) if result else 'void'} {name}({words});", ""]
     lines += ["/* The word for a status. */", "static inline const char *enforce_name(uint32_t status) {", "    switch (status) {"]
     lines += [f'    case ENFORCE_{name}: return "{status_word(name)}";' for name, _, _ in told.statuses()]
-    lines += ['    default: return "Unknown";', "    }", "}", "", "#ifdef __cplusplus", "}", "#endif", ""]
+    lines += ['    default: return "Unknown";', "    }", "}", "", "/* What a status says. */", "static inline const char *enforce_sentence(uint32_t status) {", "    switch (status) {"]
+    lines += [f"    case ENFORCE_{name}: return {text_in_quotes(doc)};" for name, _, doc in told.statuses()]
+    lines += [f"    default: return {text_in_quotes(UNKNOWN)};", "    }", "}", "", "#ifdef __cplusplus", "}", "#endif", ""]
     lines += ["#if defined(__STDC_VERSION__) && __STDC_VERSION__ >= 201112L"]
     for name, _, fields in told.structs:
         size, offsets = told.sizes[name]
@@ -224,7 +238,9 @@ def rust(told):
         lines += [f"    /// {doc}", "    ///", f"    /// Proved: `{proved}`", f"    pub fn {name}({words}){f' -> {result}' if result else ''};"]
     lines += ["}", "", "/// The word for a status.", "pub fn name(status: u32) -> &'static str {", "    match status {"]
     lines += [f'        {name} => "{status_word(name)}",' for name, _, _ in told.statuses()]
-    lines += ['        _ => "Unknown",', "    }", "}", ""]
+    lines += ['        _ => "Unknown",', "    }", "}", "", "/// What a status says.", "pub fn sentence(status: u32) -> &'static str {", "    match status {"]
+    lines += [f"        {name} => {text_in_quotes(doc)}," for name, _, doc in told.statuses()]
+    lines += [f"        _ => {text_in_quotes(UNKNOWN)},", "    }", "}", ""]
     return "\n".join(lines)
 
 
@@ -277,6 +293,14 @@ def python(told):
     lines += ["        if sizeof(struct) != size or [getattr(struct, field[0]).offset for field in struct._fields_] != offsets:"]
     lines += ['            raise ImportError(f"the layout of {struct.__name__} is not the library\'s")', ""]
     return "\n".join(lines)
+
+
+def python_kinds(told):
+    return kinds.python(told, NOTE)
+
+
+def go_kinds(told):
+    return kinds.go(told, NOTE)
 
 
 def file_texts():

@@ -9,7 +9,6 @@ sys.dont_write_bytecode = True
 TOP = os.path.dirname(os.path.dirname(os.path.dirname(os.path.abspath(__file__))))
 sys.path[:0] = [f"{TOP}/bindings/tests", TOP]
 import enforce
-import enforce_raw as raw
 from revocations import revoked
 
 from real.lib import commitment
@@ -18,7 +17,7 @@ from real.tests import node_channels
 
 KEYS = [bytes.fromhex(revoked.OWN[name]) for name in revoked.NAMES]
 REVOCATION, DELAYED, LOCAL, REMOTE, _ = KEYS
-HEIGHT, FEERATE, PAID = 500, 253, [(1_000, b"\x00\x14" + bytes(20))]
+HEIGHT, FEERATE, PAID = 500, 253, [enforce.Output(1_000, b"\x00\x14" + bytes(20))]
 
 
 def must(holds, what):
@@ -40,8 +39,8 @@ def main(count):
     outputs = [Output(1_000 + at, commitment.program_of(it)) for at, it in enumerate(scripts)]
     outputs.insert(1, Output(5, b"\x51"))
     tx = Transaction(2, [Input(bytes(36), b"", 0, [])], outputs, 0).bytes()
-    rows = tuple(enforce.Htlc(raw.DIRECTION_OFFERED if offered else raw.DIRECTION_RECEIVED, expiry, payment) for offered, payment, expiry in htlcs)
-    given = enforce.Commitment(raw.CHANNEL_STATIC_REMOTE_KEY, 144, *KEYS, rows)
+    rows = tuple(enforce.Htlc(enforce.Direction.OFFERED if offered else enforce.Direction.RECEIVED, expiry, payment) for offered, payment, expiry in htlcs)
+    given = enforce.Commitment(enforce.ChannelType.STATIC_REMOTE_KEY, 144, *KEYS, rows)
 
     found = enforce.revoked(given, tx, HEIGHT)
     claims = [it.claim for it in found.claims]
@@ -49,7 +48,7 @@ def main(count):
     spend, digests = enforce.unsigned_spend(claims, PAID), digests_of(claims)
     must([it.digest for it in spend.signatures] == [digests.digest_of(at, it, 1_000 + at) for at, it in enumerate(scripts)], "digests")
 
-    own = enforce.close(raw.CLOSE_OWN, given, FEERATE, secrets, tx, HEIGHT)
+    own = enforce.close(enforce.Whose.OWN, given, FEERATE, secrets, tx, HEIGHT)
     must(len(own.claims) == count and [it.index for it in own.others] == [1], "the claims of one's own commitment")
     program = commitment.program_of(node_channels.to_local_script(REVOCATION, 144, DELAYED))
     for it, (offered, _, expiry), script in zip(own.claims, htlcs, scripts):
@@ -61,7 +60,7 @@ def main(count):
         later = max(HEIGHT, expiry + 1)
         must((it.from_height, it.deadline_height) == ((later, HEIGHT) if offered else (HEIGHT, later)), "heights")
 
-    peers = [it.claim for it in enforce.close(raw.CLOSE_PEERS, given, FEERATE, secrets, tx, HEIGHT).claims]
+    peers = [it.claim for it in enforce.close(enforce.Whose.PEERS, given, FEERATE, secrets, tx, HEIGHT).claims]
     must([it.script for it in peers] == scripts and len(enforce.unsigned_spend(peers, PAID, secrets).signatures) == count, "the claims of the peer's commitment")
     print(f"{count} rows")
 

@@ -34,8 +34,8 @@ def binding() -> ModuleType | None:
 
 def told_fact(fact: Any) -> dict[str, Any]:
     """A fact in the members of docs/TRACE.md that are looked at here."""
-    value = fact.number if fact.kind in NUMBERS else fact.constant.hex() or None if fact.kind in CONSTANTS else None
-    return {"kind": fact.kind, "holds": fact.holds, "slots": list(fact.slots), "value": value}
+    value = fact.number if fact.word in NUMBERS else fact.constant.hex() or None if fact.word in CONSTANTS else None
+    return {"kind": fact.word, "holds": fact.holds, "slots": list(fact.slots), "value": value}
 
 
 def told_path(path: Any) -> dict[str, Any]:

@@ -61,19 +61,20 @@ func stated(fact *enforce.Fact) string {
 	if constant == "" {
 		constant = "-"
 	}
-	switch fact.Kind {
+	word := fact.Kind.Word()
+	switch word {
 	case "hash", "is":
-		return fmt.Sprintf("%s %s %s %s", fact.Kind, slots, constant, holds)
+		return fmt.Sprintf("%s %s %s %s", word, slots, constant, holds)
 	case "size":
 		return fmt.Sprintf("size %s %d %s", slots, fact.Number, holds)
 	case "truth":
 		return fmt.Sprintf("truth %s %s", slots, holds)
 	case "token", "assigned":
-		return fmt.Sprintf("%s %s %s %s", fact.Kind, slots, shownKeys(fact.Keys), holds)
+		return fmt.Sprintf("%s %s %s %s", word, slots, shownKeys(fact.Keys), holds)
 	case "lock", "age":
-		return fmt.Sprintf("%s %d", fact.Kind, fact.Number)
+		return fmt.Sprintf("%s %d", word, fact.Number)
 	}
-	return fmt.Sprintf("%s %s", fact.Kind, slots)
+	return fmt.Sprintf("%s %s", word, slots)
 }
 
 func listing(script []byte) (string, error) {
@@ -218,6 +219,22 @@ func closed(words []string) (string, error) {
 	return foundText(enforce.Close(enforce.Whose(number(words[0])), commitment(words[1], words[2]), uint32(number(words[3])), preimages, data(words[5]), uint32(number(words[6]))))
 }
 
+func formOf(words []string) enforce.Form {
+	form := enforce.Form{Kind: enforce.FormKind(number(words[0])), PaymentHash: hash(words[4]), ExpiryHeight: uint32(number(words[5])), DelayBlocks: uint16(number(words[6]))}
+	first, second := key(words[1]), key(words[2])
+	switch form.Kind {
+	case enforce.FormFunding:
+		form.Own, form.Peers = first, second
+	case enforce.FormKeyHash:
+		form.Key = first
+	case enforce.FormToLocal:
+		form.Revocation, form.Delayed = first, second
+	default:
+		form.Revocation, form.RemoteHtlc, form.LocalHtlc = first, second, key(words[3])
+	}
+	return form
+}
+
 func answer(words []string) (string, error) {
 	switch words[0] {
 	case "list":
@@ -225,7 +242,8 @@ func answer(words []string) (string, error) {
 	case "text":
 		return enforce.Text(data(words[1]))
 	case "program":
-		return fmt.Sprintf("%x\n", enforce.Program(data(words[1]))), nil
+		program, err := enforce.Program(data(words[1]))
+		return fmt.Sprintf("%x\n", program), err
 	case "claim":
 		given := claim(words[1])
 		due, err := given.Accept()
@@ -239,7 +257,7 @@ func answer(words []string) (string, error) {
 	case "close":
 		return closed(words[1:])
 	}
-	form := enforce.Form{Kind: uint32(number(words[1])), Key: key(words[2]), Other: key(words[3]), Local: key(words[4]), PaymentHash: hash(words[5]), ExpiryHeight: uint32(number(words[6])), DelayBlocks: uint16(number(words[7]))}
+	form := formOf(words[1:])
 	script, err := form.Script()
 	return fmt.Sprintf("%x\n", script), err
 }

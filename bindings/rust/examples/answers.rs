@@ -1,5 +1,5 @@
 //! Makes the calls that standard input names, a line each, and prints what each answers, as `bindings/tests/answers.c` does.
-use enforce::{ChannelType, Claim, Commitment, Direction, Fact, Form, Found, FoundClaim, FundingKeys, Htlc, KeySource, Output, OutputKind, Path, Refused, Signed, Slot, Stated, Whose};
+use enforce::{ChannelType, Claim, Commitment, Direction, Error, Fact, Form, Found, FoundClaim, FundingKeys, Htlc, KeySource, Output, Path, Signed, Slot, Stated, Whose};
 use std::io::{self, BufRead};
 
 fn hex(bytes: &[u8]) -> String {
@@ -60,11 +60,11 @@ fn form(words: &[&str]) -> Option<Form> {
     let expiry_height = words[5].parse().expect("a height");
     let delay_blocks = words[6].parse().expect("a delay");
     Some(match words[0] {
-        "1" => Form::Funding { key: first, other: second },
+        "1" => Form::Funding { own: first, peers: second },
         "2" => Form::ToLocal { revocation: first, delay_blocks, delayed: second },
         "3" => Form::KeyHash { key: first },
-        "4" => Form::Offered { revocation: first, remote: second, local: third, payment_hash },
-        "5" => Form::Received { revocation: first, remote: second, local: third, payment_hash, expiry_height },
+        "4" => Form::Offered { revocation: first, remote_htlc: second, local_htlc: third, payment_hash },
+        "5" => Form::Received { revocation: first, remote_htlc: second, local_htlc: third, payment_hash, expiry_height },
         _ => return None,
     })
 }
@@ -100,7 +100,7 @@ fn output(text: &str) -> Output {
     Output { value: value.parse().expect("a value"), script: bytes(script) }
 }
 
-fn spend(claims: &str, outputs: &str, preimages: &str) -> Result<String, Refused> {
+fn spend(claims: &str, outputs: &str, preimages: &str) -> Result<String, Error> {
     let found = enforce::unsigned_spend(&each(claims, ';', claim), &each(outputs, ';', output), &each(preimages, ',', array))?;
     let lines = found.signatures.iter().map(|it| format!("sign {} {} {} {}\n", it.input, it.item, hex(&it.key), hex(&it.digest)));
     Ok(format!("tx {}\n", hex(&found.tx)) + &lines.collect::<String>())
@@ -111,7 +111,7 @@ fn signed(text: &str) -> Signed {
     Signed { input: parts[0].parse().expect("an input"), item: parts[1].parse().expect("an item"), signature: bytes(parts[2]) }
 }
 
-fn finish(words: &[&str]) -> Result<String, Refused> {
+fn finish(words: &[&str]) -> Result<String, Error> {
     let tx = enforce::finish(&each(words[0], ';', claim), &each(words[1], ';', output), &each(words[2], ',', array), &each(words[3], ',', signed))?;
     Ok(format!("tx {}\n", hex(&tx)))
 }
@@ -154,18 +154,6 @@ fn dash(bytes: &[u8]) -> String {
     if bytes.is_empty() { "-".to_owned() } else { hex(bytes) }
 }
 
-fn number_of(kind: OutputKind) -> u32 {
-    match kind {
-        OutputKind::Unknown => 0,
-        OutputKind::ToLocal => 1,
-        OutputKind::ToRemote => 2,
-        OutputKind::Offered => 3,
-        OutputKind::Received => 4,
-        OutputKind::OwnAnchor => 5,
-        OutputKind::PeersAnchor => 6,
-    }
-}
-
 fn found(it: &FoundClaim) -> String {
     let slots = it.claim.slots.iter().map(|slot| match slot {
         Slot::Signature(key) => format!("s={}", hex(key)),
@@ -174,13 +162,13 @@ fn found(it: &FoundClaim) -> String {
         Slot::Given { key, digest, tx } => format!("g={}:{}:{}", hex(key), hex(digest), hex(tx)),
     });
     let Claim { script, program, txid, index, value, path, .. } = &it.claim;
-    let (kind, slots) = (number_of(it.kind), slots.collect::<Vec<_>>().join(","));
+    let (kind, slots) = (it.kind as u32, slots.collect::<Vec<_>>().join(","));
     let heights = format!("{} {}", it.from_height, or_dash(it.deadline_height));
     format!("found {kind} {heights} {}/{}/{}/{index}/{value}/{path}/{slots}\n", dash(script), dash(program), hex(txid))
 }
 
 /// What is found by a call, or the refusal of the HTLC that was left out, if no fault stands before it.
-fn all_found(asked: Result<Found, Refused>, unknown: Option<usize>) -> Result<String, Refused> {
+fn all_found(asked: Result<Found, Error>, unknown: Option<usize>) -> Result<String, Error> {
     if let Some(at) = unknown {
         return match asked {
             Err(refused) if ["NotACommitmentKey", "ExpiryTooLarge"].iter().any(|it| refused.to_string().starts_with(it)) => Err(refused),
@@ -188,18 +176,18 @@ fn all_found(asked: Result<Found, Refused>, unknown: Option<usize>) -> Result<St
         };
     }
     let all = asked?;
-    let others: String = all.others.iter().map(|it| format!(" {}:{}", it.index, number_of(it.kind))).collect();
+    let others: String = all.others.iter().map(|it| format!(" {}:{}", it.index, it.kind as u32)).collect();
     Ok(all.claims.iter().map(found).collect::<String>() + &format!("others{others}\n"))
 }
 
-fn revoked(words: &[&str]) -> Result<String, Refused> {
+fn revoked(words: &[&str]) -> Result<String, Error> {
     match commitment(words[0], words[1]) {
         Ok((given, unknown)) => all_found(enforce::revoked(&given, &bytes(words[2]), words[3].parse().expect("a height")), unknown),
         Err(told) => Ok(told),
     }
 }
 
-fn close(words: &[&str]) -> Result<String, Refused> {
+fn close(words: &[&str]) -> Result<String, Error> {
     let whose = match words[0] {
         "1" => Whose::Own,
         "2" => Whose::Peers,
@@ -212,7 +200,7 @@ fn close(words: &[&str]) -> Result<String, Refused> {
     }
 }
 
-fn answer(line: &str) -> Result<String, Refused> {
+fn answer(line: &str) -> Result<String, Error> {
     let words: Vec<&str> = line.split(' ').collect();
     match words[0] {
         "list" => {
@@ -220,7 +208,7 @@ fn answer(line: &str) -> Result<String, Refused> {
             Ok(format!("paths {}\n", paths.len()) + &paths.iter().enumerate().map(|(k, it)| told(k, it)).collect::<String>())
         }
         "text" => enforce::text(&bytes(words[1])),
-        "program" => Ok(hex(&enforce::program(&bytes(words[1]))) + "\n"),
+        "program" => Ok(hex(&enforce::program(&bytes(words[1]))?) + "\n"),
         "claim" => claim(words[1]).accept().map(|due| format!("due {} {}\n", due.height, due.sequence)),
         "spend" => spend(words[1], words[2], words[3]),
         "finish" => finish(&words[1..]),
@@ -234,9 +222,19 @@ fn answer(line: &str) -> Result<String, Refused> {
     }
 }
 
+/// The word of a refusal with its numbers.
+fn refusal(error: &Error) -> String {
+    let told = error.refused().map_or_else(|| error.to_string(), ToString::to_string);
+    let word = told.split(':').next().unwrap_or_default();
+    match error {
+        Error::Signature { input, item, .. } => format!("{word} {input} {item}"),
+        _ => word.to_owned(),
+    }
+}
+
 fn main() {
     for line in io::stdin().lock().lines() {
         let line = line.expect("standard input can be read");
-        print!("{}.\n", answer(&line).unwrap_or_else(|refused| format!("refused {refused}\n")));
+        print!("{}.\n", answer(&line).unwrap_or_else(|error| format!("refused {}\n", refusal(&error))));
     }
 }

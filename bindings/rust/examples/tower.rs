@@ -1,5 +1,5 @@
 //! A tower: from a transaction and what is known of a revoked commitment to the penalty that nobody has signed yet. Reads words from standard input, which c/tower.c names.
-use enforce::{ChannelType, Claim, Commitment, Direction, Htlc, Output, OutputKind};
+use enforce::{ChannelType, Claim, Commitment, Direction, Htlc, Output};
 use std::{io, process, str::SplitWhitespace};
 
 fn hex(bytes: &[u8]) -> String {
@@ -38,8 +38,7 @@ fn main() {
         process::exit(1)
     });
     for it in &found.claims {
-        let kind = [OutputKind::ToLocal, OutputKind::ToRemote, OutputKind::Offered, OutputKind::Received].iter().position(|kind| *kind == it.kind);
-        println!("claim {} kind {} until {}", it.claim.index, kind.map_or(0, |at| at + 1), it.deadline_height.unwrap_or(0));
+        println!("claim {} kind {} until {}", it.claim.index, it.kind as u32, it.deadline_height.unwrap_or(0));
     }
     found.others.iter().for_each(|it| println!("other {}", it.index));
     let claims: Vec<Claim> = found.claims.into_iter().map(|it| it.claim).collect();

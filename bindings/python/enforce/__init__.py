@@ -6,54 +6,95 @@ Nothing here signs, and nothing checks a signature but for its form. The keys ar
     >>> [path.arity for path in enforce.paths(bytes.fromhex("6351675268"))]   # IF 1 ELSE 2 ENDIF
     [1, 1]
 
-The shared library is the one that ENFORCE_LIBRARY names, else libenforce.so where the system's loader finds it. The declarations of enforce_raw, the copies between its rows
-and the classes here, and ctypes are trusted.
+The shared library is the one that ENFORCE_LIBRARY names, else the one that the system's loader finds under the name with these declarations' ABI number. The declarations of raw, the copies between
+its rows and the classes here, and ctypes are trusted. sign.py goes from a script to the signed transaction.
 """
 import ctypes
 import os
 from dataclasses import dataclass
-from typing import Callable, List, Optional, Sequence, Tuple, Type, TypeVar, Union
+from typing import Callable, ClassVar, List, NamedTuple, Optional, Sequence, Tuple, Type, TypeVar, Union
 
-import enforce_raw as raw
+from . import raw
+from .kinds import SENTENCES, ChannelType, Direction, FactKind, FormKind, OutputKind, SlotKind, Status, Whose
 
-_library = ctypes.CDLL(os.environ.get("ENFORCE_LIBRARY") or "libenforce.so")
-raw.declare(_library)
-if _library.enforce_abi() != raw.ABI:
-    raise ImportError("the library is of another version than enforce_raw")
 
+class OtherAbi(ImportError):
+    """The library that is loaded has another ABI number than these declarations."""
+
+    def __init__(self, loaded: int) -> None:
+        self.declared, self.loaded = raw.ABI, loaded
+        super().__init__(f"the library has ABI {loaded}, and these declarations have {raw.ABI}")
+
+
+def _load() -> ctypes.CDLL:
+    library = ctypes.CDLL(os.environ.get("ENFORCE_LIBRARY") or f"libenforce.so.{raw.ABI}")
+    library.enforce_abi.restype = ctypes.c_uint32
+    if library.enforce_abi() != raw.ABI:
+        raise OtherAbi(library.enforce_abi())
+    raw.declare(library)
+    return library
+
+
+_library = _load()
 
 # the refusals that carry a position or an index
-_NUMBERED = (raw.BAD_OPCODE, raw.TRUNCATED, raw.UNDECIDED, raw.NOT_A_COMMITMENT_KEY, raw.NO_SUCH_DIRECTION, raw.EXPIRY_TOO_LARGE)
-
-
+_NUMBERED = (Status.BAD_OPCODE, Status.TRUNCATED, Status.UNDECIDED, Status.NOT_A_COMMITMENT_KEY, Status.NO_SUCH_DIRECTION, Status.EXPIRY_TOO_LARGE)
 # those of signatures, which carry an input and an item
-_PLACED = (raw.NO_SIGNATURE, raw.SIGNATURE_OUT_OF_RANGE, raw.NOT_DER, raw.NOT_SIGHASH_ALL, raw.NOT_ASKED)
+_PLACED = (Status.NO_SIGNATURE, Status.SIGNATURE_OUT_OF_RANGE, Status.NOT_DER, Status.NOT_SIGHASH_ALL, Status.NOT_ASKED)
 
 
 class Refused(Exception):
-    """Why a call gives nothing: the status, its name, the number that some refusals carry, and of a signature the input and the item that it is about."""
+    """Why a call gives nothing: the status, its word and sentence, the number that some refusals carry, and what it is about. Indices count from 0; what is None is not said.
+
+    >>> try:
+    ...     paths(bytes.fromhex("51ff"))
+    ... except Refused as refused:
+    ...     print(refused.status.name, refused.number, refused)
+    BAD_OPCODE 1 BadOpcode 1
+    """
 
     def __init__(self, status: int, number: int, item: int = 0) -> None:
-        self.status, self.name = status, raw.NAMES.get(status, "Unknown")
+        self.status: Union[Status, int] = Status(status) if status in raw.NAMES else status
+        self.name, self.sentence = raw.NAMES.get(status, "Unknown"), SENTENCES.get(self.status, "")
         self.number = number if status in _NUMBERED else None
-        self.place = (number, item) if status in _PLACED else None
-        told = (self.number,) if self.place is None else self.place
-        super().__init__(" ".join([self.name, *(str(it) for it in told if it is not None)]))
+        # the item of an input's witness that a signature is for
+        self.input, self.item = (number, item) if status in _PLACED else (None, None)
+        super().__init__(" ".join([self.name, *(str(it) for it in (self.number, self.input, self.item) if it is not None)]))
+
+
+# the words of `enforce paths`
+_WORDS = {
+    FactKind.HASH: "hash",
+    FactKind.SIZE: "size",
+    FactKind.TRUTH: "truth",
+    FactKind.IS: "is",
+    FactKind.KEY: "key",
+    FactKind.FORM: "form",
+    FactKind.SIGNED: "token",
+    FactKind.CHOICE: "assigned",
+    FactKind.LOCK: "lock",
+    FactKind.AGE: "age",
+}
 
 
 @dataclass(frozen=True)
 class Fact:
-    """What a path asks of the witness or the spend: the word of `enforce paths`, whether it is to hold, and what it says.
+    """What a path asks of the witness or the spend: its kind, whether it is to hold, and what it says.
 
     Slots count from 0 at the top of the stack. A key is bytes of the script, or the slot that has it.
     """
 
-    kind: str
+    kind: FactKind
     holds: bool
     slots: Tuple[int, ...] = ()
     keys: Tuple[Union[bytes, int], ...] = ()
     constant: bytes = b""
     number: int = 0
+
+    @property
+    def word(self) -> str:
+        """The word of `enforce paths` for the kind."""
+        return _WORDS[self.kind]
 
 
 @dataclass(frozen=True)
@@ -66,20 +107,6 @@ class Path:
     lock: Optional[int]
     age: Optional[int]
     facts: Tuple[Fact, ...]
-
-
-_KINDS = {
-    raw.FACT_HASH: "hash",
-    raw.FACT_SIZE: "size",
-    raw.FACT_TRUTH: "truth",
-    raw.FACT_IS: "is",
-    raw.FACT_KEY: "key",
-    raw.FACT_FORM: "form",
-    raw.FACT_SIGNED: "token",
-    raw.FACT_CHOICE: "assigned",
-    raw.FACT_LOCK: "lock",
-    raw.FACT_AGE: "age",
-}
 
 
 def _number(value: int, bits: int, name: str) -> int:
@@ -106,7 +133,7 @@ class _Rows:
         return row.key_slot if row.key_is_slot else self.constant(row)
 
     def fact(self, row: raw.FactRow, choice: Sequence[raw.FactRow]) -> Fact:
-        kind = _KINDS[row.kind]
+        kind = FactKind(row.kind)
         slots = () if row.kind in (raw.FACT_LOCK, raw.FACT_AGE) else (row.slot,)
         if row.kind == raw.FACT_CHOICE:
             slots = tuple(it.slot for it in choice if it.kind == raw.FACT_CHOICE_SLOT)
@@ -116,9 +143,14 @@ class _Rows:
 
     def path(self, row: raw.PathRow) -> Path:
         rows = self.facts[row.first_fact : row.first_fact + row.facts]
-        heads = [at for at, it in enumerate(rows) if it.kind in _KINDS] + [len(rows)]
+        heads = [at for at, it in enumerate(rows) if it.kind in _WORDS] + [len(rows)]
         facts = tuple(self.fact(rows[at], rows[at + 1 : end]) for at, end in zip(heads, heads[1:]))
         return Path(row.arity, row.counted, row.height, row.lock if row.has_lock else None, row.age if row.has_age else None, facts)
+
+
+def reversed_id(txid: bytes) -> bytes:
+    """An id of a transaction in the other byte order: the hash's own is that of the rows here, and what nodes and explorers show is the other one."""
+    return txid[::-1]
 
 
 def paths(script: bytes) -> List[Path]:
@@ -158,22 +190,77 @@ def program(script: bytes) -> bytes:
     return bytes(made)
 
 
-def form_script(kind: int, key: bytes, other: bytes = b"", local: bytes = b"", payment_hash: bytes = b"", expiry_height: int = 0, delay_blocks: int = 0) -> bytes:
-    """The script of a form of BOLT 3 with these keys, of one of the kinds FORM_.. of enforce_raw, which say what each key is. Raises Refused.
+@dataclass(frozen=True, kw_only=True)
+class Funding:
+    """A funding output of both keys, in whichever order."""
 
-    Proved of enforce_form_script: the script of BOLT 3, or the first refusal.
+    kind: ClassVar[FormKind] = FormKind.FUNDING
+    own: bytes
+    peers: bytes
+
+
+@dataclass(frozen=True, kw_only=True)
+class ToLocal:
+    """A to_local output: revocationpubkey, and local_delayedpubkey after to_self_delay."""
+
+    kind: ClassVar[FormKind] = FormKind.TO_LOCAL
+    revocation: bytes
+    delayed: bytes
+    delay_blocks: int
+
+
+@dataclass(frozen=True, kw_only=True)
+class KeyHash:
+    """The script that P2WPKH of the key stands for: to_remote of a channel without anchors."""
+
+    kind: ClassVar[FormKind] = FormKind.KEY_HASH
+    key: bytes
+
+
+@dataclass(frozen=True, kw_only=True)
+class Offered:
+    """An HTLC that the commitment's owner offered. "Local" is the owner, as in BOLT 3."""
+
+    kind: ClassVar[FormKind] = FormKind.OFFERED
+    revocation: bytes
+    remote_htlc: bytes
+    local_htlc: bytes
+    payment_hash: bytes
+
+
+@dataclass(frozen=True, kw_only=True)
+class Received:
+    """An HTLC that the commitment's owner received; the expiry is below 500,000,000."""
+
+    kind: ClassVar[FormKind] = FormKind.RECEIVED
+    revocation: bytes
+    remote_htlc: bytes
+    local_htlc: bytes
+    payment_hash: bytes
+    expiry_height: int
+
+
+Form = Union[Funding, ToLocal, KeyHash, Offered, Received]
+# which field of the row has a key
+_PLACES = {"own": "key", "peers": "other", "revocation": "key", "delayed": "other", "key": "key", "remote_htlc": "other", "local_htlc": "local", "payment_hash": "payment_hash"}
+_BITS = {"delay_blocks": 16, "expiry_height": 32}
+
+
+def form_script(form: Form) -> bytes:
+    """The script of a form of BOLT 3. Raises Refused.
+
+    Proved of enforce_form_script: the script of BOLT 3, or the first refusal: a key without the form of one, in the order of the fields, then the expiry.
     """
-    numbers = {"kind": _number(kind, 32, "kind"), "expiry_height": _number(expiry_height, 32, "expiry_height"), "delay_blocks": _number(delay_blocks, 16, "delay_blocks")}
-    form, answer = raw.Form(**numbers), raw.Answer()
-    for name, value in (("key", key), ("other", other), ("local", local), ("payment_hash", payment_hash)):
-        field = getattr(form, name)
-        if len(value) not in (0, len(field)):
-            raise ValueError(f"{name} has {len(field)} bytes")
-        field[: len(value)] = value
+    row, answer = raw.Form(kind=form.kind), raw.Answer()
+    for name, value in vars(form).items():
+        if name in _BITS:
+            setattr(row, name, _number(value, _BITS[name], name))
+        else:
+            _fill(getattr(row, _PLACES[name]), value, name)
     size = 256
     while True:
         script = (ctypes.c_uint8 * size)()
-        status = _library.enforce_form_script(ctypes.byref(form), script, size, ctypes.byref(answer))
+        status = _library.enforce_form_script(ctypes.byref(row), script, size, ctypes.byref(answer))
         if status == raw.DONE:
             return bytes(script[: answer.bytes])
         if status != raw.TOO_SMALL:
@@ -185,6 +272,7 @@ def form_script(kind: int, key: bytes, other: bytes = b"", local: bytes = b"", p
 class Signature:
     """The slot is this key's signature over the spend."""
 
+    kind: ClassVar[SlotKind] = SlotKind.SIGNATURE
     key: bytes
 
 
@@ -192,6 +280,7 @@ class Signature:
 class Preimage:
     """The slot is 32 bytes with this SHA-256."""
 
+    kind: ClassVar[SlotKind] = SlotKind.PREIMAGE
     hash: bytes
 
 
@@ -199,6 +288,7 @@ class Preimage:
 class Exact:
     """The slot is these bytes, at most 520."""
 
+    kind: ClassVar[SlotKind] = SlotKind.EXACT
     item: bytes
 
 
@@ -206,6 +296,7 @@ class Exact:
 class GivenSignature:
     """The slot is the peer's signature by this key over this digest, which it gave over one transaction (BIP 144, without witnesses). The claim is of this transaction alone, and one's own signature is over the same digest."""
 
+    kind: ClassVar[SlotKind] = SlotKind.GIVEN
     key: bytes
     digest: bytes
     tx: bytes
@@ -233,6 +324,21 @@ class Due:
 
     height: int
     sequence: int
+
+
+class Output(NamedTuple):
+    """An output of a transaction: its value in satoshis, and its script."""
+
+    value: int
+    script: bytes
+
+
+class Signed(NamedTuple):
+    """A signature for an item that lacks one: the input and the item of the MissingSignature, and strict DER (BIP 66) with the byte 01 after it (SIGHASH_ALL)."""
+
+    input: int
+    item: int
+    signature: bytes
 
 
 @dataclass(frozen=True)
@@ -272,18 +378,13 @@ class _Given:
         return at, len(data)
 
     def slot(self, slot: Slot) -> raw.SlotRow:
-        row = raw.SlotRow()
+        row = raw.SlotRow(kind=slot.kind)
         if isinstance(slot, Signature):
-            row.kind = raw.SLOT_SIGNATURE
             _fill(row.key, slot.key, "a key")
         elif isinstance(slot, Preimage):
-            row.kind = raw.SLOT_PREIMAGE
             _fill(row.hash, slot.hash, "a hash")
         elif isinstance(slot, Exact):
-            row.kind = raw.SLOT_EXACT
             row.bytes_at, row.bytes_length = self.put(slot.item)
-        else:
-            row.kind = raw.SLOT_GIVEN
         return row
 
     def claim(self, claim: Claim) -> raw.ClaimRow:
@@ -295,9 +396,9 @@ class _Given:
         self.slots += map(self.slot, claim.slots)
         return row
 
-    def output(self, value: int, script: bytes) -> raw.OutputRow:
-        at, length = self.put(script)
-        return raw.OutputRow(value=_number(value, 64, "value"), script_at=at, script_length=length)
+    def output(self, output: Output) -> raw.OutputRow:
+        at, length = self.put(output[1])
+        return raw.OutputRow(value=_number(output[0], 64, "value"), script_at=at, script_length=length)
 
     def rows(self) -> Tuple["ctypes.Array[raw.SlotRow]", int, "ctypes.Array[ctypes.c_uint8]", int]:
         """The rows of slots and the bytes, as two pairs of a call's arguments."""
@@ -317,7 +418,7 @@ def _preimage(data: bytes) -> raw.PreimageRow:
     return row
 
 
-def _signed(given: _Given, row: Tuple[int, int, bytes]) -> raw.SignedRow:
+def _signed(given: _Given, row: Signed) -> raw.SignedRow:
     at, length = given.put(row[2])
     return raw.SignedRow(input=_number(row[0], 64, "input"), item=_number(row[1], 64, "item"), bytes_at=at, bytes_length=length)
 
@@ -336,13 +437,13 @@ def accept(claim: Claim) -> Due:
     return Due(due.height, due.sequence)
 
 
-def unsigned_spend(claims: Sequence[Claim], outputs: Sequence[Tuple[int, bytes]], preimages: Sequence[bytes] = ()) -> UnsignedSpend:
-    """The transaction that spends the outputs of claims, in which nothing is signed, and the signatures that it lacks. An output is a value in satoshis and a script. Raises Refused.
+def unsigned_spend(claims: Sequence[Claim], outputs: Sequence[Output], preimages: Sequence[bytes] = ()) -> UnsignedSpend:
+    """The transaction that spends the outputs of claims, in which nothing is signed, and the signatures that it lacks. Raises Refused.
 
     Proved of enforce_unsigned_spend: with the token of each missing signature in its place, each input runs clean. finish puts in the signature by the key over the digest, with the byte 01 after it.
     """
     given, answer = _Given(), raw.SpendAnswer()
-    rows = _rows(raw.ClaimRow, [given.claim(it) for it in claims]), _rows(raw.OutputRow, [given.output(*it) for it in outputs])
+    rows = _rows(raw.ClaimRow, [given.claim(it) for it in claims]), _rows(raw.OutputRow, [given.output(it) for it in outputs])
     secrets = _rows(raw.PreimageRow, [_preimage(it) for it in preimages])
     size, count = 1024, 16
     while True:
@@ -359,13 +460,13 @@ def unsigned_spend(claims: Sequence[Claim], outputs: Sequence[Tuple[int, bytes]]
         size, count = answer.bytes, answer.signatures
 
 
-def finish(claims: Sequence[Claim], outputs: Sequence[Tuple[int, bytes]], preimages: Sequence[bytes], signed: Sequence[Tuple[int, int, bytes]]) -> bytes:
-    """The transaction of unsigned_spend with signatures: the input, the item, and strict DER (BIP 66) with the byte 01 after it, one for each that it lacks, in their order. Raises Refused.
+def finish(claims: Sequence[Claim], outputs: Sequence[Output], preimages: Sequence[bytes], signed: Sequence[Signed]) -> bytes:
+    """The transaction of unsigned_spend with signatures, one for each that it lacks, in their order. Raises Refused.
 
     Each is tested for its form and its place, and not for the curve: whether one is valid for its key, nothing here asks. Proved of enforce_finish: where each is the key's over the digest, each input runs clean.
     """
     given, answer, size = _Given(), raw.FinishAnswer(), 1024
-    rows = _rows(raw.ClaimRow, [given.claim(it) for it in claims]), _rows(raw.OutputRow, [given.output(*it) for it in outputs])
+    rows = _rows(raw.ClaimRow, [given.claim(it) for it in claims]), _rows(raw.OutputRow, [given.output(it) for it in outputs])
     secrets, signatures = _rows(raw.PreimageRow, [_preimage(it) for it in preimages]), _rows(raw.SignedRow, [_signed(given, it) for it in signed])
     slots, slots_length, data, data_length = given.rows()
     while True:
@@ -380,19 +481,19 @@ def finish(claims: Sequence[Claim], outputs: Sequence[Tuple[int, bytes]], preima
 
 @dataclass(frozen=True)
 class Htlc:
-    """An HTLC of a commitment: one of the directions DIRECTION_.. of enforce_raw, as the commitment's owner sees it, its cltv_expiry, and its payment hash."""
+    """An HTLC of a commitment: its direction, as the commitment's owner sees it, its cltv_expiry, and its payment hash."""
 
-    direction: int
+    direction: Direction
     expiry_height: int
     hash: bytes
 
 
 @dataclass(frozen=True)
 class Commitment:
-    """A commitment, by what its scripts are made of: one of the types CHANNEL_.. of enforce_raw, to_self_delay, the keys at its point as its owner names them (BOLT 3, "Key Derivation"), its HTLCs, and
+    """A commitment, by what its scripts are made of: the type of the channel, to_self_delay, the keys at its point as its owner names them (BOLT 3, "Key Derivation"), its HTLCs, and
     one's own and the peer's key of the channel's funding output, by which anchors are named."""
 
-    channel_type: int
+    channel_type: ChannelType
     delay_blocks: int
     revocation: bytes
     delayed: bytes
@@ -405,20 +506,20 @@ class Commitment:
 
 @dataclass(frozen=True)
 class FoundClaim:
-    """A claim, one of the kinds OUTPUT_.. of enforce_raw of the output that it is on, the first block that can have a transaction with it, and the first in which the other side can take the output, if it can."""
+    """A claim, the kind of the output that it is on, the first block that can have a transaction with it, and the first in which the other side can take the output, if it can."""
 
     claim: Claim
-    kind: int
+    kind: OutputKind
     from_height: int
     deadline_height: Optional[int]
 
 
 @dataclass(frozen=True)
 class Other:
-    """An output without a claim: its index, and one of the kinds OUTPUT_.. of enforce_raw."""
+    """An output without a claim: its index, and its kind."""
 
     index: int
-    kind: int
+    kind: OutputKind
 
 
 @dataclass(frozen=True)
@@ -480,8 +581,8 @@ def _found(call: Callable[..., int], arguments: Tuple[object, ...]) -> Found:
         status = call(*arguments, *lists.arguments(), ctypes.byref(answer))
         if status == raw.DONE:
             rows = zip(lists.claims[: answer.claims], lists.found)
-            claims = tuple(FoundClaim(lists.claim(claim), it.kind, it.from_height, it.deadline_height if it.has_deadline else None) for claim, it in rows)
-            return Found(claims, tuple(Other(it.index, it.kind) for it in lists.others[: answer.others]))
+            claims = tuple(FoundClaim(lists.claim(claim), OutputKind(it.kind), it.from_height, it.deadline_height if it.has_deadline else None) for claim, it in rows)
+            return Found(claims, tuple(Other(it.index, OutputKind(it.kind)) for it in lists.others[: answer.others]))
         if status != raw.TOO_SMALL:
             raise Refused(status, answer.number)
         room = answer.claims, answer.slots, answer.others, answer.bytes
@@ -496,8 +597,8 @@ def revoked(commitment: Commitment, tx: bytes, confirmed_height: int) -> Found:
     return _found(_library.enforce_revoked, (ctypes.byref(given), *htlcs, _buffer(tx), len(tx), _number(confirmed_height, 32, "confirmed_height")))
 
 
-def close(whose: int, commitment: Commitment, feerate_per_kw: int, preimages: Sequence[bytes], tx: bytes, confirmed_height: int) -> Found:
-    """All that a commitment which closed the channel and is not revoked lets one claim of a transaction: of that commitment, of one's own HTLC transaction, or of any other. `whose` is one of CLOSE_.. of enforce_raw. Raises Refused.
+def close(whose: Whose, commitment: Commitment, feerate_per_kw: int, preimages: Sequence[bytes], tx: bytes, confirmed_height: int) -> Found:
+    """All that a commitment which closed the channel and is not revoked lets one claim of a transaction: of that commitment, of one's own HTLC transaction, or of any other. `whose` says whose commitment it is. Raises Refused.
 
     Proved of enforce_close: each output is claimed in each way that there is, or is among the others. An HTLC of one's own commitment is claimed by its HTLC transaction, where there are no anchors: the slot with a
     GivenSignature has it. unsigned_spend refuses such a claim.
