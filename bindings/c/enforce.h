@@ -19,6 +19,14 @@
 extern "C" {
 #endif
 
+/* What a refusal is about. */
+enum enforce_about {
+    ENFORCE_ABOUT_ALL = 0, /* The refusal is of the call as a whole. */
+    ENFORCE_ABOUT_OUTPUT = 1, /* It is of the output whose row has the index `row`. */
+    ENFORCE_ABOUT_CLAIM = 2, /* It is of the claim whose row has the index `row`. The number is what `enforce_claim` tells of it. */
+    ENFORCE_ABOUT_SIGNATURE = 3, /* It is of a signature of the input `row`. The number is the index of its item. */
+};
+
 /* How a claim fills a slot of its path. */
 enum enforce_slot_kind {
     ENFORCE_SLOT_SIGNATURE = 1, /* The slot is the signature of `key` over the spend. */
@@ -58,11 +66,23 @@ enum enforce_output_kind {
 
 /* Which form of BOLT 3 it is. */
 enum enforce_form_kind {
-    ENFORCE_FORM_FUNDING = 1, /* A funding output: both keys, `key` and `other`, in whichever order. */
-    ENFORCE_FORM_TO_LOCAL = 2, /* A to_local output: `key` revokes, or `other` after `delay_blocks`. */
-    ENFORCE_FORM_KEY_HASH = 3, /* A to_remote output, P2WPKH of `key`: the script that it stands for. */
-    ENFORCE_FORM_OFFERED = 4, /* An HTLC that the commitment's owner offered: `key` revokes, `other` is remote_htlcpubkey and `local` local_htlcpubkey. */
+    ENFORCE_FORM_FUNDING = 1, /* A funding output: both keys, `remote` and `local`, in whichever order. */
+    ENFORCE_FORM_TO_LOCAL = 2, /* A to_local output: `revocation` revokes, or `local`, which is local_delayedpubkey, after `delay_blocks`. */
+    ENFORCE_FORM_KEY_HASH = 3, /* A to_remote output, P2WPKH of `remote`: the script that it stands for. */
+    ENFORCE_FORM_OFFERED = 4, /* An HTLC that the commitment's owner offered: `revocation` revokes, `remote` is remote_htlcpubkey and `local` local_htlcpubkey. */
     ENFORCE_FORM_RECEIVED = 5, /* An HTLC that the commitment's owner received, with the same keys, and `expiry_height`. */
+    ENFORCE_FORM_OFFERED_WITH_ANCHORS = 6, /* As `FORM_OFFERED`, in a channel with `option_anchors`. */
+    ENFORCE_FORM_RECEIVED_WITH_ANCHORS = 7, /* As `FORM_RECEIVED`, in a channel with `option_anchors`. */
+};
+
+/* What a note on a script says. */
+enum enforce_note_kind {
+    ENFORCE_NOTE_ANYONE = 1, /* Anyone can spend by the path `at` once its locks have passed: it asks neither a signature of a key that the script fixes nor an item with a given hash. */
+    ENFORCE_NOTE_FINDER = 2, /* Whoever knows an item with a given hash can spend by the path `at`: it asks no signature of a key that the script fixes, so who sees such a witness can spend too. */
+    ENFORCE_NOTE_NOBODY = 3, /* No witness spends an output with the script, by consensus neither: what is paid to it is lost. `at` is 0. */
+    ENFORCE_NOTE_STRICTER_KEY = 4, /* A branch ends at the opcode of the index `at`, because a key there has not 33 bytes that begin with 02 or 03. By consensus others may spend by it. */
+    ENFORCE_NOTE_STRICTER_SIGNATURE = 5, /* A branch ends there, because a signature there is neither empty nor one that a key can give. By consensus others may spend by it. */
+    ENFORCE_NOTE_STRICTER_NUMBER = 6, /* A branch ends there, because a number there is not minimally encoded. By consensus others may spend by it. */
 };
 
 /* What a path asks of the witness or the spend. */
@@ -96,12 +116,12 @@ enum enforce_status {
     ENFORCE_TOO_TALL = 0x205, /* A path needs more than 1,000 stack elements. */
     ENFORCE_NO_SUCH_PATH = 0x301, /* The script has no path of this index. */
     ENFORCE_WRONG_ARITY = 0x302, /* The number of slots is not that of the path. */
-    ENFORCE_UNMET = 0x303, /* The slots do not show a fact of the path. */
+    ENFORCE_UNMET = 0x303, /* The slots do not show a fact of the path; the answer has the slot that it is about, 0 where that is the spend. */
     ENFORCE_CONTRADICTION = 0x304, /* The path asks for one fact with both polarities. */
     ENFORCE_WRONG_PROGRAM = 0x305, /* The program is not that of the script. */
     ENFORCE_WRONG_SHELL = 0x306, /* The fixed transaction of a claim does not fit. No claim of these calls has one. */
     ENFORCE_NO_SUCH_FORM = 0x401, /* There is no form of this kind. */
-    ENFORCE_NOT_A_KEY = 0x402, /* Bytes that are to be a key do not have the form of one. */
+    ENFORCE_NOT_A_KEY = 0x402, /* Bytes that are to be a key do not have the form of one; the answer has which key of the form it is, from 0 for `revocation`, or the index of the slot. */
     ENFORCE_NOT_A_HEIGHT = 0x403, /* The expiry is 500,000,000 or more, which is a time and not a height. */
     ENFORCE_FIXED_TRANSACTION = 0x501, /* A claim has a fixed transaction. No claim of these calls has one. */
     ENFORCE_SAME_OUTPOINT = 0x502, /* Two claims spend the same outpoint. */
@@ -116,23 +136,24 @@ enum enforce_status {
     ENFORCE_VALUE_TOO_LARGE = 0x606, /* The value of an output is above 21,000,000 bitcoins. */
     ENFORCE_TRAILING = 0x607, /* There are bytes after the lock time of the transaction. */
     ENFORCE_OVER_LIMIT = 0x608, /* There are more than 4,000 claims or outputs, or the script of an output has more than 10,000 bytes; of a transaction that is given, a count is above its limit, or an input has a script. */
-    ENFORCE_OUT_OF_RANGE = 0x701, /* A row refers to bytes or to rows that are not there. */
-    ENFORCE_NO_SUCH_SLOT = 0x702, /* There is no slot of this kind. */
-    ENFORCE_ITEM_TOO_LONG = 0x703, /* The bytes of a slot are more than 520. */
+    ENFORCE_OUT_OF_RANGE = 0x701, /* The row of a claim refers to bytes or to rows that are not there, or the row of an output to bytes. */
+    ENFORCE_NO_SUCH_SLOT = 0x702, /* There is no slot of this kind; the answer has the index of the slot. */
+    ENFORCE_ITEM_TOO_LONG = 0x703, /* The bytes of a slot are more than 520; the answer has the index of the slot. */
+    ENFORCE_SLOT_OUT_OF_RANGE = 0x704, /* The row of a slot refers to bytes that are not there; the answer has the index of the slot. */
     ENFORCE_NO_SUCH_CHANNEL_TYPE = 0x801, /* There is no type of channels of this kind. */
     ENFORCE_NOT_A_COMMITMENT_KEY = 0x802, /* Bytes that are to be a key of the commitment do not have the form of one; the answer has which of its fields it is, from 0. */
     ENFORCE_NO_SUCH_DIRECTION = 0x803, /* There is no direction of this kind; the answer has the index of the HTLC. */
     ENFORCE_EXPIRY_TOO_LARGE = 0x804, /* The expiry of an HTLC is 500,000,000 or more, which is a time and not a height; the answer has the index of the HTLC. */
     ENFORCE_NO_SUCH_CLOSE = 0x805, /* It is neither one's own commitment nor the peer's. */
-    ENFORCE_NO_SIGNATURE = 0x901, /* A slot asks a signature, and the next one that is given is not of it; the answer has the input and the item that lack it. */
-    ENFORCE_SIGNATURE_OUT_OF_RANGE = 0x902, /* The row of a signature refers to bytes that are not there; the answer has its input and its item, as of the two below. */
+    ENFORCE_NO_SIGNATURE = 0x901, /* A slot asks a signature, and the next one that is given is not of it; the answer has the item that lacks it. */
+    ENFORCE_SIGNATURE_OUT_OF_RANGE = 0x902, /* The row of a signature refers to bytes that are not there; the answer has its item, as of the two below. */
     ENFORCE_NOT_DER = 0x903, /* Bytes that are to be a signature are not in strict DER (BIP 66). */
     ENFORCE_NOT_SIGHASH_ALL = 0x904, /* The hash type of a signature is not ALL, the byte 01. */
-    ENFORCE_NOT_ASKED = 0x905, /* A signature is given after that of the last slot that asks one; the answer has the input and the item of its row. */
+    ENFORCE_NOT_ASKED = 0x905, /* A signature is given after that of the last slot that asks one; the answer has the item of its row. */
 };
 
 enum {
-    ENFORCE_ABI = 4, /* What declarations mean together: it is raised whenever one changes its meaning. */
+    ENFORCE_ABI = 5, /* What declarations mean together: it is raised whenever one changes its meaning. */
 };
 
 /* How a claim fills a slot of its path. A field that the kind does not name is not read. */
@@ -216,23 +237,38 @@ typedef struct {
     size_t bytes_length; /* How many there are, from 9 to 73. */
 } enforce_signed_row;
 
-/* What the call that finishes a transaction tells beside its status. Each call writes all of it: the number of bytes, whether or not they were written, and of a refusal the number that it carries, of a signature the indices of its input and of its item. */
+/* What the call that finishes a transaction tells beside its status. Each call writes all of it: of a transaction the number of bytes, whether or not they were written, and its id; of a refusal the number that it carries, and what it is about. The others are 0. */
 typedef struct {
     size_t bytes;
     size_t number;
-    size_t item;
+    size_t row; /* The index of the row that the refusal is about, of a signature the index of its input. */
+    uint32_t about; /* One of the kinds of what a refusal is about. */
+    uint8_t txid[32]; /* The id of the transaction, in the hash's own byte order, as rows of claims have it. */
+    uint8_t shown_txid[32]; /* The same in the other order, as nodes and explorers show it. */
 } enforce_finish_answer;
 
-/* A form of BOLT 3 with what its script has. A field that the kind does not name is not read. */
+/* A form of BOLT 3 with what its script has, where local is the commitment's owner and remote its peer. A field that the kind does not name is not read. */
 typedef struct {
     uint32_t kind; /* One of the kinds of forms. */
     uint32_t expiry_height; /* cltv_expiry, below 500,000,000. */
     uint16_t delay_blocks; /* to_self_delay. */
-    uint8_t key[33];
-    uint8_t other[33];
-    uint8_t local[33];
+    uint8_t revocation[33]; /* revocationpubkey. */
+    uint8_t remote[33]; /* A key of the owner's peer. */
+    uint8_t local[33]; /* A key of the owner. */
     uint8_t payment_hash[32];
 } enforce_form;
+
+/* A note on a script. */
+typedef struct {
+    uint32_t kind; /* One of the kinds of notes. */
+    size_t at; /* The index of the path or of the opcode that it is about. */
+} enforce_note_row;
+
+/* What the call that notes tells beside its status. Each call writes all of it: the rows that there are, whether or not they were written, and the number that a refusal carries. */
+typedef struct {
+    size_t notes;
+    size_t number;
+} enforce_notes_answer;
 
 /* A way through a script. Its facts are the rows from `first_fact` on, `facts` of them. */
 typedef struct {
@@ -267,6 +303,18 @@ typedef struct {
     size_t number;
 } enforce_answer;
 
+/* A key that the caller can sign with. */
+typedef struct {
+    uint8_t bytes[33]; /* A compressed public key. */
+} enforce_key_row;
+
+/* What the call that prepares slots tells beside its status. Each call writes all of it: the rows and bytes that there are, whether or not they were written, and the number that a refusal carries. */
+typedef struct {
+    size_t slots;
+    size_t bytes;
+    size_t number;
+} enforce_slots_answer;
+
 /* An output of a transaction. */
 typedef struct {
     uint64_t value; /* What it is worth, in satoshis; at most 21,000,000 bitcoins. */
@@ -287,11 +335,17 @@ typedef struct {
     uint8_t digest[32]; /* What it signs: the digest of the input with hash type ALL (BIP 143). After the signature in the item comes the byte 01. */
 } enforce_signature_row;
 
-/* What a call that makes a transaction tells beside its status. Each call writes all of it: the bytes and rows that there are, whether or not they were written, and the number that a refusal carries. */
+/* What a call that makes a transaction tells beside its status. Each call writes all of it: of a transaction the bytes and rows that there are, whether or not they were written, its greatest weight, its fee and its id; of a refusal the number that it carries, and what it is about. The others are 0. */
 typedef struct {
     size_t bytes;
     size_t signatures;
     size_t number;
+    size_t row; /* The index of the row that the refusal is about. */
+    uint64_t weight; /* In weight units (BIP 141): what the transaction has at most once it is signed, with 73 bytes for each signature, 72 of DER and the hash type. Where it lacks none, it has just this. 2^64 - 1 stands for more. */
+    uint64_t fee_sat; /* In satoshis: what the claimed outputs are worth, less the outputs. 2^64 - 1 stands for more. */
+    uint32_t about; /* One of the kinds of what a refusal is about. */
+    uint8_t txid[32]; /* The id of the transaction, signed or not, in the hash's own byte order, as rows of claims have it. */
+    uint8_t shown_txid[32]; /* The same in the other order, as nodes and explorers show it. */
 } enforce_spend_answer;
 
 /* The library's `ABI`, to be compared with that of the declarations once, at the start.
@@ -303,6 +357,16 @@ uint32_t enforce_abi(void);
 
    Proved: AnswersListing script.now (record { paths = paths.old; facts = facts.old; bytes = bytes.old }) (record { status = result; answer = answer.new; rows = record { paths = paths.new; facts = facts.new; bytes = bytes.new } }) (crates/enforce_c/specs/Listed.antt) */
 uint32_t enforce_script_list(const uint8_t *script, size_t script_length, enforce_path_row *paths, size_t paths_length, enforce_fact_row *facts, size_t facts_length, uint8_t *bytes, size_t bytes_length, enforce_answer *answer);
+
+/* Notes what of a script endangers money: the paths that others can take, in their order, that nobody can spend, by consensus neither, and the branches that end by a rule that consensus has not, by which others may spend. The statuses of refusals are those of families 1 and 2, and `TOO_SMALL`.
+
+   Proved: AnswersNotes script.now notes.old (record { status = result; answer = answer.new; notes = notes.new }) (crates/enforce_c/specs/Noted.antt) */
+uint32_t enforce_script_notes(const uint8_t *script, size_t script_length, enforce_note_row *notes, size_t notes_length, enforce_notes_answer *answer);
+
+/* Prepares the slots of a claim by a path of a script: a row for each, the top of the stack first, and the bytes that they refer to, from 0. A signature is asked by its key, bytes that the path fixes are told, and the item of a hash is the key or the preimage that is given with it. Of a choice of keys those are taken that are given, else the last ones. A claim with these slots is accepted: whatever fills them so meets the path. Where it is not, a slot is asked for what is not given, or for what no row can say. The statuses of refusals are those of families 1, 2 and 3, in this order: the script, its listing, the path, and the claim, with the slot of the first fact that is not met; and `TOO_SMALL` if one of the two buffers is too short.
+
+   Proved: AnswersSlots script.now path keys.now preimages.now (record { slots = slots.old; bytes = bytes.old }) (record { status = result; answer = answer.new; lists = record { slots = slots.new; bytes = bytes.new } }) (crates/enforce_c/specs/Prepared.antt) */
+uint32_t enforce_path_slots(const uint8_t *script, size_t script_length, size_t path, const enforce_key_row *keys, size_t keys_length, const enforce_preimage_row *preimages, size_t preimages_length, enforce_slot_row *slots, size_t slots_length, uint8_t *bytes, size_t bytes_length, enforce_slots_answer *answer);
 
 /* Writes the text of `enforce paths` on this script, in ASCII, without notes. Its length is the answer's `bytes`. The statuses of refusals are those of families 1 and 2, and `TOO_SMALL`.
 
@@ -324,7 +388,7 @@ uint32_t enforce_form_script(const enforce_form *form, uint8_t *script, size_t s
    Proved: AnswersClaim claim.now slots.now bytes.now due.old (record { status = result; answer = answer.new; due = due.new }) (crates/enforce_c/specs/Claimed.antt) */
 uint32_t enforce_claim(const enforce_claim_row *claim, const enforce_slot_row *slots, size_t slots_length, const uint8_t *bytes, size_t bytes_length, enforce_due *due, enforce_answer *answer);
 
-/* Writes the transaction that spends the outputs of claims, in which nothing is signed, and the signatures that it lacks. It has version 2, the claims' inputs in their order with their sequences, and these outputs. Its lock time is the greatest height that a claim needs. The empty item stands in the place of each signature, and after a signature in its item comes the byte 01 (SIGHASH_ALL). The statuses of refusals are `NO_INPUTS` and `OVER_LIMIT` by the numbers of rows, then those of each output and of each claim in their order, then family 5, then `NO_WITNESS`; and `TOO_SMALL` if one of the two buffers is too short.
+/* Writes the transaction that spends the outputs of claims, in which nothing is signed, and the signatures that it lacks. The answer has its weight, fee and id. It has version 2, the claims' inputs in their order with their sequences, and these outputs. Its lock time is the greatest height that a claim needs. The empty item stands in the place of each signature, and after a signature in its item comes the byte 01 (SIGHASH_ALL). The statuses of refusals are `NO_INPUTS` and `OVER_LIMIT` by the numbers of rows, then those of each output and of each claim in their order, then family 5, then `NO_WITNESS`; and `TOO_SMALL` if one of the two buffers is too short. The answer names the output or the claim that a refusal is of.
 
    Proved: AnswersSpend (record { claims = claims.now; slots = slots.now; outputs = outputs.now; bytes = bytes.now }) (preimages_in preimages.now) (record { bytes = tx.old; signatures = signatures.old }) (record { status = result; answer = answer.new; lists = record { bytes = tx.new; signatures = signatures.new } }) (crates/enforce_c/specs/Spent.antt) */
 uint32_t enforce_unsigned_spend(const enforce_claim_row *claims, size_t claims_length, const enforce_slot_row *slots, size_t slots_length, const enforce_output_row *outputs, size_t outputs_length, const enforce_preimage_row *preimages, size_t preimages_length, const uint8_t *bytes, size_t bytes_length, uint8_t *tx, size_t tx_length, enforce_signature_row *signatures, size_t signatures_length, enforce_spend_answer *answer);
@@ -383,6 +447,7 @@ static inline const char *enforce_name(uint32_t status) {
     case ENFORCE_OUT_OF_RANGE: return "OutOfRange";
     case ENFORCE_NO_SUCH_SLOT: return "NoSuchSlot";
     case ENFORCE_ITEM_TOO_LONG: return "ItemTooLong";
+    case ENFORCE_SLOT_OUT_OF_RANGE: return "SlotOutOfRange";
     case ENFORCE_NO_SUCH_CHANNEL_TYPE: return "NoSuchChannelType";
     case ENFORCE_NOT_A_COMMITMENT_KEY: return "NotACommitmentKey";
     case ENFORCE_NO_SUCH_DIRECTION: return "NoSuchDirection";
@@ -413,12 +478,12 @@ static inline const char *enforce_sentence(uint32_t status) {
     case ENFORCE_TOO_TALL: return "A path needs more than 1,000 stack elements.";
     case ENFORCE_NO_SUCH_PATH: return "The script has no path of this index.";
     case ENFORCE_WRONG_ARITY: return "The number of slots is not that of the path.";
-    case ENFORCE_UNMET: return "The slots do not show a fact of the path.";
+    case ENFORCE_UNMET: return "The slots do not show a fact of the path; the answer has the slot that it is about, 0 where that is the spend.";
     case ENFORCE_CONTRADICTION: return "The path asks for one fact with both polarities.";
     case ENFORCE_WRONG_PROGRAM: return "The program is not that of the script.";
     case ENFORCE_WRONG_SHELL: return "The fixed transaction of a claim does not fit. No claim of these calls has one.";
     case ENFORCE_NO_SUCH_FORM: return "There is no form of this kind.";
-    case ENFORCE_NOT_A_KEY: return "Bytes that are to be a key do not have the form of one.";
+    case ENFORCE_NOT_A_KEY: return "Bytes that are to be a key do not have the form of one; the answer has which key of the form it is, from 0 for `revocation`, or the index of the slot.";
     case ENFORCE_NOT_A_HEIGHT: return "The expiry is 500,000,000 or more, which is a time and not a height.";
     case ENFORCE_FIXED_TRANSACTION: return "A claim has a fixed transaction. No claim of these calls has one.";
     case ENFORCE_SAME_OUTPOINT: return "Two claims spend the same outpoint.";
@@ -433,19 +498,20 @@ static inline const char *enforce_sentence(uint32_t status) {
     case ENFORCE_VALUE_TOO_LARGE: return "The value of an output is above 21,000,000 bitcoins.";
     case ENFORCE_TRAILING: return "There are bytes after the lock time of the transaction.";
     case ENFORCE_OVER_LIMIT: return "There are more than 4,000 claims or outputs, or the script of an output has more than 10,000 bytes; of a transaction that is given, a count is above its limit, or an input has a script.";
-    case ENFORCE_OUT_OF_RANGE: return "A row refers to bytes or to rows that are not there.";
-    case ENFORCE_NO_SUCH_SLOT: return "There is no slot of this kind.";
-    case ENFORCE_ITEM_TOO_LONG: return "The bytes of a slot are more than 520.";
+    case ENFORCE_OUT_OF_RANGE: return "The row of a claim refers to bytes or to rows that are not there, or the row of an output to bytes.";
+    case ENFORCE_NO_SUCH_SLOT: return "There is no slot of this kind; the answer has the index of the slot.";
+    case ENFORCE_ITEM_TOO_LONG: return "The bytes of a slot are more than 520; the answer has the index of the slot.";
+    case ENFORCE_SLOT_OUT_OF_RANGE: return "The row of a slot refers to bytes that are not there; the answer has the index of the slot.";
     case ENFORCE_NO_SUCH_CHANNEL_TYPE: return "There is no type of channels of this kind.";
     case ENFORCE_NOT_A_COMMITMENT_KEY: return "Bytes that are to be a key of the commitment do not have the form of one; the answer has which of its fields it is, from 0.";
     case ENFORCE_NO_SUCH_DIRECTION: return "There is no direction of this kind; the answer has the index of the HTLC.";
     case ENFORCE_EXPIRY_TOO_LARGE: return "The expiry of an HTLC is 500,000,000 or more, which is a time and not a height; the answer has the index of the HTLC.";
     case ENFORCE_NO_SUCH_CLOSE: return "It is neither one's own commitment nor the peer's.";
-    case ENFORCE_NO_SIGNATURE: return "A slot asks a signature, and the next one that is given is not of it; the answer has the input and the item that lack it.";
-    case ENFORCE_SIGNATURE_OUT_OF_RANGE: return "The row of a signature refers to bytes that are not there; the answer has its input and its item, as of the two below.";
+    case ENFORCE_NO_SIGNATURE: return "A slot asks a signature, and the next one that is given is not of it; the answer has the item that lacks it.";
+    case ENFORCE_SIGNATURE_OUT_OF_RANGE: return "The row of a signature refers to bytes that are not there; the answer has its item, as of the two below.";
     case ENFORCE_NOT_DER: return "Bytes that are to be a signature are not in strict DER (BIP 66).";
     case ENFORCE_NOT_SIGHASH_ALL: return "The hash type of a signature is not ALL, the byte 01.";
-    case ENFORCE_NOT_ASKED: return "A signature is given after that of the last slot that asks one; the answer has the input and the item of its row.";
+    case ENFORCE_NOT_ASKED: return "A signature is given after that of the last slot that asks one; the answer has the item of its row.";
     default: return "These declarations do not have this status.";
     }
 }
@@ -509,18 +575,27 @@ _Static_assert(offsetof(enforce_signed_row, input) == 0, "the layout of enforce_
 _Static_assert(offsetof(enforce_signed_row, item) == 8, "the layout of enforce_signed_row");
 _Static_assert(offsetof(enforce_signed_row, bytes_at) == 16, "the layout of enforce_signed_row");
 _Static_assert(offsetof(enforce_signed_row, bytes_length) == 24, "the layout of enforce_signed_row");
-_Static_assert(sizeof(enforce_finish_answer) == 24, "the layout of enforce_finish_answer");
+_Static_assert(sizeof(enforce_finish_answer) == 96, "the layout of enforce_finish_answer");
 _Static_assert(offsetof(enforce_finish_answer, bytes) == 0, "the layout of enforce_finish_answer");
 _Static_assert(offsetof(enforce_finish_answer, number) == 8, "the layout of enforce_finish_answer");
-_Static_assert(offsetof(enforce_finish_answer, item) == 16, "the layout of enforce_finish_answer");
+_Static_assert(offsetof(enforce_finish_answer, row) == 16, "the layout of enforce_finish_answer");
+_Static_assert(offsetof(enforce_finish_answer, about) == 24, "the layout of enforce_finish_answer");
+_Static_assert(offsetof(enforce_finish_answer, txid) == 28, "the layout of enforce_finish_answer");
+_Static_assert(offsetof(enforce_finish_answer, shown_txid) == 60, "the layout of enforce_finish_answer");
 _Static_assert(sizeof(enforce_form) == 144, "the layout of enforce_form");
 _Static_assert(offsetof(enforce_form, kind) == 0, "the layout of enforce_form");
 _Static_assert(offsetof(enforce_form, expiry_height) == 4, "the layout of enforce_form");
 _Static_assert(offsetof(enforce_form, delay_blocks) == 8, "the layout of enforce_form");
-_Static_assert(offsetof(enforce_form, key) == 10, "the layout of enforce_form");
-_Static_assert(offsetof(enforce_form, other) == 43, "the layout of enforce_form");
+_Static_assert(offsetof(enforce_form, revocation) == 10, "the layout of enforce_form");
+_Static_assert(offsetof(enforce_form, remote) == 43, "the layout of enforce_form");
 _Static_assert(offsetof(enforce_form, local) == 76, "the layout of enforce_form");
 _Static_assert(offsetof(enforce_form, payment_hash) == 109, "the layout of enforce_form");
+_Static_assert(sizeof(enforce_note_row) == 16, "the layout of enforce_note_row");
+_Static_assert(offsetof(enforce_note_row, kind) == 0, "the layout of enforce_note_row");
+_Static_assert(offsetof(enforce_note_row, at) == 8, "the layout of enforce_note_row");
+_Static_assert(sizeof(enforce_notes_answer) == 16, "the layout of enforce_notes_answer");
+_Static_assert(offsetof(enforce_notes_answer, notes) == 0, "the layout of enforce_notes_answer");
+_Static_assert(offsetof(enforce_notes_answer, number) == 8, "the layout of enforce_notes_answer");
 _Static_assert(sizeof(enforce_path_row) == 56, "the layout of enforce_path_row");
 _Static_assert(offsetof(enforce_path_row, arity) == 0, "the layout of enforce_path_row");
 _Static_assert(offsetof(enforce_path_row, counted) == 8, "the layout of enforce_path_row");
@@ -545,6 +620,12 @@ _Static_assert(offsetof(enforce_answer, paths) == 0, "the layout of enforce_answ
 _Static_assert(offsetof(enforce_answer, facts) == 8, "the layout of enforce_answer");
 _Static_assert(offsetof(enforce_answer, bytes) == 16, "the layout of enforce_answer");
 _Static_assert(offsetof(enforce_answer, number) == 24, "the layout of enforce_answer");
+_Static_assert(sizeof(enforce_key_row) == 33, "the layout of enforce_key_row");
+_Static_assert(offsetof(enforce_key_row, bytes) == 0, "the layout of enforce_key_row");
+_Static_assert(sizeof(enforce_slots_answer) == 24, "the layout of enforce_slots_answer");
+_Static_assert(offsetof(enforce_slots_answer, slots) == 0, "the layout of enforce_slots_answer");
+_Static_assert(offsetof(enforce_slots_answer, bytes) == 8, "the layout of enforce_slots_answer");
+_Static_assert(offsetof(enforce_slots_answer, number) == 16, "the layout of enforce_slots_answer");
 _Static_assert(sizeof(enforce_output_row) == 24, "the layout of enforce_output_row");
 _Static_assert(offsetof(enforce_output_row, value) == 0, "the layout of enforce_output_row");
 _Static_assert(offsetof(enforce_output_row, script_at) == 8, "the layout of enforce_output_row");
@@ -556,10 +637,16 @@ _Static_assert(offsetof(enforce_signature_row, input) == 0, "the layout of enfor
 _Static_assert(offsetof(enforce_signature_row, item) == 8, "the layout of enforce_signature_row");
 _Static_assert(offsetof(enforce_signature_row, key) == 16, "the layout of enforce_signature_row");
 _Static_assert(offsetof(enforce_signature_row, digest) == 49, "the layout of enforce_signature_row");
-_Static_assert(sizeof(enforce_spend_answer) == 24, "the layout of enforce_spend_answer");
+_Static_assert(sizeof(enforce_spend_answer) == 120, "the layout of enforce_spend_answer");
 _Static_assert(offsetof(enforce_spend_answer, bytes) == 0, "the layout of enforce_spend_answer");
 _Static_assert(offsetof(enforce_spend_answer, signatures) == 8, "the layout of enforce_spend_answer");
 _Static_assert(offsetof(enforce_spend_answer, number) == 16, "the layout of enforce_spend_answer");
+_Static_assert(offsetof(enforce_spend_answer, row) == 24, "the layout of enforce_spend_answer");
+_Static_assert(offsetof(enforce_spend_answer, weight) == 32, "the layout of enforce_spend_answer");
+_Static_assert(offsetof(enforce_spend_answer, fee_sat) == 40, "the layout of enforce_spend_answer");
+_Static_assert(offsetof(enforce_spend_answer, about) == 48, "the layout of enforce_spend_answer");
+_Static_assert(offsetof(enforce_spend_answer, txid) == 52, "the layout of enforce_spend_answer");
+_Static_assert(offsetof(enforce_spend_answer, shown_txid) == 84, "the layout of enforce_spend_answer");
 #endif
 
 #endif

@@ -64,7 +64,7 @@ int main(int argc, char **argv) {
     enforce_form form = {.kind = ENFORCE_FORM_TO_LOCAL};
     if (argc != 5 || enforce_abi() != ENFORCE_ABI) return 2;
     size_t length = read_hex(argv[1], script, 0, sizeof script);
-    read_hex(argv[2], form.key, 33, 33), read_hex(argv[4], form.other, 33, 33);
+    read_hex(argv[2], form.revocation, 33, 33), read_hex(argv[4], form.local, 33, 33);
     form.delay_blocks = read_number(argv[3]);
     if (is_form(script, length, &form)) printf("it is the to_local script with these keys\n");
     return tell(script, length);

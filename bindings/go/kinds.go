@@ -7,6 +7,21 @@ package enforce
 */
 import "C"
 
+// About says what a refusal is about.
+type About uint32
+
+// AboutAll: The refusal is of the call as a whole.
+const AboutAll About = C.ENFORCE_ABOUT_ALL
+
+// AboutOutput: It is of the output whose row has the index `row`.
+const AboutOutput About = C.ENFORCE_ABOUT_OUTPUT
+
+// AboutClaim: It is of the claim whose row has the index `row`. The number is what `enforce_claim` tells of it.
+const AboutClaim About = C.ENFORCE_ABOUT_CLAIM
+
+// AboutSignature: It is of a signature of the input `row`. The number is the index of its item.
+const AboutSignature About = C.ENFORCE_ABOUT_SIGNATURE
+
 // SlotKind says how a claim fills a slot of its path.
 type SlotKind uint32
 
@@ -76,20 +91,47 @@ const OutputPeersAnchor OutputKind = C.ENFORCE_OUTPUT_PEERS_ANCHOR
 // FormKind says which form of BOLT 3 it is.
 type FormKind uint32
 
-// FormFunding: A funding output: both keys, `key` and `other`, in whichever order.
+// FormFunding: A funding output: both keys, `remote` and `local`, in whichever order.
 const FormFunding FormKind = C.ENFORCE_FORM_FUNDING
 
-// FormToLocal: A to_local output: `key` revokes, or `other` after `delay_blocks`.
+// FormToLocal: A to_local output: `revocation` revokes, or `local`, which is local_delayedpubkey, after `delay_blocks`.
 const FormToLocal FormKind = C.ENFORCE_FORM_TO_LOCAL
 
-// FormKeyHash: A to_remote output, P2WPKH of `key`: the script that it stands for.
+// FormKeyHash: A to_remote output, P2WPKH of `remote`: the script that it stands for.
 const FormKeyHash FormKind = C.ENFORCE_FORM_KEY_HASH
 
-// FormOffered: An HTLC that the commitment's owner offered: `key` revokes, `other` is remote_htlcpubkey and `local` local_htlcpubkey.
+// FormOffered: An HTLC that the commitment's owner offered: `revocation` revokes, `remote` is remote_htlcpubkey and `local` local_htlcpubkey.
 const FormOffered FormKind = C.ENFORCE_FORM_OFFERED
 
 // FormReceived: An HTLC that the commitment's owner received, with the same keys, and `expiry_height`.
 const FormReceived FormKind = C.ENFORCE_FORM_RECEIVED
+
+// FormOfferedWithAnchors: As `FORM_OFFERED`, in a channel with `option_anchors`.
+const FormOfferedWithAnchors FormKind = C.ENFORCE_FORM_OFFERED_WITH_ANCHORS
+
+// FormReceivedWithAnchors: As `FORM_RECEIVED`, in a channel with `option_anchors`.
+const FormReceivedWithAnchors FormKind = C.ENFORCE_FORM_RECEIVED_WITH_ANCHORS
+
+// NoteKind says what a note on a script says.
+type NoteKind uint32
+
+// NoteAnyone: Anyone can spend by the path `at` once its locks have passed: it asks neither a signature of a key that the script fixes nor an item with a given hash.
+const NoteAnyone NoteKind = C.ENFORCE_NOTE_ANYONE
+
+// NoteFinder: Whoever knows an item with a given hash can spend by the path `at`: it asks no signature of a key that the script fixes, so who sees such a witness can spend too.
+const NoteFinder NoteKind = C.ENFORCE_NOTE_FINDER
+
+// NoteNobody: No witness spends an output with the script, by consensus neither: what is paid to it is lost. `at` is 0.
+const NoteNobody NoteKind = C.ENFORCE_NOTE_NOBODY
+
+// NoteStricterKey: A branch ends at the opcode of the index `at`, because a key there has not 33 bytes that begin with 02 or 03. By consensus others may spend by it.
+const NoteStricterKey NoteKind = C.ENFORCE_NOTE_STRICTER_KEY
+
+// NoteStricterSignature: A branch ends there, because a signature there is neither empty nor one that a key can give. By consensus others may spend by it.
+const NoteStricterSignature NoteKind = C.ENFORCE_NOTE_STRICTER_SIGNATURE
+
+// NoteStricterNumber: A branch ends there, because a number there is not minimally encoded. By consensus others may spend by it.
+const NoteStricterNumber NoteKind = C.ENFORCE_NOTE_STRICTER_NUMBER
 
 // FactKind says what a path asks of the witness or the spend.
 type FactKind uint32
@@ -172,7 +214,7 @@ const ErrNoSuchPath Status = C.ENFORCE_NO_SUCH_PATH
 // ErrWrongArity: The number of slots is not that of the path.
 const ErrWrongArity Status = C.ENFORCE_WRONG_ARITY
 
-// ErrUnmet: The slots do not show a fact of the path.
+// ErrUnmet: The slots do not show a fact of the path; the answer has the slot that it is about, 0 where that is the spend.
 const ErrUnmet Status = C.ENFORCE_UNMET
 
 // ErrContradiction: The path asks for one fact with both polarities.
@@ -187,7 +229,7 @@ const ErrWrongShell Status = C.ENFORCE_WRONG_SHELL
 // ErrNoSuchForm: There is no form of this kind.
 const ErrNoSuchForm Status = C.ENFORCE_NO_SUCH_FORM
 
-// ErrNotAKey: Bytes that are to be a key do not have the form of one.
+// ErrNotAKey: Bytes that are to be a key do not have the form of one; the answer has which key of the form it is, from 0 for `revocation`, or the index of the slot.
 const ErrNotAKey Status = C.ENFORCE_NOT_A_KEY
 
 // ErrNotAHeight: The expiry is 500,000,000 or more, which is a time and not a height.
@@ -232,14 +274,17 @@ const ErrTrailing Status = C.ENFORCE_TRAILING
 // ErrOverLimit: There are more than 4,000 claims or outputs, or the script of an output has more than 10,000 bytes; of a transaction that is given, a count is above its limit, or an input has a script.
 const ErrOverLimit Status = C.ENFORCE_OVER_LIMIT
 
-// ErrOutOfRange: A row refers to bytes or to rows that are not there.
+// ErrOutOfRange: The row of a claim refers to bytes or to rows that are not there, or the row of an output to bytes.
 const ErrOutOfRange Status = C.ENFORCE_OUT_OF_RANGE
 
-// ErrNoSuchSlot: There is no slot of this kind.
+// ErrNoSuchSlot: There is no slot of this kind; the answer has the index of the slot.
 const ErrNoSuchSlot Status = C.ENFORCE_NO_SUCH_SLOT
 
-// ErrItemTooLong: The bytes of a slot are more than 520.
+// ErrItemTooLong: The bytes of a slot are more than 520; the answer has the index of the slot.
 const ErrItemTooLong Status = C.ENFORCE_ITEM_TOO_LONG
+
+// ErrSlotOutOfRange: The row of a slot refers to bytes that are not there; the answer has the index of the slot.
+const ErrSlotOutOfRange Status = C.ENFORCE_SLOT_OUT_OF_RANGE
 
 // ErrNoSuchChannelType: There is no type of channels of this kind.
 const ErrNoSuchChannelType Status = C.ENFORCE_NO_SUCH_CHANNEL_TYPE
@@ -256,10 +301,10 @@ const ErrExpiryTooLarge Status = C.ENFORCE_EXPIRY_TOO_LARGE
 // ErrNoSuchClose: It is neither one's own commitment nor the peer's.
 const ErrNoSuchClose Status = C.ENFORCE_NO_SUCH_CLOSE
 
-// ErrNoSignature: A slot asks a signature, and the next one that is given is not of it; the answer has the input and the item that lack it.
+// ErrNoSignature: A slot asks a signature, and the next one that is given is not of it; the answer has the item that lacks it.
 const ErrNoSignature Status = C.ENFORCE_NO_SIGNATURE
 
-// ErrSignatureOutOfRange: The row of a signature refers to bytes that are not there; the answer has its input and its item, as of the two below.
+// ErrSignatureOutOfRange: The row of a signature refers to bytes that are not there; the answer has its item, as of the two below.
 const ErrSignatureOutOfRange Status = C.ENFORCE_SIGNATURE_OUT_OF_RANGE
 
 // ErrNotDer: Bytes that are to be a signature are not in strict DER (BIP 66).
@@ -268,5 +313,5 @@ const ErrNotDer Status = C.ENFORCE_NOT_DER
 // ErrNotSighashAll: The hash type of a signature is not ALL, the byte 01.
 const ErrNotSighashAll Status = C.ENFORCE_NOT_SIGHASH_ALL
 
-// ErrNotAsked: A signature is given after that of the last slot that asks one; the answer has the input and the item of its row.
+// ErrNotAsked: A signature is given after that of the last slot that asks one; the answer has the item of its row.
 const ErrNotAsked Status = C.ENFORCE_NOT_ASKED

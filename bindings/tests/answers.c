@@ -3,7 +3,9 @@
      list HEX                                            the text of `enforce paths`, made of the rows
      text HEX                                            that text, as the library has it
      program HEX                                         the program of a script
-     form KIND KEY OTHER LOCAL PAYMENT_HASH EXPIRY DELAY the script of a form
+     notes HEX                                           the notes on a script
+     slots HEX PATH KEY,.. PREIMAGE,..                   the slots that a path of a script asks for
+     form KIND REVOCATION REMOTE LOCAL PAYMENT_HASH EXPIRY DELAY the script of a form
      claim CLAIM                                         when a claim is due
      spend CLAIM;.. VALUE/SCRIPT;.. PREIMAGE,..          the transaction of claims, and the signatures that it lacks
      finish CLAIM;.. VALUE/SCRIPT;.. PREIMAGE,.. INPUT/ITEM/SIGNATURE,..  that transaction with these signatures
@@ -28,6 +30,7 @@
 enum { PATHS = 64, FACTS = 4096, BYTES = 65536, SIGNATURES = 64, THREADS = 4, FILL = 0x5a };
 /* Of the calls that find claims, which list the scripts of BOLT 3 each time, one in so many has its allocations refused. */
 enum { REFUSED_ONE_IN = 32 };
+enum { NOTES = 64, KEYS = 8 };
 enum { CLAIMS = 8, SLOTS = 64, OUTPUTS = 8, PREIMAGES = 8, HTLCS = 16, FOUND = 16 };
 /* The buffers of a call: paths or claims, rows of facts, of signatures or of outputs, bytes, slots, and the other outputs. */
 enum { AT_PATHS, AT_ROWS, AT_BYTES, AT_SLOTS, AT_OTHERS, BUFFERS };
@@ -52,11 +55,14 @@ typedef struct {
     enforce_path_row paths[PATHS];
     enforce_fact_row facts[FACTS];
     enforce_signature_row signatures[SIGNATURES];
+    enforce_note_row notes[NOTES];
     uint8_t bytes[BYTES];
     enforce_due due;
     rooms sizes;
-    size_t number, item;
-    uint32_t status;
+    size_t number, row;
+    uint64_t weight, fee_sat;
+    uint32_t status, about;
+    uint8_t txid[32], shown_txid[32];
 } state;
 
 /* A text that grows. */
@@ -114,8 +120,14 @@ static size_t read_hex(const char *from, uint8_t *bytes, size_t room) {
 static void put_status(text *to, const state *s) {
     put(to, "refused %s", enforce_name(s->status));
     switch (s->status) {
-    case ENFORCE_BAD_OPCODE: case ENFORCE_TRUNCATED: case ENFORCE_UNDECIDED: case ENFORCE_NOT_A_COMMITMENT_KEY: case ENFORCE_NO_SUCH_DIRECTION: case ENFORCE_EXPIRY_TOO_LARGE: put(to, " %zu", s->number); break;
-    case ENFORCE_NO_SIGNATURE: case ENFORCE_SIGNATURE_OUT_OF_RANGE: case ENFORCE_NOT_DER: case ENFORCE_NOT_SIGHASH_ALL: case ENFORCE_NOT_ASKED: put(to, " %zu %zu", s->number, s->item);
+    case ENFORCE_BAD_OPCODE: case ENFORCE_TRUNCATED: case ENFORCE_UNDECIDED: case ENFORCE_UNMET: case ENFORCE_NOT_A_KEY: case ENFORCE_NO_SUCH_SLOT: case ENFORCE_ITEM_TOO_LONG: case ENFORCE_SLOT_OUT_OF_RANGE:
+    case ENFORCE_NOT_A_COMMITMENT_KEY: case ENFORCE_NO_SUCH_DIRECTION: case ENFORCE_EXPIRY_TOO_LARGE: case ENFORCE_NO_SIGNATURE: case ENFORCE_SIGNATURE_OUT_OF_RANGE: case ENFORCE_NOT_DER: case ENFORCE_NOT_SIGHASH_ALL:
+    case ENFORCE_NOT_ASKED: put(to, " %zu", s->number);
+    }
+    switch (s->about) {
+    case ENFORCE_ABOUT_OUTPUT: put(to, " output %zu", s->row); break;
+    case ENFORCE_ABOUT_CLAIM: put(to, " claim %zu", s->row); break;
+    case ENFORCE_ABOUT_SIGNATURE: put(to, " input %zu", s->row);
     }
     put(to, "\n");
 }
@@ -183,7 +195,8 @@ typedef struct {
     enforce_output_row outputs[OUTPUTS];
     enforce_preimage_row preimages[PREIMAGES];
     enforce_signed_row signed_rows[SIGNATURES];
-    size_t claims_length, slots_length, outputs_length, preimages_length, signed_length, htlcs_length;
+    enforce_key_row keys[KEYS];
+    size_t path, keys_length, claims_length, slots_length, outputs_length, preimages_length, signed_length, htlcs_length;
     enforce_commitment commitment;
     enforce_htlc_row htlcs[HTLCS];
     uint32_t confirmed_height, whose, feerate_per_kw;
@@ -196,7 +209,8 @@ static uint32_t call_spend(const request *r, state *s, const rooms *room) {
     memset(&answer, FILL, sizeof answer);
     uint32_t status = enforce_unsigned_spend(r->claims, r->claims_length, r->slots, r->slots_length, r->outputs, r->outputs_length, r->preimages, r->preimages_length, r->bytes, r->length, s->bytes,
                                              room->of[AT_BYTES], s->signatures, room->of[AT_ROWS], &answer);
-    s->sizes = (rooms){{[AT_BYTES] = answer.bytes, [AT_ROWS] = answer.signatures}}, s->number = answer.number;
+    s->sizes = (rooms){{[AT_BYTES] = answer.bytes, [AT_ROWS] = answer.signatures}}, s->number = answer.number, s->row = answer.row, s->about = answer.about, s->weight = answer.weight, s->fee_sat = answer.fee_sat;
+    memcpy(s->txid, answer.txid, sizeof s->txid), memcpy(s->shown_txid, answer.shown_txid, sizeof s->shown_txid);
     return status;
 }
 
@@ -205,7 +219,8 @@ static uint32_t call_finish(const request *r, state *s, const rooms *room) {
     memset(&answer, FILL, sizeof answer);
     uint32_t status = enforce_finish(r->claims, r->claims_length, r->slots, r->slots_length, r->outputs, r->outputs_length, r->preimages, r->preimages_length, r->signed_rows, r->signed_length, r->bytes,
                                      r->length, s->bytes, room->of[AT_BYTES], &answer);
-    s->sizes = (rooms){{[AT_BYTES] = answer.bytes}}, s->number = answer.number, s->item = answer.item;
+    s->sizes = (rooms){{[AT_BYTES] = answer.bytes}}, s->number = answer.number, s->row = answer.row, s->about = answer.about;
+    memcpy(s->txid, answer.txid, sizeof s->txid), memcpy(s->shown_txid, answer.shown_txid, sizeof s->shown_txid);
     return status;
 }
 
@@ -222,6 +237,22 @@ static uint32_t call_found(const request *r, state *s, const rooms *room) {
         status = enforce_close(r->whose, &r->commitment, r->htlcs, r->htlcs_length, r->feerate_per_kw, r->preimages, r->preimages_length, r->bytes, r->length, r->confirmed_height, s->claims,
                                room->of[AT_PATHS], s->found, room->of[AT_ROWS], s->slots, room->of[AT_SLOTS], s->others, room->of[AT_OTHERS], s->bytes, room->of[AT_BYTES], &answer);
     s->sizes = (rooms){{[AT_PATHS] = answer.claims, [AT_ROWS] = answer.claims, [AT_BYTES] = answer.bytes, [AT_SLOTS] = answer.slots, [AT_OTHERS] = answer.others}}, s->number = answer.number;
+    return status;
+}
+
+static uint32_t call_notes(const request *r, state *s, const rooms *room) {
+    enforce_notes_answer answer;
+    memset(&answer, FILL, sizeof answer);
+    uint32_t status = enforce_script_notes(r->bytes, r->length, s->notes, room->of[AT_ROWS], &answer);
+    s->sizes = (rooms){{[AT_ROWS] = answer.notes}}, s->number = answer.number;
+    return status;
+}
+
+static uint32_t call_slots(const request *r, state *s, const rooms *room) {
+    enforce_slots_answer answer;
+    memset(&answer, FILL, sizeof answer);
+    uint32_t status = enforce_path_slots(r->bytes, r->length, r->path, r->keys, r->keys_length, r->preimages, r->preimages_length, s->slots, room->of[AT_SLOTS], s->bytes, room->of[AT_BYTES], &answer);
+    s->sizes = (rooms){{[AT_SLOTS] = answer.slots, [AT_BYTES] = answer.bytes}}, s->number = answer.number;
     return status;
 }
 
@@ -247,13 +278,15 @@ static void call(const request *r, state *s, rooms room) {
     for (size_t i = 0; i < PATHS; i++) s->paths[i].has_lock = s->paths[i].has_age = false;
     for (size_t i = 0; i < FACTS; i++) s->facts[i].holds = s->facts[i].key_is_slot = false;
     for (size_t i = 0; i < FOUND; i++) s->found[i].has_deadline = false;
+    s->row = 0, s->about = ENFORCE_ABOUT_ALL, s->weight = s->fee_sat = 0;
+    memset(s->txid, 0, sizeof s->txid), memset(s->shown_txid, 0, sizeof s->shown_txid);
     asked = 0;
-    s->status = is_named(r, "spend") ? call_spend(r, s, &room) : is_named(r, "finish") ? call_finish(r, s, &room) : finds(r) ? call_found(r, s, &room) : call_script(r, s, &room);
+    s->status = is_named(r, "notes") ? call_notes(r, s, &room) : is_named(r, "slots") ? call_slots(r, s, &room) : is_named(r, "spend") ? call_spend(r, s, &room) : is_named(r, "finish") ? call_finish(r, s, &room) : finds(r) ? call_found(r, s, &room) : call_script(r, s, &room);
 }
 
 static rooms most(const request *r) {
     if (finds(r)) return (rooms){{FOUND, FOUND, BYTES, SLOTS, FOUND}};
-    return (rooms){{PATHS, is_named(r, "spend") ? SIGNATURES : FACTS, BYTES, 0, 0}};
+    return (rooms){{PATHS, is_named(r, "spend") ? SIGNATURES : is_named(r, "notes") ? NOTES : FACTS, BYTES, SLOTS, 0}};
 }
 
 static bool has_room(const rooms *room, const rooms *sizes) {
@@ -264,6 +297,12 @@ static bool has_room(const rooms *room, const rooms *sizes) {
 
 static bool are_none(const rooms *sizes) { return has_room(&(rooms){{0}}, sizes); }
 
+/* What is told of a transaction is 0 where there is none. */
+static bool is_untold(const state *s) {
+    static const uint8_t none[32];
+    return are_none(&s->sizes) && !s->weight && !s->fee_sat && !memcmp(s->txid, none, sizeof none) && !memcmp(s->shown_txid, none, sizeof none);
+}
+
 static bool is_filled(const void *start, size_t length) {
     const uint8_t *bytes = start;
     for (size_t i = 0; i < length; i++)
@@ -273,7 +312,7 @@ static bool is_filled(const void *start, size_t length) {
 
 /* Nothing but the status and the answer was written. */
 static bool is_left(const state *s) {
-    if (!is_filled(s->bytes, sizeof s->bytes) || !is_filled(s->signatures, sizeof s->signatures) || !is_filled(&s->due, sizeof s->due)) return false;
+    if (!is_filled(s->notes, sizeof s->notes) || !is_filled(s->bytes, sizeof s->bytes) || !is_filled(s->signatures, sizeof s->signatures) || !is_filled(&s->due, sizeof s->due)) return false;
     if (!is_filled(s->claims, sizeof s->claims) || !is_filled(s->slots, sizeof s->slots) || !is_filled(s->others, sizeof s->others)) return false;
     for (size_t i = 0; i < FOUND; i++)
         if ((uint8_t)s->found[i].kind != FILL || (uint8_t)s->found[i].from_height != FILL || (uint8_t)s->found[i].deadline_height != FILL || s->found[i].has_deadline) return false;
@@ -320,22 +359,29 @@ static bool are_same_found(const state *a, const state *b) {
     return !memcmp(a->others, b->others, sizeof a->others);
 }
 
+/* The same of what is told of a transaction. */
+static bool are_same_told(const state *a, const state *b) {
+    return a->weight == b->weight && a->fee_sat == b->fee_sat && a->row == b->row && a->about == b->about && !memcmp(a->txid, b->txid, sizeof a->txid) && !memcmp(a->shown_txid, b->shown_txid, sizeof a->shown_txid);
+}
+
 /* The same bytes and rows, field by field: the padding of a row may be anything. */
 static bool are_same(const state *a, const state *b) {
     for (size_t i = 0; i < PATHS; i++)
         if (!is_same_path(&a->paths[i], &b->paths[i])) return false;
     for (size_t i = 0; i < FACTS; i++)
         if (!is_same_fact(&a->facts[i], &b->facts[i])) return false;
+    for (size_t i = 0; i < NOTES; i++)
+        if (a->notes[i].kind != b->notes[i].kind || a->notes[i].at != b->notes[i].at) return false;
     for (size_t i = 0; i < SIGNATURES; i++)
         if (!is_same_signature(&a->signatures[i], &b->signatures[i])) return false;
-    return a->due.height == b->due.height && a->due.sequence == b->due.sequence && !memcmp(a->bytes, b->bytes, BYTES) && are_same_found(a, b);
+    return a->due.height == b->due.height && a->due.sequence == b->due.sequence && !memcmp(a->bytes, b->bytes, BYTES) && are_same_found(a, b) && are_same_told(a, b);
 }
 
 /* Makes the call once more with one buffer shorter by one, or with just enough room. */
 static void call_short(work *w, const request *r, const state *s, state *other, rooms room) {
     bool fits = has_room(&room, &s->sizes);
     call(r, other, room);
-    bool same = !memcmp(&other->sizes, &s->sizes, sizeof s->sizes);
+    bool same = !memcmp(&other->sizes, &s->sizes, sizeof s->sizes) && are_same_told(other, s);
     if (!same || other->status != (fits ? ENFORCE_DONE : ENFORCE_TOO_SMALL) || (!fits && !is_left(other))) w->wrong++;
     if (fits && !are_same(other, s)) w->wrong++;
     w->short_calls++;
@@ -352,19 +398,19 @@ static void call_again(work *w, const request *r, const state *s, state *other) 
     }
 }
 
-/* The call with a changed row is refused so, and writes nothing but its answer. */
-static void call_changed(work *w, const request *changed, state *other, uint32_t status) {
+/* The call with a changed row is refused so, with this number, and writes nothing but its answer. */
+static void call_changed(work *w, const request *changed, state *other, uint32_t status, size_t number) {
     call(changed, other, most(changed));
-    if (other->status != status || !is_left(other) || !are_none(&other->sizes) || other->number) w->wrong++;
+    if (other->status != status || !is_left(other) || !is_untold(other) || other->number != number) w->wrong++;
     w->short_calls++;
 }
 
 /* A number by which a range of this length from an index is not there, in a list of this length. */
-static void put_out(work *w, const request *r, request *changed, state *other, size_t *field, size_t least) {
+static void put_out(work *w, const request *r, request *changed, state *other, size_t *field, size_t least, uint32_t status, size_t number) {
     const size_t beyond[] = {least, least + 1, SIZE_MAX - 1, SIZE_MAX};
     for (size_t i = 0; i < sizeof beyond / sizeof *beyond; i++) {
         *field = beyond[i];
-        call_changed(w, changed, other, ENFORCE_OUT_OF_RANGE);
+        call_changed(w, changed, other, status, number);
     }
     *changed = *r;
 }
@@ -375,20 +421,20 @@ static void change_rows(work *w, const request *r, state *other) {
     if (!changed) fail("no memory");
     *changed = *r;
     enforce_claim_row *c = changed->claims;
-    put_out(w, r, changed, other, &c->script_at, r->length - c->script_length + 1);
-    put_out(w, r, changed, other, &c->script_length, r->length - c->script_at + 1);
-    put_out(w, r, changed, other, &c->program_at, r->length - c->program_length + 1);
-    put_out(w, r, changed, other, &c->program_length, r->length - c->program_at + 1);
-    put_out(w, r, changed, other, &c->first_slot, r->slots_length - c->slots + 1);
-    put_out(w, r, changed, other, &c->slots, r->slots_length - c->first_slot + 1);
+    put_out(w, r, changed, other, &c->script_at, r->length - c->script_length + 1, ENFORCE_OUT_OF_RANGE, 0);
+    put_out(w, r, changed, other, &c->script_length, r->length - c->script_at + 1, ENFORCE_OUT_OF_RANGE, 0);
+    put_out(w, r, changed, other, &c->program_at, r->length - c->program_length + 1, ENFORCE_OUT_OF_RANGE, 0);
+    put_out(w, r, changed, other, &c->program_length, r->length - c->program_at + 1, ENFORCE_OUT_OF_RANGE, 0);
+    put_out(w, r, changed, other, &c->first_slot, r->slots_length - c->slots + 1, ENFORCE_OUT_OF_RANGE, 0);
+    put_out(w, r, changed, other, &c->slots, r->slots_length - c->first_slot + 1, ENFORCE_OUT_OF_RANGE, 0);
     for (size_t i = 0; i < c->slots; i++) {
         enforce_slot_row *slot = &changed->slots[c->first_slot + i];
         if (slot->kind == ENFORCE_SLOT_EXACT) {
-            put_out(w, r, changed, other, &slot->bytes_at, r->length - slot->bytes_length + 1);
-            put_out(w, r, changed, other, &slot->bytes_length, r->length - slot->bytes_at + 1);
+            put_out(w, r, changed, other, &slot->bytes_at, r->length - slot->bytes_length + 1, ENFORCE_SLOT_OUT_OF_RANGE, i);
+            put_out(w, r, changed, other, &slot->bytes_length, r->length - slot->bytes_at + 1, ENFORCE_SLOT_OUT_OF_RANGE, i);
         }
-        slot->kind = 0, call_changed(w, changed, other, ENFORCE_NO_SUCH_SLOT);
-        slot->kind = 4, call_changed(w, changed, other, ENFORCE_NO_SUCH_SLOT);
+        slot->kind = 0, call_changed(w, changed, other, ENFORCE_NO_SUCH_SLOT, i);
+        slot->kind = 4, call_changed(w, changed, other, ENFORCE_NO_SUCH_SLOT, i);
         *changed = *r;
     }
     free(changed);
@@ -413,7 +459,7 @@ static void change_signed(work *w, const request *r, state *other) {
             *changed = *r;
             changed->signed_rows[i] = (enforce_signed_row){cases[k].input, cases[k].item, cases[k].at, cases[k].length};
             call(changed, other, most(changed));
-            if (other->status != cases[k].status || !is_left(other) || !are_none(&other->sizes) || other->number != row->input || other->item != row->item) w->wrong++;
+            if (other->status != cases[k].status || !is_left(other) || !is_untold(other) || other->about != ENFORCE_ABOUT_SIGNATURE || other->row != row->input || other->number != row->item) w->wrong++;
             w->short_calls++;
         }
     }
@@ -425,7 +471,7 @@ static void refuse_each(work *w, const request *r, state *other) {
     for (refused_number = 1;; refused_number++) {
         call(r, other, most(r));
         if (asked < refused_number) break;
-        if (other->status != ENFORCE_NO_MEMORY || !is_left(other) || !are_none(&other->sizes) || other->number) w->wrong++;
+        if (other->status != ENFORCE_NO_MEMORY || !is_left(other) || !is_untold(other) || other->number || other->row || other->about) w->wrong++;
         w->refused++;
     }
     refused_number = 0;
@@ -499,6 +545,11 @@ static void read_preimage(request *r, char *text) {
     read_hex(text, r->preimages[r->preimages_length++].bytes, 32);
 }
 
+static void read_key(request *r, char *text) {
+    if (r->keys_length == KEYS) fail("too many keys");
+    read_hex(text, r->keys[r->keys_length++].bytes, 33);
+}
+
 /* Reads each part of a list. */
 static void read_each(request *r, char *list, const char *separator, void (*read)(request *, char *)) {
     char *rest;
@@ -511,7 +562,7 @@ static void read_form(request *r, char **rest) {
     for (int i = 0; i < 7; i++)
         if (!(words[i] = strtok_r(NULL, " ", rest))) fail("a form has seven words");
     r->form.kind = (uint32_t)strtoul(words[0], NULL, 10);
-    read_hex(words[1], r->form.key, 33), read_hex(words[2], r->form.other, 33), read_hex(words[3], r->form.local, 33);
+    read_hex(words[1], r->form.revocation, 33), read_hex(words[2], r->form.remote, 33), read_hex(words[3], r->form.local, 33);
     read_hex(words[4], r->form.payment_hash, 32);
     r->form.expiry_height = (uint32_t)strtoul(words[5], NULL, 10);
     r->form.delay_blocks = (uint16_t)strtoul(words[6], NULL, 10);
@@ -542,12 +593,9 @@ static void put_digits(text *to, const uint8_t *bytes, size_t length) {
     put_hex(to, bytes, length);
 }
 
-/* A claim as a line has it. */
-static void put_claim(text *to, const state *s, const enforce_claim_row *c) {
-    put_digits(to, s->bytes + c->script_at, c->script_length), put(to, "/"), put_digits(to, s->bytes + c->program_at, c->program_length), put(to, "/"), put_hex(to, c->txid, sizeof c->txid);
-    put(to, "/%u/%llu/%zu/", c->index, (unsigned long long)c->value, c->path);
-    for (size_t i = 0; i < c->slots; i++) {
-        const enforce_slot_row *slot = s->slots + c->first_slot + i;
+static void put_slots(text *to, const state *s, size_t first, size_t count) {
+    for (size_t i = 0; i < count; i++) {
+        const enforce_slot_row *slot = s->slots + first + i;
         if (i) put(to, ",");
         switch (slot->kind) {
         case ENFORCE_SLOT_SIGNATURE: put(to, "s="), put_hex(to, slot->key, sizeof slot->key); break;
@@ -559,7 +607,18 @@ static void put_claim(text *to, const state *s, const enforce_claim_row *c) {
         default: put(to, "e="), put_digits(to, s->bytes + slot->bytes_at, slot->bytes_length);
         }
     }
-    put(to, "\n");
+}
+
+/* A claim as a line has it. */
+static void put_claim(text *to, const state *s, const enforce_claim_row *c) {
+    put_digits(to, s->bytes + c->script_at, c->script_length), put(to, "/"), put_digits(to, s->bytes + c->program_at, c->program_length), put(to, "/"), put_hex(to, c->txid, sizeof c->txid);
+    put(to, "/%u/%llu/%zu/", c->index, (unsigned long long)c->value, c->path);
+    put_slots(to, s, c->first_slot, c->slots), put(to, "\n");
+}
+
+static void put_notes(text *to, const state *s) {
+    put(to, "notes\n");
+    for (size_t i = 0; i < s->sizes.of[AT_ROWS]; i++) put(to, "note %u %zu\n", s->notes[i].kind, s->notes[i].at);
 }
 
 static void put_found(text *to, const state *s) {
@@ -574,8 +633,12 @@ static void put_found(text *to, const state *s) {
     put(to, "\n");
 }
 
+static void put_tx(text *to, const state *s) { put(to, "tx "), put_hex(to, s->bytes, s->sizes.of[AT_BYTES]), put(to, "\n"); }
+
+static void put_ids(text *to, const state *s) { put(to, "txid "), put_hex(to, s->txid, sizeof s->txid), put(to, " shown "), put_hex(to, s->shown_txid, sizeof s->shown_txid), put(to, "\n"); }
+
 static void put_spend(text *to, const state *s) {
-    put(to, "tx "), put_hex(to, s->bytes, s->sizes.of[AT_BYTES]), put(to, "\n");
+    put_tx(to, s), put(to, "weight %llu fee %llu\n", (unsigned long long)s->weight, (unsigned long long)s->fee_sat), put_ids(to, s);
     for (size_t i = 0; i < s->sizes.of[AT_ROWS]; i++) {
         const enforce_signature_row *row = s->signatures + i;
         put(to, "sign %zu %zu ", row->input, row->item), put_hex(to, row->key, sizeof row->key);
@@ -597,10 +660,15 @@ static void tell(work *w, const request *r, state *s, state *other) {
         put_status(to, s);
     } else if (is_named(r, "claim")) {
         put(to, "due %llu %u\n", (unsigned long long)s->due.height, s->due.sequence);
+    } else if (is_named(r, "notes")) {
+        put_notes(to, s);
+    } else if (is_named(r, "slots")) {
+        if (!s->sizes.of[AT_SLOTS]) put(to, "-");
+        put_slots(to, s, 0, s->sizes.of[AT_SLOTS]), put(to, "\n");
     } else if (is_named(r, "spend")) {
         put_spend(to, s);
     } else if (is_named(r, "finish")) {
-        put(to, "tx "), put_hex(to, s->bytes, s->sizes.of[AT_BYTES]), put(to, "\n");
+        put_tx(to, s), put_ids(to, s);
     } else if (finds(r)) {
         put_found(to, s);
     } else if (is_named(r, "list")) {
@@ -622,6 +690,12 @@ static void read_request(request *r, char *line) {
     *r = (request){.name = strtok_r(line, " ", &rest)};
     if (is_named(r, "form")) {
         read_form(r, &rest);
+    } else if (is_named(r, "slots")) {
+        r->length = read_hex(word(&rest, " "), r->bytes, sizeof r->bytes);
+        r->path = strtoull(word(&rest, " "), NULL, 10);
+        char *keys = word(&rest, " "), *preimages = word(&rest, " ");
+        read_each(r, keys, ",", read_key);
+        read_each(r, preimages, ",", read_preimage);
     } else if (is_named(r, "claim")) {
         read_claim(r, word(&rest, " "));
     } else if (is_named(r, "spend") || is_named(r, "finish")) {

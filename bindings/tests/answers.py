@@ -63,7 +63,12 @@ def output(text: str) -> enforce.Output:
 
 def spend(claims: str, outputs: str, preimages: str) -> str:
     found = enforce.unsigned_spend(list(map(claim, parts(claims, ";"))), list(map(output, parts(outputs, ";"))), list(map(data, parts(preimages, ","))))
-    return "\n".join([f"tx {found.tx.hex()}", *(f"sign {it.input} {it.item} {it.key.hex()} {it.digest.hex()}" for it in found.signatures)])
+    lines = [f"tx {found.tx.hex()}", f"weight {found.weight} fee {found.fee_sat}", ids(found)]
+    return "\n".join([*lines, *(f"sign {it.input} {it.item} {it.key.hex()} {it.digest.hex()}" for it in found.signatures)])
+
+
+def ids(found: Union[enforce.UnsignedSpend, enforce.Finished]) -> str:
+    return f"txid {found.txid.hex()} shown {found.shown_txid.hex()}"
 
 
 def signed(text: str) -> enforce.Signed:
@@ -73,7 +78,8 @@ def signed(text: str) -> enforce.Signed:
 
 def finish(claims: str, outputs: str, preimages: str, signatures: str) -> str:
     given = list(map(claim, parts(claims, ";"))), list(map(output, parts(outputs, ";"))), list(map(data, parts(preimages, ",")))
-    return f"tx {enforce.finish(*given, list(map(signed, parts(signatures, ',')))).hex()}"
+    found = enforce.finish(*given, list(map(signed, parts(signatures, ","))))
+    return f"tx {found.tx.hex()}\n{ids(found)}"
 
 
 def due_line(text: str) -> str:
@@ -123,17 +129,32 @@ def form_text(kind: int, given: List[bytes], expiry_height: int, delay_blocks: i
     first, second, third, payment_hash = given
     htlc_keys = {"revocation": first, "remote_htlc": second, "local_htlc": third, "payment_hash": payment_hash}
     makers = {
-        enforce.FormKind.FUNDING: lambda: enforce.Funding(own=first, peers=second),
-        enforce.FormKind.TO_LOCAL: lambda: enforce.ToLocal(revocation=first, delayed=second, delay_blocks=delay_blocks),
-        enforce.FormKind.KEY_HASH: lambda: enforce.KeyHash(key=first),
+        enforce.FormKind.FUNDING: lambda: enforce.Funding(peers=second, own=third),
+        enforce.FormKind.TO_LOCAL: lambda: enforce.ToLocal(revocation=first, delayed=third, delay_blocks=delay_blocks),
+        enforce.FormKind.KEY_HASH: lambda: enforce.KeyHash(key=second),
         enforce.FormKind.OFFERED: lambda: enforce.Offered(**htlc_keys),
         enforce.FormKind.RECEIVED: lambda: enforce.Received(**htlc_keys, expiry_height=expiry_height),
+        enforce.FormKind.OFFERED_WITH_ANCHORS: lambda: enforce.OfferedWithAnchors(**htlc_keys),
+        enforce.FormKind.RECEIVED_WITH_ANCHORS: lambda: enforce.ReceivedWithAnchors(**htlc_keys, expiry_height=expiry_height),
     }
     # no class has another kind
     return enforce.form_script(makers[kind]()).hex() if kind in makers else "refused NoSuchForm"
 
 
+def slots(script: str, path: str, keys: str, preimages: str) -> str:
+    found = enforce.path_slots(data(script), int(path), list(map(data, parts(keys, ","))), list(map(data, parts(preimages, ","))))
+    return ",".join(map(slot_text, found)) or "-"
+
+
+def notes(script: str) -> str:
+    return "\n".join(["notes", *(f"note {it.kind:d} {it.at}" for it in enforce.notes(data(script)))])
+
+
 def answer(name: str, *words: str) -> str:
+    if name == "slots":
+        return slots(*words)
+    if name == "notes":
+        return notes(*words)
     if name == "revoked":
         return revoked(*words)
     if name == "close":

@@ -21,7 +21,7 @@ sys.path.insert(0, TOP)
 from real.lib import plan as plans
 from real.lib import scripts, signatures
 from real.lib.curve import Recorded
-from real.lib.transaction import Digests, Input, Output, Transaction, read_transaction, sha256
+from real.lib.transaction import Digests, Input, Output, Transaction, hash160, read_transaction, sha256
 from real.tests import bolt3
 
 ROWS, RECORD = f"{TOP}/real/tests/rows.jsonl", f"{TOP}/real/tests/record.json"
@@ -45,6 +45,19 @@ def slot_of(key, item):
 
 def sign_line(index, place, key, digest):
     return f"sign {index} {place} {key.hex()} {digest.hex()}\n"
+
+
+def told_ids(whole):
+    """The line of a transaction's id, in both orders."""
+    txid = sha256(sha256(whole.stripped_bytes()))
+    return f"txid {txid.hex()} shown {txid[::-1].hex()}\n"
+
+
+def told_spend(whole, claimed, lines):
+    """What is told of a transaction before anybody signs, whose inputs are worth so much: its bytes, its weight with 73 bytes for each signature (BIP 141), its fee, its id, and the lines of the signatures."""
+    weight = 3 * len(whole.stripped_bytes()) + len(whole.bytes()) + 73 * len(lines)
+    fee = claimed - sum(it.value for it in whole.outputs)
+    return f"tx {whole.bytes().hex()}\nweight {weight} fee {fee}\n{told_ids(whole)}" + "".join(lines)
 
 
 class Claim:
@@ -134,7 +147,7 @@ def unsigned_transaction(transaction, inputs):
         for index, it in enumerate(inputs)
         for place in sorted(it.keys, reverse=True)
     ]
-    return whole, f"tx {whole.bytes().hex()}\n" + "".join(lines)
+    return whole, told_spend(whole, sum(it.spent.value for it in inputs), lines)
 
 
 def asked(claims, outputs, preimages):
@@ -159,12 +172,15 @@ def signatures_of(inputs):
 
 def finished(transaction, inputs):
     """The transaction that is made of the claims, with the signatures that were given: where all claims ask for what was signed, that of the signer."""
-    whole, _ = unsigned_transaction(transaction, inputs)
+    whole, told = unsigned_transaction(transaction, inputs)
+    weight = int(told.split("weight ")[1].split()[0])
     for made, it in zip(whole.inputs, inputs):
         made.witness = it.items + it.last
+    if not 0 <= weight - 3 * len(whole.stripped_bytes()) - len(whole.bytes()) <= 64 * len(signatures_of(inputs)):
+        raise SystemExit("library: the transaction has another weight than is told")
     if all(it.kind in AS_SIGNED for it in inputs) and whole.bytes() != transaction.bytes():
         raise SystemExit("library: the transaction that was finished is another one")
-    return f"tx {whole.bytes().hex()}\n"
+    return f"tx {whole.bytes().hex()}\n{told_ids(whole)}"
 
 
 def signed_spends():
@@ -181,6 +197,63 @@ def signed_spends():
             found[f"claim {it.claim.text()}"] = f"due {height} {sequence}\n"
             first.setdefault(it.kind, (it, transaction))
     return found, first
+
+
+def prepared(script, path, keys=(), preimages=()):
+    return f"slots {digits(script)} {path} {','.join(map(digits, keys)) or '-'} {','.join(preimages) or '-'}"
+
+
+def prepared_slots():
+    """The slots of what was signed, by the keys that signed and the preimages that were given; and those of paths that ask for more than is given."""
+    found = {}
+    for _, inputs in signed_inputs(Recorded.read(RECORD)):
+        for it in inputs:
+            # the key of a hash is an item of the witness
+            keys = [*dict.fromkeys([*it.keys.values(), *(item for item in it.items if len(item) == 33)])]
+            found[prepared(it.script, it.claim.path, keys, it.preimages())] = ",".join(it.claim.slots) + "\n"
+    one, two, three = (f"02{32 * byte}" for byte in ("11", "22", "33"))
+    choice = bytes.fromhex(f"5221{one}21{two}21{three}53ae")
+    hashed = bytes.fromhex("76a914") + hash160(bytes.fromhex(two)) + bytes.fromhex("88ac")
+    known = 32 * "07"
+    imaged = bytes.fromhex("82012088a914") + hash160(bytes.fromhex(known)) + bytes.fromhex("87")
+    signed = {it: f"s={it}" for it in (one, two, three)}
+    rows = [
+        (choice, 0, [], [], f"{signed[three]},{signed[two]},e=-"),
+        (choice, 0, [one], [], f"{signed[three]},{signed[one]},e=-"),
+        (choice, 0, [three, one], [], f"{signed[three]},{signed[one]},e=-"),
+        (choice, 0, [two, one], [], f"{signed[two]},{signed[one]},e=-"),
+        (hashed, 0, [one, two], [], f"e={two},{signed[two]}"),
+        (hashed, 0, [one], [], "refused Unmet 0"),
+        (imaged, 0, [], [32 * "08", known], f"p={sha256(bytes.fromhex(known)).hex()}"),
+        (imaged, 0, [], [32 * "08"], "refused Unmet 0"),
+        (bytes.fromhex("63516752 68".replace(" ", "")), 0, [], [], "e=01"),
+        (bytes.fromhex("6351675268"), 1, [], [], "e=-"),
+        (bytes.fromhex("6351675268"), 2, [], [], "refused NoSuchPath"),
+        (bytes.fromhex("51"), 0, [], [], "-"),
+        (bytes.fromhex("51"), 2**64 - 1, [], [], "refused NoSuchPath"),
+        (bytes.fromhex("ff"), 0, [], [], "refused BadOpcode 0"),
+        (bytes.fromhex("6351"), 0, [], [], "refused OpenBranch"),
+    ]
+    found.update({prepared(script, path, list(map(bytes.fromhex, keys)), shown): f"{told}\n" for script, path, keys, shown, told in rows})
+    return found
+
+
+def noted_scripts():
+    """Scripts by which others can spend, by which nobody can, and with branches that end by a stricter rule."""
+    key, hashed = f"21{KEY}ac", 20 * "07"
+    rows = {
+        "51": [(1, 0)],
+        "6351675268": [(1, 0), (1, 1)],
+        f"a914{hashed}87": [(2, 0)],
+        f"63a914{hashed}8767{key}68": [(2, 0)],
+        f"63{key}6751 68".replace(" ", ""): [(1, 1)],
+        key: [],
+        "6a": [(3, 0)],
+        f"41{65 * '04'}ac": [(4, 1)],
+        f"63{key}6741{65 * '04'}ac68": [(4, 5)],
+    }
+    found = {f"notes {script}": "notes\n" + "".join(f"note {kind} {at}\n" for kind, at in told) for script, told in rows.items()}
+    return {**found, "notes ff": "refused BadOpcode 0\n", "notes 6351": "refused OpenBranch\n"}
 
 
 def shown_plans():
@@ -202,7 +275,7 @@ def planned_claims(plan, paths):
         claims.append(Claim(it.script, it.output.program, given.outpoint, it.output.value, path, [slot_of(keys.get(place), items[place]) for place in places]))
         given.witness = [item or b"" for item in it.witness]
         lines += [sign_line(index, place, keys[place], each.digest) for place in places for each in it.wanted if each.item == place]
-    return claims, f"tx {whole.bytes().hex()}\n" + "".join(lines)
+    return claims, told_spend(whole, sum(it.output.value for it in plan.inputs), lines)
 
 
 def from_pages():
@@ -253,15 +326,15 @@ def refused_claims(first):
         ({"program": good.program[:-1] + bytes([good.program[-1] ^ 1])}, "WrongProgram"),
         ({"program": b""}, "WrongProgram"),
         ({"program": b"\x00\x14" + good.program[2:22]}, "WrongProgram"),
-        ({"path": 0}, "Unmet"),
-        ({"slots": changed_slots(slots, 1, f"s={KEY}")}, "Unmet"),
-        ({"slots": changed_slots(slots, 1, "e=-")}, "Unmet"),
-        ({"slots": changed_slots(slots, 1, f"p={32 * '00'}")}, "Unmet"),
-        ({"slots": changed_slots(slots, 1, f"e={520 * '00'}")}, "Unmet"),
-        ({"slots": changed_slots(slots, 1, f"e={521 * '00'}")}, "ItemTooLong"),
-        ({"slots": changed_slots(slots, 1, f"s=04{KEY[2:]}")}, "NotAKey"),
-        ({"slots": changed_slots(changed_slots(slots, 0, f"e={521 * '00'}"), 1, f"s=04{KEY[2:]}")}, "ItemTooLong"),
-        ({"slots": [f"s=01{KEY[2:]}"], "script": b"\xff"}, "NotAKey"),
+        ({"path": 0}, "Unmet 0"),
+        ({"slots": changed_slots(slots, 1, f"s={KEY}")}, "Unmet 1"),
+        ({"slots": changed_slots(slots, 1, "e=-")}, "Unmet 1"),
+        ({"slots": changed_slots(slots, 1, f"p={32 * '00'}")}, "Unmet 1"),
+        ({"slots": changed_slots(slots, 1, f"e={520 * '00'}")}, "Unmet 1"),
+        ({"slots": changed_slots(slots, 1, f"e={521 * '00'}")}, "ItemTooLong 1"),
+        ({"slots": changed_slots(slots, 1, f"s=04{KEY[2:]}")}, "NotAKey 1"),
+        ({"slots": changed_slots(changed_slots(slots, 0, f"e={521 * '00'}"), 1, f"s=04{KEY[2:]}")}, "ItemTooLong 0"),
+        ({"slots": [f"s=01{KEY[2:]}"], "script": b"\xff"}, "NotAKey 0"),
         ({"script": b"\xff"}, "BadOpcode 0"),
         ({"script": b"\x51\x02\x00", "path": 7}, "Truncated 1"),
         ({"script": bytes(10_001)}, "TooLong"),
@@ -285,28 +358,34 @@ def refused_spends(first):
     other = claim.changed_copy(outpoint=bytes(36))
     # SIZE 66 EQUALVERIFY KEY CHECKSIG measures the signature
     measured = lone_claim(f"8201428821{KEY}ac", [f"s={KEY}"])
+    # KEY CHECKSIG wants no preimage
+    without = lone_claim(f"21{KEY}ac", [f"s={KEY}"])
     program = outputs[0].program
     most, over = Output(claim.value, program), Output(claim.value + 1, program)
     faults = [
         ([], outputs, preimages, "NoInputs"),
         ([], [Output(MAX_MONEY + 1, program)], [], "NoInputs"),
-        ([claim, claim], outputs, preimages, "SameOutpoint"),
+        ([claim, claim], outputs, preimages, "SameOutpoint claim 1"),
         ([claim], [over], preimages, "OutputsExceed"),
         ([claim], [most, Output(1, b"")], preimages, "OutputsExceed"),
-        ([claim, claim], [Output(2 * claim.value + 1, program)], preimages, "SameOutpoint"),
+        ([claim, other, claim.changed_copy(value=1), other], [Output(2 * claim.value + 1, program)], preimages, "SameOutpoint claim 2"),
         ([claim, other], [Output(2 * claim.value + 1, program)], preimages, "OutputsExceed"),
-        ([measured], [], [], "MeasuredSignature"),
-        ([claim, measured], [], [], "MeasuredSignature"),
+        ([measured], [], [], "MeasuredSignature claim 0"),
+        ([claim, measured, measured.changed_copy(outpoint=bytes(36))], [], [], "MeasuredSignature claim 1"),
         ([claim], [over], [], "OutputsExceed"),
-        ([claim], outputs, [], "NoPreimage"),
-        ([claim], outputs, [32 * "07"], "NoPreimage"),
-        ([claim], [Output(MAX_MONEY + 1, program)], preimages, "ValueTooLarge"),
-        ([claim], [Output(MAX_MONEY + 1, bytes(10_001))], preimages, "ValueTooLarge"),
-        ([claim], [Output(MAX_MONEY, bytes(10_001))], preimages, "OverLimit"),
+        ([claim], outputs, [], "NoPreimage claim 0"),
+        ([without, other, claim], [], [], "NoPreimage claim 1"),
+        ([without, without.changed_copy(outpoint=bytes(36)), claim], [], [32 * "07"], "NoPreimage claim 2"),
+        ([claim], [Output(MAX_MONEY + 1, program)], preimages, "ValueTooLarge output 0"),
+        ([claim], [Output(MAX_MONEY + 1, bytes(10_001))], preimages, "ValueTooLarge output 0"),
+        ([claim], [most, Output(MAX_MONEY, bytes(10_001))], preimages, "OverLimit output 1"),
         ([claim], [Output(MAX_MONEY, bytes(10_000))], preimages, "OutputsExceed"),
-        ([claim.changed_copy(path=64)], [Output(MAX_MONEY + 1, program)], preimages, "ValueTooLarge"),
-        ([claim, other.changed_copy(path=64)], [over], preimages, "NoSuchPath"),
-        ([claim.changed_copy(slots=[]), other.changed_copy(path=64)], outputs, preimages, "WrongArity"),
+        ([claim.changed_copy(path=64)], [most, most, Output(MAX_MONEY + 1, program)], preimages, "ValueTooLarge output 2"),
+        ([claim, other.changed_copy(path=64)], [over], preimages, "NoSuchPath claim 1"),
+        ([claim.changed_copy(slots=[]), other.changed_copy(path=64)], outputs, preimages, "WrongArity claim 0"),
+        ([claim, other, measured.changed_copy(slots=[f"s=04{KEY[2:]}"])], outputs, preimages, "NotAKey 0 claim 2"),
+        ([claim, other.changed_copy(slots=changed_slots(claim.slots, 2, f"e={521 * '00'}"))], outputs, preimages, "ItemTooLong 2 claim 1"),
+        ([claim, other.changed_copy(script=b"\x51\x51\xff")], outputs, preimages, "BadOpcode 2 claim 1"),
     ]
     return {spend(claims, given, shown): f"refused {word}\n" for claims, given, shown, word in faults}
 
@@ -356,25 +435,25 @@ def refused_finishes(first):
     for item in STRICT:
         whole, _ = unsigned_transaction(transaction, [signed])
         whole.inputs[0].witness = [item if place == top else it for place, it in enumerate(signed.items)] + signed.last
-        found[finish(claims, outputs, preimages, [(0, top, item), late])] = f"tx {whole.bytes().hex()}\n"
-    cases = [([(0, top, item), late], f"NotDer 0 {top}") for item in NOT_STRICT]
-    cases += [([(0, top, first_item[:-1] + bytes([it])), late], f"NotSighashAll 0 {top}") for it in (0, 2, 3, 0x81, 0x82, 0x83, 0xFF)]
+        found[finish(claims, outputs, preimages, [(0, top, item), late])] = f"tx {whole.bytes().hex()}\n{told_ids(whole)}"
+    cases = [([(0, top, item), late], f"NotDer {top} input 0") for item in NOT_STRICT]
+    cases += [([(0, top, first_item[:-1] + bytes([it])), late], f"NotSighashAll {top} input 0") for it in (0, 2, 3, 0x81, 0x82, 0x83, 0xFF)]
     cases += [
-        ([], f"NoSignature 0 {top}"),
-        (given[:1], f"NoSignature 0 {below}"),
-        (given[1:], f"NoSignature 0 {top}"),
-        (given[::-1], f"NoSignature 0 {top}"),
-        ([given[0], given[0]], f"NoSignature 0 {below}"),
-        ([(1, top, first_item), late], f"NoSignature 0 {top}"),
-        ([(0, top + 1, first_item), late], f"NoSignature 0 {top}"),
-        ([*given, late], f"NotAsked 0 {below}"),
-        ([*given, (7, 9, b"")], "NotAsked 7 9"),
-        ([(0, top, b""), (0, below, b"")], f"NotDer 0 {top}"),
-        ([given[0], (0, below, second[:-1])], f"NotDer 0 {below}"),
+        ([], f"NoSignature {top} input 0"),
+        (given[:1], f"NoSignature {below} input 0"),
+        (given[1:], f"NoSignature {top} input 0"),
+        (given[::-1], f"NoSignature {top} input 0"),
+        ([given[0], given[0]], f"NoSignature {below} input 0"),
+        ([(1, top, first_item), late], f"NoSignature {top} input 0"),
+        ([(0, top + 1, first_item), late], f"NoSignature {top} input 0"),
+        ([*given, late], f"NotAsked {below} input 0"),
+        ([*given, (7, 9, b"")], "NotAsked 9 input 7"),
+        ([(0, top, b""), (0, below, b"")], f"NotDer {top} input 0"),
+        ([given[0], (0, below, second[:-1])], f"NotDer {below} input 0"),
     ]
     found.update({finish(claims, outputs, preimages, rows): f"refused {word}\n" for rows, word in cases})
     # the spend is refused before its signatures
-    before = [([], outputs, preimages, "NoInputs"), (claims, [Output(signed.claim.value + 1, outputs[0].program)], preimages, "OutputsExceed"), (claims, outputs, [], "NoPreimage")]
+    before = [([], outputs, preimages, "NoInputs"), (claims, [Output(signed.claim.value + 1, outputs[0].program)], preimages, "OutputsExceed"), (claims, outputs, [], "NoPreimage claim 0"), ([*claims, *claims], outputs, preimages, "SameOutpoint claim 1"), ([signed.claim.changed_copy(path=64)], outputs, preimages, "NoSuchPath claim 0")]
     found.update({finish(*spent, []): f"refused {word}\n" for *spent, word in before})
     return found
 
@@ -382,4 +461,4 @@ def refused_finishes(first):
 def wanted_answers():
     """Each line that callers read, with what they must print."""
     found, first = signed_spends()
-    return {**found, **from_pages(), **refused_claims(first), **refused_spends(first), **refused_finishes(first)}
+    return {**found, **prepared_slots(), **noted_scripts(), **from_pages(), **refused_claims(first), **refused_spends(first), **refused_finishes(first)}

@@ -15,7 +15,7 @@ from dataclasses import dataclass
 from typing import Callable, ClassVar, List, NamedTuple, Optional, Sequence, Tuple, Type, TypeVar, Union
 
 from . import raw
-from .kinds import SENTENCES, ChannelType, Direction, FactKind, FormKind, OutputKind, SlotKind, Status, Whose
+from .kinds import SENTENCES, About, ChannelType, Direction, FactKind, FormKind, NoteKind, OutputKind, SlotKind, Status, Whose
 
 
 class OtherAbi(ImportError):
@@ -38,9 +38,13 @@ def _load() -> ctypes.CDLL:
 _library = _load()
 
 # the refusals that carry a position or an index
-_NUMBERED = (Status.BAD_OPCODE, Status.TRUNCATED, Status.UNDECIDED, Status.NOT_A_COMMITMENT_KEY, Status.NO_SUCH_DIRECTION, Status.EXPIRY_TOO_LARGE)
-# those of signatures, which carry an input and an item
-_PLACED = (Status.NO_SIGNATURE, Status.SIGNATURE_OUT_OF_RANGE, Status.NOT_DER, Status.NOT_SIGHASH_ALL, Status.NOT_ASKED)
+_NUMBERED = (
+    *(Status.BAD_OPCODE, Status.TRUNCATED, Status.UNDECIDED, Status.UNMET, Status.NOT_A_KEY, Status.NO_SUCH_SLOT, Status.ITEM_TOO_LONG, Status.SLOT_OUT_OF_RANGE),
+    *(Status.NOT_A_COMMITMENT_KEY, Status.NO_SUCH_DIRECTION, Status.EXPIRY_TOO_LARGE),
+    *(Status.NO_SIGNATURE, Status.SIGNATURE_OUT_OF_RANGE, Status.NOT_DER, Status.NOT_SIGHASH_ALL, Status.NOT_ASKED),
+)
+# those whose number is a slot of a claim
+_SLOTS = (Status.UNMET, Status.NOT_A_KEY, Status.NO_SUCH_SLOT, Status.ITEM_TOO_LONG, Status.SLOT_OUT_OF_RANGE)
 
 
 class Refused(Exception):
@@ -53,13 +57,17 @@ class Refused(Exception):
     BAD_OPCODE 1 BadOpcode 1
     """
 
-    def __init__(self, status: int, number: int, item: int = 0) -> None:
+    def __init__(self, status: int, number: int, about: int = About.ALL, row: int = 0) -> None:
         self.status: Union[Status, int] = Status(status) if status in raw.NAMES else status
         self.name, self.sentence = raw.NAMES.get(status, "Unknown"), SENTENCES.get(self.status, "")
         self.number = number if status in _NUMBERED else None
-        # the item of an input's witness that a signature is for
-        self.input, self.item = (number, item) if status in _PLACED else (None, None)
-        super().__init__(" ".join([self.name, *(str(it) for it in (self.number, self.input, self.item) if it is not None)]))
+        self.claim, self.output, self.input = (row if about == it else None for it in (About.CLAIM, About.OUTPUT, About.SIGNATURE))
+        # the slot of the claim, and the item of the input's witness
+        self.slot = self.number if self.claim is not None and status in _SLOTS else None
+        self.item = self.number if self.input is not None else None
+        places = (("output", self.output), ("claim", self.claim), ("input", self.input))
+        told = [self.name, self.number, *(f"{name} {it}" for name, it in places if it is not None)]
+        super().__init__(" ".join(str(it) for it in told if it is not None))
 
 
 # the words of `enforce paths`
@@ -183,6 +191,29 @@ def text(script: bytes) -> str:
         size = answer.bytes
 
 
+class Note(NamedTuple):
+    """What of a script endangers money, and the index of the path or of the opcode that it is about."""
+
+    kind: NoteKind
+    at: int
+
+
+def notes(script: bytes) -> List[Note]:
+    """What of a script endangers money. Raises Refused.
+
+    Proved of enforce_script_notes: those on paths are all that there are, and where nobody can spend, none can by consensus.
+    """
+    answer, given, count = raw.NotesAnswer(), _buffer(script), 64
+    while True:
+        rows = (raw.NoteRow * count)()
+        status = _library.enforce_script_notes(given, len(script), rows, count, ctypes.byref(answer))
+        if status == raw.DONE:
+            return [Note(NoteKind(it.kind), it.at) for it in rows[: answer.notes]]
+        if status != raw.TOO_SMALL:
+            raise Refused(status, answer.number)
+        count = answer.notes
+
+
 def program(script: bytes) -> bytes:
     """The program that an output with this script has (BIP 141, P2WSH): 00, 20 and the script's SHA-256. Proved of enforce_script_program."""
     made = (ctypes.c_uint8 * 34)()
@@ -218,10 +249,9 @@ class KeyHash:
 
 
 @dataclass(frozen=True, kw_only=True)
-class Offered:
-    """An HTLC that the commitment's owner offered. "Local" is the owner, as in BOLT 3."""
+class _HtlcForm:
+    """What the script of each HTLC has. "Local" is the commitment's owner, as in BOLT 3."""
 
-    kind: ClassVar[FormKind] = FormKind.OFFERED
     revocation: bytes
     remote_htlc: bytes
     local_htlc: bytes
@@ -229,34 +259,52 @@ class Offered:
 
 
 @dataclass(frozen=True, kw_only=True)
-class Received:
+class Offered(_HtlcForm):
+    """An HTLC that the commitment's owner offered."""
+
+    kind: ClassVar[FormKind] = FormKind.OFFERED
+
+
+@dataclass(frozen=True, kw_only=True)
+class Received(_HtlcForm):
     """An HTLC that the commitment's owner received; the expiry is below 500,000,000."""
 
     kind: ClassVar[FormKind] = FormKind.RECEIVED
-    revocation: bytes
-    remote_htlc: bytes
-    local_htlc: bytes
-    payment_hash: bytes
     expiry_height: int
 
 
-Form = Union[Funding, ToLocal, KeyHash, Offered, Received]
-# which field of the row has a key
-_PLACES = {"own": "key", "peers": "other", "revocation": "key", "delayed": "other", "key": "key", "remote_htlc": "other", "local_htlc": "local", "payment_hash": "payment_hash"}
+@dataclass(frozen=True, kw_only=True)
+class OfferedWithAnchors(_HtlcForm):
+    """The same as Offered, in a channel with anchors."""
+
+    kind: ClassVar[FormKind] = FormKind.OFFERED_WITH_ANCHORS
+
+
+@dataclass(frozen=True, kw_only=True)
+class ReceivedWithAnchors(_HtlcForm):
+    """The same as Received, in a channel with anchors."""
+
+    kind: ClassVar[FormKind] = FormKind.RECEIVED_WITH_ANCHORS
+    expiry_height: int
+
+
+Form = Union[Funding, ToLocal, KeyHash, Offered, Received, OfferedWithAnchors, ReceivedWithAnchors]
+# the field of the row
+_PLACES = {"own": "local", "peers": "remote", "delayed": "local", "key": "remote", "remote_htlc": "remote", "local_htlc": "local"}
 _BITS = {"delay_blocks": 16, "expiry_height": 32}
 
 
 def form_script(form: Form) -> bytes:
     """The script of a form of BOLT 3. Raises Refused.
 
-    Proved of enforce_form_script: the script of BOLT 3, or the first refusal: a key without the form of one, in the order of the fields, then the expiry.
+    Proved of enforce_form_script: the script of BOLT 3, or the first refusal: a key without the form of one, of which the number is 0 for revocation, 1 for the remote one and 2 for the local one, then the expiry.
     """
     row, answer = raw.Form(kind=form.kind), raw.Answer()
     for name, value in vars(form).items():
         if name in _BITS:
             setattr(row, name, _number(value, _BITS[name], name))
         else:
-            _fill(getattr(row, _PLACES[name]), value, name)
+            _fill(getattr(row, _PLACES.get(name, name)), value, name)
     size = 256
     while True:
         script = (ctypes.c_uint8 * size)()
@@ -353,10 +401,27 @@ class MissingSignature:
 
 @dataclass(frozen=True)
 class UnsignedSpend:
-    """A transaction (BIP 144) with the empty item in the place of each signature, and the signatures that it lacks."""
+    """A transaction (BIP 144) with the empty item in the place of each signature, and the signatures that it lacks.
+
+    The weight is in weight units (BIP 141), once it is signed, at most: each signature counts as 73 bytes. The fee is in satoshis. The id is in the hash's own byte order, as a Claim has it, and as nodes and
+    explorers show it; signatures do not change it.
+    """
 
     tx: bytes
     signatures: Tuple[MissingSignature, ...]
+    weight: int
+    fee_sat: int
+    txid: bytes
+    shown_txid: bytes
+
+
+@dataclass(frozen=True)
+class Finished:
+    """A transaction (BIP 144) with its signatures, and its id, in both byte orders."""
+
+    tx: bytes
+    txid: bytes
+    shown_txid: bytes
 
 
 def _fill(field: "ctypes.Array[ctypes.c_uint8]", value: bytes, name: str) -> None:
@@ -405,7 +470,7 @@ class _Given:
         return _rows(raw.SlotRow, self.slots) + (_buffer(bytes(self.bytes)), len(self.bytes))
 
 
-_Row = TypeVar("_Row", raw.SlotRow, raw.ClaimRow, raw.OutputRow, raw.PreimageRow, raw.SignedRow, raw.HtlcRow)
+_Row = TypeVar("_Row", raw.SlotRow, raw.ClaimRow, raw.OutputRow, raw.PreimageRow, raw.SignedRow, raw.HtlcRow, raw.KeyRow)
 
 
 def _rows(kind: Type[_Row], rows: Sequence[_Row]) -> Tuple["ctypes.Array[_Row]", int]:
@@ -416,6 +481,39 @@ def _preimage(data: bytes) -> raw.PreimageRow:
     row = raw.PreimageRow()
     _fill(row.bytes, data, "a preimage")
     return row
+
+
+def _key(data: bytes) -> raw.KeyRow:
+    row = raw.KeyRow()
+    _fill(row.bytes, data, "a key")
+    return row
+
+
+def _slot(row: raw.SlotRow, data: "ctypes.Array[ctypes.c_uint8]") -> Slot:
+    """The slot of a row that a call wrote, with the bytes that it refers to."""
+    part = bytes(data[row.bytes_at : row.bytes_at + row.bytes_length])
+    if row.kind == raw.SLOT_SIGNATURE:
+        return Signature(bytes(row.key))
+    if row.kind == raw.SLOT_GIVEN:
+        return GivenSignature(bytes(row.key), bytes(row.hash), part)
+    return Preimage(bytes(row.hash)) if row.kind == raw.SLOT_PREIMAGE else Exact(part)
+
+
+def path_slots(script: bytes, path: int, keys: Sequence[bytes] = (), preimages: Sequence[bytes] = ()) -> Tuple[Slot, ...]:
+    """The slots that a path of a script asks for. The keys are those that the caller can sign with, the preimages those that it knows: they are wanted where the path asks for their hashes, or for a choice. Raises Refused.
+
+    Proved of enforce_path_slots: a claim with these slots is accepted.
+    """
+    answer, room, given, number = raw.SlotsAnswer(), (16, 1024), _buffer(script), _number(path, 64, "path")
+    known = *_rows(raw.KeyRow, [_key(it) for it in keys]), *_rows(raw.PreimageRow, [_preimage(it) for it in preimages])
+    while True:
+        slots, data = (raw.SlotRow * room[0])(), (ctypes.c_uint8 * room[1])()
+        status = _library.enforce_path_slots(given, len(script), number, *known, slots, room[0], data, room[1], ctypes.byref(answer))
+        if status == raw.DONE:
+            return tuple(_slot(it, data) for it in slots[: answer.slots])
+        if status != raw.TOO_SMALL:
+            raise Refused(status, answer.number)
+        room = answer.slots, answer.bytes
 
 
 def _signed(given: _Given, row: Signed) -> raw.SignedRow:
@@ -454,13 +552,13 @@ def unsigned_spend(claims: Sequence[Claim], outputs: Sequence[Output], preimages
         )
         if status == raw.DONE:
             found = tuple(MissingSignature(it.input, it.item, bytes(it.key), bytes(it.digest)) for it in signatures[: answer.signatures])
-            return UnsignedSpend(bytes(tx[: answer.bytes]), found)
+            return UnsignedSpend(bytes(tx[: answer.bytes]), found, answer.weight, answer.fee_sat, bytes(answer.txid), bytes(answer.shown_txid))
         if status != raw.TOO_SMALL:
-            raise Refused(status, answer.number)
+            raise Refused(status, answer.number, answer.about, answer.row)
         size, count = answer.bytes, answer.signatures
 
 
-def finish(claims: Sequence[Claim], outputs: Sequence[Output], preimages: Sequence[bytes], signed: Sequence[Signed]) -> bytes:
+def finish(claims: Sequence[Claim], outputs: Sequence[Output], preimages: Sequence[bytes], signed: Sequence[Signed]) -> Finished:
     """The transaction of unsigned_spend with signatures, one for each that it lacks, in their order. Raises Refused.
 
     Each is tested for its form and its place, and not for the curve: whether one is valid for its key, nothing here asks. Proved of enforce_finish: where each is the key's over the digest, each input runs clean.
@@ -473,9 +571,9 @@ def finish(claims: Sequence[Claim], outputs: Sequence[Output], preimages: Sequen
         tx = (ctypes.c_uint8 * size)()
         status = _library.enforce_finish(*rows[0], slots, slots_length, *rows[1], *secrets, *signatures, data, data_length, tx, size, ctypes.byref(answer))
         if status == raw.DONE:
-            return bytes(tx[: answer.bytes])
+            return Finished(bytes(tx[: answer.bytes]), bytes(answer.txid), bytes(answer.shown_txid))
         if status != raw.TOO_SMALL:
-            raise Refused(status, answer.number, answer.item)
+            raise Refused(status, answer.number, answer.about, answer.row)
         size = answer.bytes
 
 
@@ -557,16 +655,9 @@ class _Lists:
     def part(self, at: int, length: int) -> bytes:
         return bytes(self.bytes[at : at + length])
 
-    def slot(self, row: raw.SlotRow) -> Slot:
-        if row.kind == raw.SLOT_SIGNATURE:
-            return Signature(bytes(row.key))
-        if row.kind == raw.SLOT_GIVEN:
-            return GivenSignature(bytes(row.key), bytes(row.hash), self.part(row.bytes_at, row.bytes_length))
-        return Preimage(bytes(row.hash)) if row.kind == raw.SLOT_PREIMAGE else Exact(self.part(row.bytes_at, row.bytes_length))
-
     def claim(self, row: raw.ClaimRow) -> Claim:
         script, program = self.part(row.script_at, row.script_length), self.part(row.program_at, row.program_length)
-        slots = tuple(self.slot(it) for it in self.slots[row.first_slot : row.first_slot + row.slots])
+        slots = tuple(_slot(it, self.bytes) for it in self.slots[row.first_slot : row.first_slot + row.slots])
         return Claim(bytes(row.txid), row.index, row.value, script, program, row.path, slots)
 
     def arguments(self) -> Tuple[object, ...]:

@@ -2,6 +2,19 @@
 from enum import IntEnum
 
 
+class About(IntEnum):
+    """What a refusal is about."""
+
+    # The refusal is of the call as a whole.
+    ALL = 0
+    # It is of the output whose row has the index `row`.
+    OUTPUT = 1
+    # It is of the claim whose row has the index `row`. The number is what `enforce_claim` tells of it.
+    CLAIM = 2
+    # It is of a signature of the input `row`. The number is the index of its item.
+    SIGNATURE = 3
+
+
 class SlotKind(IntEnum):
     """How a claim fills a slot of its path."""
 
@@ -64,16 +77,37 @@ class OutputKind(IntEnum):
 class FormKind(IntEnum):
     """Which form of BOLT 3 it is."""
 
-    # A funding output: both keys, `key` and `other`, in whichever order.
+    # A funding output: both keys, `remote` and `local`, in whichever order.
     FUNDING = 1
-    # A to_local output: `key` revokes, or `other` after `delay_blocks`.
+    # A to_local output: `revocation` revokes, or `local`, which is local_delayedpubkey, after `delay_blocks`.
     TO_LOCAL = 2
-    # A to_remote output, P2WPKH of `key`: the script that it stands for.
+    # A to_remote output, P2WPKH of `remote`: the script that it stands for.
     KEY_HASH = 3
-    # An HTLC that the commitment's owner offered: `key` revokes, `other` is remote_htlcpubkey and `local` local_htlcpubkey.
+    # An HTLC that the commitment's owner offered: `revocation` revokes, `remote` is remote_htlcpubkey and `local` local_htlcpubkey.
     OFFERED = 4
     # An HTLC that the commitment's owner received, with the same keys, and `expiry_height`.
     RECEIVED = 5
+    # As `FORM_OFFERED`, in a channel with `option_anchors`.
+    OFFERED_WITH_ANCHORS = 6
+    # As `FORM_RECEIVED`, in a channel with `option_anchors`.
+    RECEIVED_WITH_ANCHORS = 7
+
+
+class NoteKind(IntEnum):
+    """What a note on a script says."""
+
+    # Anyone can spend by the path `at` once its locks have passed: it asks neither a signature of a key that the script fixes nor an item with a given hash.
+    ANYONE = 1
+    # Whoever knows an item with a given hash can spend by the path `at`: it asks no signature of a key that the script fixes, so who sees such a witness can spend too.
+    FINDER = 2
+    # No witness spends an output with the script, by consensus neither: what is paid to it is lost. `at` is 0.
+    NOBODY = 3
+    # A branch ends at the opcode of the index `at`, because a key there has not 33 bytes that begin with 02 or 03. By consensus others may spend by it.
+    STRICTER_KEY = 4
+    # A branch ends there, because a signature there is neither empty nor one that a key can give. By consensus others may spend by it.
+    STRICTER_SIGNATURE = 5
+    # A branch ends there, because a number there is not minimally encoded. By consensus others may spend by it.
+    STRICTER_NUMBER = 6
 
 
 class FactKind(IntEnum):
@@ -134,7 +168,7 @@ class Status(IntEnum):
     NO_SUCH_PATH = 0x301
     # The number of slots is not that of the path.
     WRONG_ARITY = 0x302
-    # The slots do not show a fact of the path.
+    # The slots do not show a fact of the path; the answer has the slot that it is about, 0 where that is the spend.
     UNMET = 0x303
     # The path asks for one fact with both polarities.
     CONTRADICTION = 0x304
@@ -144,7 +178,7 @@ class Status(IntEnum):
     WRONG_SHELL = 0x306
     # There is no form of this kind.
     NO_SUCH_FORM = 0x401
-    # Bytes that are to be a key do not have the form of one.
+    # Bytes that are to be a key do not have the form of one; the answer has which key of the form it is, from 0 for `revocation`, or the index of the slot.
     NOT_A_KEY = 0x402
     # The expiry is 500,000,000 or more, which is a time and not a height.
     NOT_A_HEIGHT = 0x403
@@ -174,12 +208,14 @@ class Status(IntEnum):
     TRAILING = 0x607
     # There are more than 4,000 claims or outputs, or the script of an output has more than 10,000 bytes; of a transaction that is given, a count is above its limit, or an input has a script.
     OVER_LIMIT = 0x608
-    # A row refers to bytes or to rows that are not there.
+    # The row of a claim refers to bytes or to rows that are not there, or the row of an output to bytes.
     OUT_OF_RANGE = 0x701
-    # There is no slot of this kind.
+    # There is no slot of this kind; the answer has the index of the slot.
     NO_SUCH_SLOT = 0x702
-    # The bytes of a slot are more than 520.
+    # The bytes of a slot are more than 520; the answer has the index of the slot.
     ITEM_TOO_LONG = 0x703
+    # The row of a slot refers to bytes that are not there; the answer has the index of the slot.
+    SLOT_OUT_OF_RANGE = 0x704
     # There is no type of channels of this kind.
     NO_SUCH_CHANNEL_TYPE = 0x801
     # Bytes that are to be a key of the commitment do not have the form of one; the answer has which of its fields it is, from 0.
@@ -190,15 +226,15 @@ class Status(IntEnum):
     EXPIRY_TOO_LARGE = 0x804
     # It is neither one's own commitment nor the peer's.
     NO_SUCH_CLOSE = 0x805
-    # A slot asks a signature, and the next one that is given is not of it; the answer has the input and the item that lack it.
+    # A slot asks a signature, and the next one that is given is not of it; the answer has the item that lacks it.
     NO_SIGNATURE = 0x901
-    # The row of a signature refers to bytes that are not there; the answer has its input and its item, as of the two below.
+    # The row of a signature refers to bytes that are not there; the answer has its item, as of the two below.
     SIGNATURE_OUT_OF_RANGE = 0x902
     # Bytes that are to be a signature are not in strict DER (BIP 66).
     NOT_DER = 0x903
     # The hash type of a signature is not ALL, the byte 01.
     NOT_SIGHASH_ALL = 0x904
-    # A signature is given after that of the last slot that asks one; the answer has the input and the item of its row.
+    # A signature is given after that of the last slot that asks one; the answer has the item of its row.
     NOT_ASKED = 0x905
 
 
@@ -217,12 +253,12 @@ SENTENCES = {
     Status.TOO_TALL: "A path needs more than 1,000 stack elements.",
     Status.NO_SUCH_PATH: "The script has no path of this index.",
     Status.WRONG_ARITY: "The number of slots is not that of the path.",
-    Status.UNMET: "The slots do not show a fact of the path.",
+    Status.UNMET: "The slots do not show a fact of the path; the answer has the slot that it is about, 0 where that is the spend.",
     Status.CONTRADICTION: "The path asks for one fact with both polarities.",
     Status.WRONG_PROGRAM: "The program is not that of the script.",
     Status.WRONG_SHELL: "The fixed transaction of a claim does not fit. No claim of these calls has one.",
     Status.NO_SUCH_FORM: "There is no form of this kind.",
-    Status.NOT_A_KEY: "Bytes that are to be a key do not have the form of one.",
+    Status.NOT_A_KEY: "Bytes that are to be a key do not have the form of one; the answer has which key of the form it is, from 0 for `revocation`, or the index of the slot.",
     Status.NOT_A_HEIGHT: "The expiry is 500,000,000 or more, which is a time and not a height.",
     Status.FIXED_TRANSACTION: "A claim has a fixed transaction. No claim of these calls has one.",
     Status.SAME_OUTPOINT: "Two claims spend the same outpoint.",
@@ -237,17 +273,18 @@ SENTENCES = {
     Status.VALUE_TOO_LARGE: "The value of an output is above 21,000,000 bitcoins.",
     Status.TRAILING: "There are bytes after the lock time of the transaction.",
     Status.OVER_LIMIT: "There are more than 4,000 claims or outputs, or the script of an output has more than 10,000 bytes; of a transaction that is given, a count is above its limit, or an input has a script.",
-    Status.OUT_OF_RANGE: "A row refers to bytes or to rows that are not there.",
-    Status.NO_SUCH_SLOT: "There is no slot of this kind.",
-    Status.ITEM_TOO_LONG: "The bytes of a slot are more than 520.",
+    Status.OUT_OF_RANGE: "The row of a claim refers to bytes or to rows that are not there, or the row of an output to bytes.",
+    Status.NO_SUCH_SLOT: "There is no slot of this kind; the answer has the index of the slot.",
+    Status.ITEM_TOO_LONG: "The bytes of a slot are more than 520; the answer has the index of the slot.",
+    Status.SLOT_OUT_OF_RANGE: "The row of a slot refers to bytes that are not there; the answer has the index of the slot.",
     Status.NO_SUCH_CHANNEL_TYPE: "There is no type of channels of this kind.",
     Status.NOT_A_COMMITMENT_KEY: "Bytes that are to be a key of the commitment do not have the form of one; the answer has which of its fields it is, from 0.",
     Status.NO_SUCH_DIRECTION: "There is no direction of this kind; the answer has the index of the HTLC.",
     Status.EXPIRY_TOO_LARGE: "The expiry of an HTLC is 500,000,000 or more, which is a time and not a height; the answer has the index of the HTLC.",
     Status.NO_SUCH_CLOSE: "It is neither one's own commitment nor the peer's.",
-    Status.NO_SIGNATURE: "A slot asks a signature, and the next one that is given is not of it; the answer has the input and the item that lack it.",
-    Status.SIGNATURE_OUT_OF_RANGE: "The row of a signature refers to bytes that are not there; the answer has its input and its item, as of the two below.",
+    Status.NO_SIGNATURE: "A slot asks a signature, and the next one that is given is not of it; the answer has the item that lacks it.",
+    Status.SIGNATURE_OUT_OF_RANGE: "The row of a signature refers to bytes that are not there; the answer has its item, as of the two below.",
     Status.NOT_DER: "Bytes that are to be a signature are not in strict DER (BIP 66).",
     Status.NOT_SIGHASH_ALL: "The hash type of a signature is not ALL, the byte 01.",
-    Status.NOT_ASKED: "A signature is given after that of the last slot that asks one; the answer has the input and the item of its row.",
+    Status.NOT_ASKED: "A signature is given after that of the last slot that asks one; the answer has the item of its row.",
 }

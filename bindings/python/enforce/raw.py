@@ -1,6 +1,15 @@
 """The exports of the library, its structs and its numbers. Drawn from crates/enforce_c/src by `bindings/library --write`: do not edit."""
 from ctypes import CDLL, POINTER, Structure, c_bool, c_size_t, c_uint8, c_uint16, c_uint32, c_uint64, sizeof
 
+# The refusal is of the call as a whole.
+ABOUT_ALL = 0x0
+# It is of the output whose row has the index `row`.
+ABOUT_OUTPUT = 0x1
+# It is of the claim whose row has the index `row`. The number is what `enforce_claim` tells of it.
+ABOUT_CLAIM = 0x2
+# It is of a signature of the input `row`. The number is the index of its item.
+ABOUT_SIGNATURE = 0x3
+
 # The slot is the signature of `key` over the spend.
 SLOT_SIGNATURE = 0x1
 # The slot is 32 bytes whose SHA-256 is `hash`.
@@ -37,16 +46,33 @@ OUTPUT_OWN_ANCHOR = 0x5
 # The peer's anchor.
 OUTPUT_PEERS_ANCHOR = 0x6
 
-# A funding output: both keys, `key` and `other`, in whichever order.
+# A funding output: both keys, `remote` and `local`, in whichever order.
 FORM_FUNDING = 0x1
-# A to_local output: `key` revokes, or `other` after `delay_blocks`.
+# A to_local output: `revocation` revokes, or `local`, which is local_delayedpubkey, after `delay_blocks`.
 FORM_TO_LOCAL = 0x2
-# A to_remote output, P2WPKH of `key`: the script that it stands for.
+# A to_remote output, P2WPKH of `remote`: the script that it stands for.
 FORM_KEY_HASH = 0x3
-# An HTLC that the commitment's owner offered: `key` revokes, `other` is remote_htlcpubkey and `local` local_htlcpubkey.
+# An HTLC that the commitment's owner offered: `revocation` revokes, `remote` is remote_htlcpubkey and `local` local_htlcpubkey.
 FORM_OFFERED = 0x4
 # An HTLC that the commitment's owner received, with the same keys, and `expiry_height`.
 FORM_RECEIVED = 0x5
+# As `FORM_OFFERED`, in a channel with `option_anchors`.
+FORM_OFFERED_WITH_ANCHORS = 0x6
+# As `FORM_RECEIVED`, in a channel with `option_anchors`.
+FORM_RECEIVED_WITH_ANCHORS = 0x7
+
+# Anyone can spend by the path `at` once its locks have passed: it asks neither a signature of a key that the script fixes nor an item with a given hash.
+NOTE_ANYONE = 0x1
+# Whoever knows an item with a given hash can spend by the path `at`: it asks no signature of a key that the script fixes, so who sees such a witness can spend too.
+NOTE_FINDER = 0x2
+# No witness spends an output with the script, by consensus neither: what is paid to it is lost. `at` is 0.
+NOTE_NOBODY = 0x3
+# A branch ends at the opcode of the index `at`, because a key there has not 33 bytes that begin with 02 or 03. By consensus others may spend by it.
+NOTE_STRICTER_KEY = 0x4
+# A branch ends there, because a signature there is neither empty nor one that a key can give. By consensus others may spend by it.
+NOTE_STRICTER_SIGNATURE = 0x5
+# A branch ends there, because a number there is not minimally encoded. By consensus others may spend by it.
+NOTE_STRICTER_NUMBER = 0x6
 
 # HASH160 of the slot is these 20 bytes.
 FACT_HASH = 0x1
@@ -99,7 +125,7 @@ TOO_TALL = 0x205
 NO_SUCH_PATH = 0x301
 # The number of slots is not that of the path.
 WRONG_ARITY = 0x302
-# The slots do not show a fact of the path.
+# The slots do not show a fact of the path; the answer has the slot that it is about, 0 where that is the spend.
 UNMET = 0x303
 # The path asks for one fact with both polarities.
 CONTRADICTION = 0x304
@@ -109,7 +135,7 @@ WRONG_PROGRAM = 0x305
 WRONG_SHELL = 0x306
 # There is no form of this kind.
 NO_SUCH_FORM = 0x401
-# Bytes that are to be a key do not have the form of one.
+# Bytes that are to be a key do not have the form of one; the answer has which key of the form it is, from 0 for `revocation`, or the index of the slot.
 NOT_A_KEY = 0x402
 # The expiry is 500,000,000 or more, which is a time and not a height.
 NOT_A_HEIGHT = 0x403
@@ -139,12 +165,14 @@ VALUE_TOO_LARGE = 0x606
 TRAILING = 0x607
 # There are more than 4,000 claims or outputs, or the script of an output has more than 10,000 bytes; of a transaction that is given, a count is above its limit, or an input has a script.
 OVER_LIMIT = 0x608
-# A row refers to bytes or to rows that are not there.
+# The row of a claim refers to bytes or to rows that are not there, or the row of an output to bytes.
 OUT_OF_RANGE = 0x701
-# There is no slot of this kind.
+# There is no slot of this kind; the answer has the index of the slot.
 NO_SUCH_SLOT = 0x702
-# The bytes of a slot are more than 520.
+# The bytes of a slot are more than 520; the answer has the index of the slot.
 ITEM_TOO_LONG = 0x703
+# The row of a slot refers to bytes that are not there; the answer has the index of the slot.
+SLOT_OUT_OF_RANGE = 0x704
 # There is no type of channels of this kind.
 NO_SUCH_CHANNEL_TYPE = 0x801
 # Bytes that are to be a key of the commitment do not have the form of one; the answer has which of its fields it is, from 0.
@@ -155,19 +183,19 @@ NO_SUCH_DIRECTION = 0x803
 EXPIRY_TOO_LARGE = 0x804
 # It is neither one's own commitment nor the peer's.
 NO_SUCH_CLOSE = 0x805
-# A slot asks a signature, and the next one that is given is not of it; the answer has the input and the item that lack it.
+# A slot asks a signature, and the next one that is given is not of it; the answer has the item that lacks it.
 NO_SIGNATURE = 0x901
-# The row of a signature refers to bytes that are not there; the answer has its input and its item, as of the two below.
+# The row of a signature refers to bytes that are not there; the answer has its item, as of the two below.
 SIGNATURE_OUT_OF_RANGE = 0x902
 # Bytes that are to be a signature are not in strict DER (BIP 66).
 NOT_DER = 0x903
 # The hash type of a signature is not ALL, the byte 01.
 NOT_SIGHASH_ALL = 0x904
-# A signature is given after that of the last slot that asks one; the answer has the input and the item of its row.
+# A signature is given after that of the last slot that asks one; the answer has the item of its row.
 NOT_ASKED = 0x905
 
 # What declarations mean together: it is raised whenever one changes its meaning.
-ABI = 0x4
+ABI = 0x5
 
 NAMES = {
     DONE: "Done",
@@ -206,6 +234,7 @@ NAMES = {
     OUT_OF_RANGE: "OutOfRange",
     NO_SUCH_SLOT: "NoSuchSlot",
     ITEM_TOO_LONG: "ItemTooLong",
+    SLOT_OUT_OF_RANGE: "SlotOutOfRange",
     NO_SUCH_CHANNEL_TYPE: "NoSuchChannelType",
     NOT_A_COMMITMENT_KEY: "NotACommitmentKey",
     NO_SUCH_DIRECTION: "NoSuchDirection",
@@ -328,26 +357,47 @@ class SignedRow(Structure):
 
 
 class FinishAnswer(Structure):
-    """What the call that finishes a transaction tells beside its status. Each call writes all of it: the number of bytes, whether or not they were written, and of a refusal the number that it carries, of a signature the indices of its input and of its item."""
+    """What the call that finishes a transaction tells beside its status. Each call writes all of it: of a transaction the number of bytes, whether or not they were written, and its id; of a refusal the number that it carries, and what it is about. The others are 0."""
 
     _fields_ = [
         ("bytes", c_size_t),
         ("number", c_size_t),
-        ("item", c_size_t),
+        ("row", c_size_t),
+        ("about", c_uint32),
+        ("txid", c_uint8 * 32),
+        ("shown_txid", c_uint8 * 32),
     ]
 
 
 class Form(Structure):
-    """A form of BOLT 3 with what its script has. A field that the kind does not name is not read."""
+    """A form of BOLT 3 with what its script has, where local is the commitment's owner and remote its peer. A field that the kind does not name is not read."""
 
     _fields_ = [
         ("kind", c_uint32),
         ("expiry_height", c_uint32),
         ("delay_blocks", c_uint16),
-        ("key", c_uint8 * 33),
-        ("other", c_uint8 * 33),
+        ("revocation", c_uint8 * 33),
+        ("remote", c_uint8 * 33),
         ("local", c_uint8 * 33),
         ("payment_hash", c_uint8 * 32),
+    ]
+
+
+class NoteRow(Structure):
+    """A note on a script."""
+
+    _fields_ = [
+        ("kind", c_uint32),
+        ("at", c_size_t),
+    ]
+
+
+class NotesAnswer(Structure):
+    """What the call that notes tells beside its status. Each call writes all of it: the rows that there are, whether or not they were written, and the number that a refusal carries."""
+
+    _fields_ = [
+        ("notes", c_size_t),
+        ("number", c_size_t),
     ]
 
 
@@ -393,6 +443,24 @@ class Answer(Structure):
     ]
 
 
+class KeyRow(Structure):
+    """A key that the caller can sign with."""
+
+    _fields_ = [
+        ("bytes", c_uint8 * 33),
+    ]
+
+
+class SlotsAnswer(Structure):
+    """What the call that prepares slots tells beside its status. Each call writes all of it: the rows and bytes that there are, whether or not they were written, and the number that a refusal carries."""
+
+    _fields_ = [
+        ("slots", c_size_t),
+        ("bytes", c_size_t),
+        ("number", c_size_t),
+    ]
+
+
 class OutputRow(Structure):
     """An output of a transaction."""
 
@@ -423,12 +491,18 @@ class SignatureRow(Structure):
 
 
 class SpendAnswer(Structure):
-    """What a call that makes a transaction tells beside its status. Each call writes all of it: the bytes and rows that there are, whether or not they were written, and the number that a refusal carries."""
+    """What a call that makes a transaction tells beside its status. Each call writes all of it: of a transaction the bytes and rows that there are, whether or not they were written, its greatest weight, its fee and its id; of a refusal the number that it carries, and what it is about. The others are 0."""
 
     _fields_ = [
         ("bytes", c_size_t),
         ("signatures", c_size_t),
         ("number", c_size_t),
+        ("row", c_size_t),
+        ("weight", c_uint64),
+        ("fee_sat", c_uint64),
+        ("about", c_uint32),
+        ("txid", c_uint8 * 32),
+        ("shown_txid", c_uint8 * 32),
     ]
 
 
@@ -442,15 +516,19 @@ LAYOUTS = {
     OtherRow: (8, [0, 4]),
     FoundAnswer: (40, [0, 8, 16, 24, 32]),
     SignedRow: (32, [0, 8, 16, 24]),
-    FinishAnswer: (24, [0, 8, 16]),
+    FinishAnswer: (96, [0, 8, 16, 24, 28, 60]),
     Form: (144, [0, 4, 8, 10, 43, 76, 109]),
+    NoteRow: (16, [0, 8]),
+    NotesAnswer: (16, [0, 8]),
     PathRow: (56, [0, 8, 16, 24, 32, 40, 48, 52, 53]),
     FactRow: (48, [0, 4, 5, 8, 16, 24, 32, 40]),
     Answer: (32, [0, 8, 16, 24]),
+    KeyRow: (33, [0]),
+    SlotsAnswer: (24, [0, 8, 16]),
     OutputRow: (24, [0, 8, 16]),
     PreimageRow: (32, [0]),
     SignatureRow: (88, [0, 8, 16, 49]),
-    SpendAnswer: (24, [0, 8, 16]),
+    SpendAnswer: (120, [0, 8, 16, 24, 32, 40, 48, 52, 84]),
 }
 
 
@@ -462,6 +540,12 @@ def declare(library: CDLL) -> None:
     # proved: AnswersListing script.now (record { paths = paths.old; facts = facts.old; bytes = bytes.old }) (record { status = result; answer = answer.new; rows = record { paths = paths.new; facts = facts.new; bytes = bytes.new } }) (crates/enforce_c/specs/Listed.antt)
     library.enforce_script_list.argtypes = [POINTER(c_uint8), c_size_t, POINTER(PathRow), c_size_t, POINTER(FactRow), c_size_t, POINTER(c_uint8), c_size_t, POINTER(Answer)]
     library.enforce_script_list.restype = c_uint32
+    # proved: AnswersNotes script.now notes.old (record { status = result; answer = answer.new; notes = notes.new }) (crates/enforce_c/specs/Noted.antt)
+    library.enforce_script_notes.argtypes = [POINTER(c_uint8), c_size_t, POINTER(NoteRow), c_size_t, POINTER(NotesAnswer)]
+    library.enforce_script_notes.restype = c_uint32
+    # proved: AnswersSlots script.now path keys.now preimages.now (record { slots = slots.old; bytes = bytes.old }) (record { status = result; answer = answer.new; lists = record { slots = slots.new; bytes = bytes.new } }) (crates/enforce_c/specs/Prepared.antt)
+    library.enforce_path_slots.argtypes = [POINTER(c_uint8), c_size_t, c_size_t, POINTER(KeyRow), c_size_t, POINTER(PreimageRow), c_size_t, POINTER(SlotRow), c_size_t, POINTER(c_uint8), c_size_t, POINTER(SlotsAnswer)]
+    library.enforce_path_slots.restype = c_uint32
     # proved: AnswersText script.now text.old (record { status = result; answer = answer.new; bytes = text.new }) (crates/enforce_c/specs/Listed.antt)
     library.enforce_script_text.argtypes = [POINTER(c_uint8), c_size_t, POINTER(c_uint8), c_size_t, POINTER(Answer)]
     library.enforce_script_text.restype = c_uint32

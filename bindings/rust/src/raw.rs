@@ -1,6 +1,15 @@
 //! Drawn from crates/enforce_c/src by `bindings/library --write`: do not edit.
 //! The exports of the library, its structs and its numbers.
 
+/// The refusal is of the call as a whole.
+pub const ABOUT_ALL: u32 = 0x0;
+/// It is of the output whose row has the index `row`.
+pub const ABOUT_OUTPUT: u32 = 0x1;
+/// It is of the claim whose row has the index `row`. The number is what `enforce_claim` tells of it.
+pub const ABOUT_CLAIM: u32 = 0x2;
+/// It is of a signature of the input `row`. The number is the index of its item.
+pub const ABOUT_SIGNATURE: u32 = 0x3;
+
 /// The slot is the signature of `key` over the spend.
 pub const SLOT_SIGNATURE: u32 = 0x1;
 /// The slot is 32 bytes whose SHA-256 is `hash`.
@@ -37,16 +46,33 @@ pub const OUTPUT_OWN_ANCHOR: u32 = 0x5;
 /// The peer's anchor.
 pub const OUTPUT_PEERS_ANCHOR: u32 = 0x6;
 
-/// A funding output: both keys, `key` and `other`, in whichever order.
+/// A funding output: both keys, `remote` and `local`, in whichever order.
 pub const FORM_FUNDING: u32 = 0x1;
-/// A to_local output: `key` revokes, or `other` after `delay_blocks`.
+/// A to_local output: `revocation` revokes, or `local`, which is local_delayedpubkey, after `delay_blocks`.
 pub const FORM_TO_LOCAL: u32 = 0x2;
-/// A to_remote output, P2WPKH of `key`: the script that it stands for.
+/// A to_remote output, P2WPKH of `remote`: the script that it stands for.
 pub const FORM_KEY_HASH: u32 = 0x3;
-/// An HTLC that the commitment's owner offered: `key` revokes, `other` is remote_htlcpubkey and `local` local_htlcpubkey.
+/// An HTLC that the commitment's owner offered: `revocation` revokes, `remote` is remote_htlcpubkey and `local` local_htlcpubkey.
 pub const FORM_OFFERED: u32 = 0x4;
 /// An HTLC that the commitment's owner received, with the same keys, and `expiry_height`.
 pub const FORM_RECEIVED: u32 = 0x5;
+/// As `FORM_OFFERED`, in a channel with `option_anchors`.
+pub const FORM_OFFERED_WITH_ANCHORS: u32 = 0x6;
+/// As `FORM_RECEIVED`, in a channel with `option_anchors`.
+pub const FORM_RECEIVED_WITH_ANCHORS: u32 = 0x7;
+
+/// Anyone can spend by the path `at` once its locks have passed: it asks neither a signature of a key that the script fixes nor an item with a given hash.
+pub const NOTE_ANYONE: u32 = 0x1;
+/// Whoever knows an item with a given hash can spend by the path `at`: it asks no signature of a key that the script fixes, so who sees such a witness can spend too.
+pub const NOTE_FINDER: u32 = 0x2;
+/// No witness spends an output with the script, by consensus neither: what is paid to it is lost. `at` is 0.
+pub const NOTE_NOBODY: u32 = 0x3;
+/// A branch ends at the opcode of the index `at`, because a key there has not 33 bytes that begin with 02 or 03. By consensus others may spend by it.
+pub const NOTE_STRICTER_KEY: u32 = 0x4;
+/// A branch ends there, because a signature there is neither empty nor one that a key can give. By consensus others may spend by it.
+pub const NOTE_STRICTER_SIGNATURE: u32 = 0x5;
+/// A branch ends there, because a number there is not minimally encoded. By consensus others may spend by it.
+pub const NOTE_STRICTER_NUMBER: u32 = 0x6;
 
 /// HASH160 of the slot is these 20 bytes.
 pub const FACT_HASH: u32 = 0x1;
@@ -99,7 +125,7 @@ pub const TOO_TALL: u32 = 0x205;
 pub const NO_SUCH_PATH: u32 = 0x301;
 /// The number of slots is not that of the path.
 pub const WRONG_ARITY: u32 = 0x302;
-/// The slots do not show a fact of the path.
+/// The slots do not show a fact of the path; the answer has the slot that it is about, 0 where that is the spend.
 pub const UNMET: u32 = 0x303;
 /// The path asks for one fact with both polarities.
 pub const CONTRADICTION: u32 = 0x304;
@@ -109,7 +135,7 @@ pub const WRONG_PROGRAM: u32 = 0x305;
 pub const WRONG_SHELL: u32 = 0x306;
 /// There is no form of this kind.
 pub const NO_SUCH_FORM: u32 = 0x401;
-/// Bytes that are to be a key do not have the form of one.
+/// Bytes that are to be a key do not have the form of one; the answer has which key of the form it is, from 0 for `revocation`, or the index of the slot.
 pub const NOT_A_KEY: u32 = 0x402;
 /// The expiry is 500,000,000 or more, which is a time and not a height.
 pub const NOT_A_HEIGHT: u32 = 0x403;
@@ -139,12 +165,14 @@ pub const VALUE_TOO_LARGE: u32 = 0x606;
 pub const TRAILING: u32 = 0x607;
 /// There are more than 4,000 claims or outputs, or the script of an output has more than 10,000 bytes; of a transaction that is given, a count is above its limit, or an input has a script.
 pub const OVER_LIMIT: u32 = 0x608;
-/// A row refers to bytes or to rows that are not there.
+/// The row of a claim refers to bytes or to rows that are not there, or the row of an output to bytes.
 pub const OUT_OF_RANGE: u32 = 0x701;
-/// There is no slot of this kind.
+/// There is no slot of this kind; the answer has the index of the slot.
 pub const NO_SUCH_SLOT: u32 = 0x702;
-/// The bytes of a slot are more than 520.
+/// The bytes of a slot are more than 520; the answer has the index of the slot.
 pub const ITEM_TOO_LONG: u32 = 0x703;
+/// The row of a slot refers to bytes that are not there; the answer has the index of the slot.
+pub const SLOT_OUT_OF_RANGE: u32 = 0x704;
 /// There is no type of channels of this kind.
 pub const NO_SUCH_CHANNEL_TYPE: u32 = 0x801;
 /// Bytes that are to be a key of the commitment do not have the form of one; the answer has which of its fields it is, from 0.
@@ -155,19 +183,19 @@ pub const NO_SUCH_DIRECTION: u32 = 0x803;
 pub const EXPIRY_TOO_LARGE: u32 = 0x804;
 /// It is neither one's own commitment nor the peer's.
 pub const NO_SUCH_CLOSE: u32 = 0x805;
-/// A slot asks a signature, and the next one that is given is not of it; the answer has the input and the item that lack it.
+/// A slot asks a signature, and the next one that is given is not of it; the answer has the item that lacks it.
 pub const NO_SIGNATURE: u32 = 0x901;
-/// The row of a signature refers to bytes that are not there; the answer has its input and its item, as of the two below.
+/// The row of a signature refers to bytes that are not there; the answer has its item, as of the two below.
 pub const SIGNATURE_OUT_OF_RANGE: u32 = 0x902;
 /// Bytes that are to be a signature are not in strict DER (BIP 66).
 pub const NOT_DER: u32 = 0x903;
 /// The hash type of a signature is not ALL, the byte 01.
 pub const NOT_SIGHASH_ALL: u32 = 0x904;
-/// A signature is given after that of the last slot that asks one; the answer has the input and the item of its row.
+/// A signature is given after that of the last slot that asks one; the answer has the item of its row.
 pub const NOT_ASKED: u32 = 0x905;
 
 /// What declarations mean together: it is raised whenever one changes its meaning.
-pub const ABI: u32 = 0x4;
+pub const ABI: u32 = 0x5;
 
 /// How a claim fills a slot of its path. A field that the kind does not name is not read.
 #[repr(C)]
@@ -389,23 +417,33 @@ const _: () = {
     assert!(core::mem::offset_of!(SignedRow, bytes_length) == 24);
 };
 
-/// What the call that finishes a transaction tells beside its status. Each call writes all of it: the number of bytes, whether or not they were written, and of a refusal the number that it carries, of a signature the indices of its input and of its item.
+/// What the call that finishes a transaction tells beside its status. Each call writes all of it: of a transaction the number of bytes, whether or not they were written, and its id; of a refusal the number that it carries, and what it is about. The others are 0.
 #[repr(C)]
 #[derive(Clone, Copy, Debug, PartialEq, Eq)]
 pub struct FinishAnswer {
     pub bytes: usize,
     pub number: usize,
-    pub item: usize,
+    /// The index of the row that the refusal is about, of a signature the index of its input.
+    pub row: usize,
+    /// One of the kinds of what a refusal is about.
+    pub about: u32,
+    /// The id of the transaction, in the hash's own byte order, as rows of claims have it.
+    pub txid: [u8; 32],
+    /// The same in the other order, as nodes and explorers show it.
+    pub shown_txid: [u8; 32],
 }
 
 const _: () = {
-    assert!(size_of::<FinishAnswer>() == 24);
+    assert!(size_of::<FinishAnswer>() == 96);
     assert!(core::mem::offset_of!(FinishAnswer, bytes) == 0);
     assert!(core::mem::offset_of!(FinishAnswer, number) == 8);
-    assert!(core::mem::offset_of!(FinishAnswer, item) == 16);
+    assert!(core::mem::offset_of!(FinishAnswer, row) == 16);
+    assert!(core::mem::offset_of!(FinishAnswer, about) == 24);
+    assert!(core::mem::offset_of!(FinishAnswer, txid) == 28);
+    assert!(core::mem::offset_of!(FinishAnswer, shown_txid) == 60);
 };
 
-/// A form of BOLT 3 with what its script has. A field that the kind does not name is not read.
+/// A form of BOLT 3 with what its script has, where local is the commitment's owner and remote its peer. A field that the kind does not name is not read.
 #[repr(C)]
 #[derive(Clone, Copy, Debug, PartialEq, Eq)]
 pub struct Form {
@@ -415,8 +453,11 @@ pub struct Form {
     pub expiry_height: u32,
     /// to_self_delay.
     pub delay_blocks: u16,
-    pub key: [u8; 33],
-    pub other: [u8; 33],
+    /// revocationpubkey.
+    pub revocation: [u8; 33],
+    /// A key of the owner's peer.
+    pub remote: [u8; 33],
+    /// A key of the owner.
     pub local: [u8; 33],
     pub payment_hash: [u8; 32],
 }
@@ -426,10 +467,40 @@ const _: () = {
     assert!(core::mem::offset_of!(Form, kind) == 0);
     assert!(core::mem::offset_of!(Form, expiry_height) == 4);
     assert!(core::mem::offset_of!(Form, delay_blocks) == 8);
-    assert!(core::mem::offset_of!(Form, key) == 10);
-    assert!(core::mem::offset_of!(Form, other) == 43);
+    assert!(core::mem::offset_of!(Form, revocation) == 10);
+    assert!(core::mem::offset_of!(Form, remote) == 43);
     assert!(core::mem::offset_of!(Form, local) == 76);
     assert!(core::mem::offset_of!(Form, payment_hash) == 109);
+};
+
+/// A note on a script.
+#[repr(C)]
+#[derive(Clone, Copy, Debug, PartialEq, Eq)]
+pub struct NoteRow {
+    /// One of the kinds of notes.
+    pub kind: u32,
+    /// The index of the path or of the opcode that it is about.
+    pub at: usize,
+}
+
+const _: () = {
+    assert!(size_of::<NoteRow>() == 16);
+    assert!(core::mem::offset_of!(NoteRow, kind) == 0);
+    assert!(core::mem::offset_of!(NoteRow, at) == 8);
+};
+
+/// What the call that notes tells beside its status. Each call writes all of it: the rows that there are, whether or not they were written, and the number that a refusal carries.
+#[repr(C)]
+#[derive(Clone, Copy, Debug, PartialEq, Eq)]
+pub struct NotesAnswer {
+    pub notes: usize,
+    pub number: usize,
+}
+
+const _: () = {
+    assert!(size_of::<NotesAnswer>() == 16);
+    assert!(core::mem::offset_of!(NotesAnswer, notes) == 0);
+    assert!(core::mem::offset_of!(NotesAnswer, number) == 8);
 };
 
 /// A way through a script. Its facts are the rows from `first_fact` on, `facts` of them.
@@ -519,6 +590,35 @@ const _: () = {
     assert!(core::mem::offset_of!(Answer, number) == 24);
 };
 
+/// A key that the caller can sign with.
+#[repr(C)]
+#[derive(Clone, Copy, Debug, PartialEq, Eq)]
+pub struct KeyRow {
+    /// A compressed public key.
+    pub bytes: [u8; 33],
+}
+
+const _: () = {
+    assert!(size_of::<KeyRow>() == 33);
+    assert!(core::mem::offset_of!(KeyRow, bytes) == 0);
+};
+
+/// What the call that prepares slots tells beside its status. Each call writes all of it: the rows and bytes that there are, whether or not they were written, and the number that a refusal carries.
+#[repr(C)]
+#[derive(Clone, Copy, Debug, PartialEq, Eq)]
+pub struct SlotsAnswer {
+    pub slots: usize,
+    pub bytes: usize,
+    pub number: usize,
+}
+
+const _: () = {
+    assert!(size_of::<SlotsAnswer>() == 24);
+    assert!(core::mem::offset_of!(SlotsAnswer, slots) == 0);
+    assert!(core::mem::offset_of!(SlotsAnswer, bytes) == 8);
+    assert!(core::mem::offset_of!(SlotsAnswer, number) == 16);
+};
+
 /// An output of a transaction.
 #[repr(C)]
 #[derive(Clone, Copy, Debug, PartialEq, Eq)]
@@ -572,20 +672,38 @@ const _: () = {
     assert!(core::mem::offset_of!(SignatureRow, digest) == 49);
 };
 
-/// What a call that makes a transaction tells beside its status. Each call writes all of it: the bytes and rows that there are, whether or not they were written, and the number that a refusal carries.
+/// What a call that makes a transaction tells beside its status. Each call writes all of it: of a transaction the bytes and rows that there are, whether or not they were written, its greatest weight, its fee and its id; of a refusal the number that it carries, and what it is about. The others are 0.
 #[repr(C)]
 #[derive(Clone, Copy, Debug, PartialEq, Eq)]
 pub struct SpendAnswer {
     pub bytes: usize,
     pub signatures: usize,
     pub number: usize,
+    /// The index of the row that the refusal is about.
+    pub row: usize,
+    /// In weight units (BIP 141): what the transaction has at most once it is signed, with 73 bytes for each signature, 72 of DER and the hash type. Where it lacks none, it has just this. 2^64 - 1 stands for more.
+    pub weight: u64,
+    /// In satoshis: what the claimed outputs are worth, less the outputs. 2^64 - 1 stands for more.
+    pub fee_sat: u64,
+    /// One of the kinds of what a refusal is about.
+    pub about: u32,
+    /// The id of the transaction, signed or not, in the hash's own byte order, as rows of claims have it.
+    pub txid: [u8; 32],
+    /// The same in the other order, as nodes and explorers show it.
+    pub shown_txid: [u8; 32],
 }
 
 const _: () = {
-    assert!(size_of::<SpendAnswer>() == 24);
+    assert!(size_of::<SpendAnswer>() == 120);
     assert!(core::mem::offset_of!(SpendAnswer, bytes) == 0);
     assert!(core::mem::offset_of!(SpendAnswer, signatures) == 8);
     assert!(core::mem::offset_of!(SpendAnswer, number) == 16);
+    assert!(core::mem::offset_of!(SpendAnswer, row) == 24);
+    assert!(core::mem::offset_of!(SpendAnswer, weight) == 32);
+    assert!(core::mem::offset_of!(SpendAnswer, fee_sat) == 40);
+    assert!(core::mem::offset_of!(SpendAnswer, about) == 48);
+    assert!(core::mem::offset_of!(SpendAnswer, txid) == 52);
+    assert!(core::mem::offset_of!(SpendAnswer, shown_txid) == 84);
 };
 
 unsafe extern "C" {
@@ -597,6 +715,14 @@ unsafe extern "C" {
     ///
     /// Proved: `AnswersListing script.now (record { paths = paths.old; facts = facts.old; bytes = bytes.old }) (record { status = result; answer = answer.new; rows = record { paths = paths.new; facts = facts.new; bytes = bytes.new } }) (crates/enforce_c/specs/Listed.antt)`
     pub fn enforce_script_list(script: *const u8, script_length: usize, paths: *mut PathRow, paths_length: usize, facts: *mut FactRow, facts_length: usize, bytes: *mut u8, bytes_length: usize, answer: *mut Answer) -> u32;
+    /// Notes what of a script endangers money: the paths that others can take, in their order, that nobody can spend, by consensus neither, and the branches that end by a rule that consensus has not, by which others may spend. The statuses of refusals are those of families 1 and 2, and `TOO_SMALL`.
+    ///
+    /// Proved: `AnswersNotes script.now notes.old (record { status = result; answer = answer.new; notes = notes.new }) (crates/enforce_c/specs/Noted.antt)`
+    pub fn enforce_script_notes(script: *const u8, script_length: usize, notes: *mut NoteRow, notes_length: usize, answer: *mut NotesAnswer) -> u32;
+    /// Prepares the slots of a claim by a path of a script: a row for each, the top of the stack first, and the bytes that they refer to, from 0. A signature is asked by its key, bytes that the path fixes are told, and the item of a hash is the key or the preimage that is given with it. Of a choice of keys those are taken that are given, else the last ones. A claim with these slots is accepted: whatever fills them so meets the path. Where it is not, a slot is asked for what is not given, or for what no row can say. The statuses of refusals are those of families 1, 2 and 3, in this order: the script, its listing, the path, and the claim, with the slot of the first fact that is not met; and `TOO_SMALL` if one of the two buffers is too short.
+    ///
+    /// Proved: `AnswersSlots script.now path keys.now preimages.now (record { slots = slots.old; bytes = bytes.old }) (record { status = result; answer = answer.new; lists = record { slots = slots.new; bytes = bytes.new } }) (crates/enforce_c/specs/Prepared.antt)`
+    pub fn enforce_path_slots(script: *const u8, script_length: usize, path: usize, keys: *const KeyRow, keys_length: usize, preimages: *const PreimageRow, preimages_length: usize, slots: *mut SlotRow, slots_length: usize, bytes: *mut u8, bytes_length: usize, answer: *mut SlotsAnswer) -> u32;
     /// Writes the text of `enforce paths` on this script, in ASCII, without notes. Its length is the answer's `bytes`. The statuses of refusals are those of families 1 and 2, and `TOO_SMALL`.
     ///
     /// Proved: `AnswersText script.now text.old (record { status = result; answer = answer.new; bytes = text.new }) (crates/enforce_c/specs/Listed.antt)`
@@ -613,7 +739,7 @@ unsafe extern "C" {
     ///
     /// Proved: `AnswersClaim claim.now slots.now bytes.now due.old (record { status = result; answer = answer.new; due = due.new }) (crates/enforce_c/specs/Claimed.antt)`
     pub fn enforce_claim(claim: *const ClaimRow, slots: *const SlotRow, slots_length: usize, bytes: *const u8, bytes_length: usize, due: *mut Due, answer: *mut Answer) -> u32;
-    /// Writes the transaction that spends the outputs of claims, in which nothing is signed, and the signatures that it lacks. It has version 2, the claims' inputs in their order with their sequences, and these outputs. Its lock time is the greatest height that a claim needs. The empty item stands in the place of each signature, and after a signature in its item comes the byte 01 (SIGHASH_ALL). The statuses of refusals are `NO_INPUTS` and `OVER_LIMIT` by the numbers of rows, then those of each output and of each claim in their order, then family 5, then `NO_WITNESS`; and `TOO_SMALL` if one of the two buffers is too short.
+    /// Writes the transaction that spends the outputs of claims, in which nothing is signed, and the signatures that it lacks. The answer has its weight, fee and id. It has version 2, the claims' inputs in their order with their sequences, and these outputs. Its lock time is the greatest height that a claim needs. The empty item stands in the place of each signature, and after a signature in its item comes the byte 01 (SIGHASH_ALL). The statuses of refusals are `NO_INPUTS` and `OVER_LIMIT` by the numbers of rows, then those of each output and of each claim in their order, then family 5, then `NO_WITNESS`; and `TOO_SMALL` if one of the two buffers is too short. The answer names the output or the claim that a refusal is of.
     ///
     /// Proved: `AnswersSpend (record { claims = claims.now; slots = slots.now; outputs = outputs.now; bytes = bytes.now }) (preimages_in preimages.now) (record { bytes = tx.old; signatures = signatures.old }) (record { status = result; answer = answer.new; lists = record { bytes = tx.new; signatures = signatures.new } }) (crates/enforce_c/specs/Spent.antt)`
     pub fn enforce_unsigned_spend(claims: *const ClaimRow, claims_length: usize, slots: *const SlotRow, slots_length: usize, outputs: *const OutputRow, outputs_length: usize, preimages: *const PreimageRow, preimages_length: usize, bytes: *const u8, bytes_length: usize, tx: *mut u8, tx_length: usize, signatures: *mut SignatureRow, signatures_length: usize, answer: *mut SpendAnswer) -> u32;
@@ -670,6 +796,7 @@ pub fn name(status: u32) -> &'static str {
         OUT_OF_RANGE => "OutOfRange",
         NO_SUCH_SLOT => "NoSuchSlot",
         ITEM_TOO_LONG => "ItemTooLong",
+        SLOT_OUT_OF_RANGE => "SlotOutOfRange",
         NO_SUCH_CHANNEL_TYPE => "NoSuchChannelType",
         NOT_A_COMMITMENT_KEY => "NotACommitmentKey",
         NO_SUCH_DIRECTION => "NoSuchDirection",
@@ -700,12 +827,12 @@ pub fn sentence(status: u32) -> &'static str {
         TOO_TALL => "A path needs more than 1,000 stack elements.",
         NO_SUCH_PATH => "The script has no path of this index.",
         WRONG_ARITY => "The number of slots is not that of the path.",
-        UNMET => "The slots do not show a fact of the path.",
+        UNMET => "The slots do not show a fact of the path; the answer has the slot that it is about, 0 where that is the spend.",
         CONTRADICTION => "The path asks for one fact with both polarities.",
         WRONG_PROGRAM => "The program is not that of the script.",
         WRONG_SHELL => "The fixed transaction of a claim does not fit. No claim of these calls has one.",
         NO_SUCH_FORM => "There is no form of this kind.",
-        NOT_A_KEY => "Bytes that are to be a key do not have the form of one.",
+        NOT_A_KEY => "Bytes that are to be a key do not have the form of one; the answer has which key of the form it is, from 0 for `revocation`, or the index of the slot.",
         NOT_A_HEIGHT => "The expiry is 500,000,000 or more, which is a time and not a height.",
         FIXED_TRANSACTION => "A claim has a fixed transaction. No claim of these calls has one.",
         SAME_OUTPOINT => "Two claims spend the same outpoint.",
@@ -720,19 +847,20 @@ pub fn sentence(status: u32) -> &'static str {
         VALUE_TOO_LARGE => "The value of an output is above 21,000,000 bitcoins.",
         TRAILING => "There are bytes after the lock time of the transaction.",
         OVER_LIMIT => "There are more than 4,000 claims or outputs, or the script of an output has more than 10,000 bytes; of a transaction that is given, a count is above its limit, or an input has a script.",
-        OUT_OF_RANGE => "A row refers to bytes or to rows that are not there.",
-        NO_SUCH_SLOT => "There is no slot of this kind.",
-        ITEM_TOO_LONG => "The bytes of a slot are more than 520.",
+        OUT_OF_RANGE => "The row of a claim refers to bytes or to rows that are not there, or the row of an output to bytes.",
+        NO_SUCH_SLOT => "There is no slot of this kind; the answer has the index of the slot.",
+        ITEM_TOO_LONG => "The bytes of a slot are more than 520; the answer has the index of the slot.",
+        SLOT_OUT_OF_RANGE => "The row of a slot refers to bytes that are not there; the answer has the index of the slot.",
         NO_SUCH_CHANNEL_TYPE => "There is no type of channels of this kind.",
         NOT_A_COMMITMENT_KEY => "Bytes that are to be a key of the commitment do not have the form of one; the answer has which of its fields it is, from 0.",
         NO_SUCH_DIRECTION => "There is no direction of this kind; the answer has the index of the HTLC.",
         EXPIRY_TOO_LARGE => "The expiry of an HTLC is 500,000,000 or more, which is a time and not a height; the answer has the index of the HTLC.",
         NO_SUCH_CLOSE => "It is neither one's own commitment nor the peer's.",
-        NO_SIGNATURE => "A slot asks a signature, and the next one that is given is not of it; the answer has the input and the item that lack it.",
-        SIGNATURE_OUT_OF_RANGE => "The row of a signature refers to bytes that are not there; the answer has its input and its item, as of the two below.",
+        NO_SIGNATURE => "A slot asks a signature, and the next one that is given is not of it; the answer has the item that lacks it.",
+        SIGNATURE_OUT_OF_RANGE => "The row of a signature refers to bytes that are not there; the answer has its item, as of the two below.",
         NOT_DER => "Bytes that are to be a signature are not in strict DER (BIP 66).",
         NOT_SIGHASH_ALL => "The hash type of a signature is not ALL, the byte 01.",
-        NOT_ASKED => "A signature is given after that of the last slot that asks one; the answer has the input and the item of its row.",
+        NOT_ASKED => "A signature is given after that of the last slot that asks one; the answer has the item of its row.",
         _ => "These declarations do not have this status.",
     }
 }

@@ -23,7 +23,8 @@ use Rattle.enforce_c.specs.declared.claim_rows.SlotRow.{SlotRow}
 use Rattle.enforce_c.specs.declared.claim_rows.Due.{Due}
 use Rattle.enforce_c.specs.Claimed.{IsClaimed, due_of, AnswersClaim}
 use Rattle.enforce_c.specs.declared.spend_rows.SpendAnswer.{SpendAnswer}
-use Rattle.enforce_c.specs.Spent.{Asked, SpendLists, IsSpent, left_by_lists, spend_refused, LeftSpend, AnswersSpend}
+use Rattle.enforce_c.specs.declared.about.Refused.{Refused}
+use Rattle.enforce_c.specs.Spent.{Asked, SpendParts, SpendLists, IsSpent, left_by_spend, spend_refused, LeftSpend, AnswersSpend}
 use Rattle.enforce_c.specs.FormScripts.{IsSpelt, AnswersForm, form_of}
 
 pub is_listed : (bytes : List ℕ) (ops : List Op) (c : CheckedScript) → Spells ops bytes → IsListing ops (Ok c) → All (IsSound c.ops) c.paths → IsExhaustive c.ops c.paths → IsListed bytes c
@@ -63,10 +64,10 @@ pub refused_claim : (row : ClaimRow) (rows : List SlotRow) (bytes : List ℕ) (b
     → AnswersClaim row rows bytes before (record { status = s; answer = a; due = before })
 refused_claim row rows bytes before e s a refused status answer = (Err e, refused, rw (status, answer) refl)
 
-pub spent_lists : (a : Asked) (preimages : List (List ℕ)) (before s : SpendLists) (after : LeftSpend) → IsSpent a preimages (Ok s) → left_by_lists s before ≡ after → AnswersSpend a preimages before after
-spent_lists a preimages before s after spent left = (Ok s, spent, left)
+pub spent_parts : (a : Asked) (preimages : List (List ℕ)) (before : SpendLists) (s : SpendParts) (after : LeftSpend) → IsSpent a preimages (Ok s) → left_by_spend s before ≡ after → AnswersSpend a preimages before after
+spent_parts a preimages before s after spent left = (Ok s, spent, left)
 
-pub refused_spend : (a : Asked) (preimages : List (List ℕ)) (before : SpendLists) (e : Refusal) (s : ℕ) (n : SpendAnswer) → IsSpent a preimages (Err e) → s ≡ status_of e → n ≡ spend_refused e
+pub refused_spend : (a : Asked) (preimages : List (List ℕ)) (before : SpendLists) (e : Refused) (s : ℕ) (n : SpendAnswer) → IsSpent a preimages (Err e) → s ≡ status_of e.why → n ≡ spend_refused e
     → AnswersSpend a preimages before (record { status = s; answer = n; lists = before })
 refused_spend a preimages before e s n refused status answer = (Err e, refused, rw (status, answer) refl)
 

@@ -35,16 +35,16 @@ all_parts a b c x p q r e = ap (λ t. by_parts t b c x) p ∙ ap (λ t. by_parts
 -- a claim that is read is read so where the lists are longer
 claim_more : (row : ClaimRow) (slots : List SlotRow) (bytes : List ℕ) (rows : List SlotRow) (more : List ℕ) (c : ClaimParts) → IsClaimOf row slots bytes c → IsClaimOf row (slots ++ rows) (bytes ++ more) c
 claim_more row slots bytes rows more c h =
-    let p = no_parts (has_part row.script_at row.script_length bytes) (has_part row.program_at row.program_length bytes) (has_part row.first_slot row.slots slots) (slots_fault bytes (slots_in row slots)) h.read in
+    let p = no_parts (has_part row.script_at row.script_length bytes) (has_part row.program_at row.program_length bytes) (has_part row.first_slot row.slots slots) (slots_fault bytes 0 (slots_in row slots)) h.read in
     let script = stands_more row.script_at row.script_length bytes more p.0 in
     let program = stands_more row.program_at row.program_length bytes more p.1 in
     let own = stands_more row.first_slot row.slots slots rows p.2 in
     record {
       read = all_parts (has_part row.script_at row.script_length (bytes ++ more)) (has_part row.program_at row.program_length (bytes ++ more)) (has_part row.first_slot row.slots (slots ++ rows))
-          (slots_fault (bytes ++ more) (slots_in row (slots ++ rows))) script.there program.there own.there
-          (ap (slots_fault (bytes ++ more)) own.same ∙ slots_more bytes more (slots_in row slots) p.3);
+          (slots_fault (bytes ++ more) 0 (slots_in row (slots ++ rows))) script.there program.there own.there
+          (ap (slots_fault (bytes ++ more) 0) own.same ∙ slots_more bytes more 0 (slots_in row slots) p.3);
       listed = subst (λ b. IsListed b c.ways) (sym script.same) h.listed;
-      filled = subst (λ rs. FillAs (bytes ++ more) rs c.slots) (sym own.same) (fill_more bytes more (slots_in row slots) c.slots p.3 h.filled);
+      filled = subst (λ rs. FillAs (bytes ++ more) rs c.slots) (sym own.same) (fill_more bytes more 0 (slots_in row slots) c.slots p.3 h.filled);
       accepted = record {
         same = h.accepted.same ∙ ap (λ p. record { ways = c.ways; index = row.path; slots = c.slots; place = record (place_in row bytes) { program = p }; shell = Open }) (sym program.same);
         accepted = h.accepted.accepted;
@@ -72,8 +72,8 @@ module _ (sound : ListedAreSound) (exact : SatisfiedExactly) where
       let own = subst (λ n. Stands row.first_slot n (with_claim c l).slots a.rows) a.count (subst (λ ss. Stands row.first_slot (length a.rows) ss a.rows) slots_whole rows_at) in
       record {
         read = all_parts (has_part row.script_at row.script_length (with_claim c l).bytes) (has_part row.program_at row.program_length (with_claim c l).bytes) (has_part row.first_slot row.slots (with_claim c l).slots)
-            (slots_fault (with_claim c l).bytes (slots_in row (with_claim c l).slots)) script.there program.there own.there
-            (ap (slots_fault (with_claim c l).bytes) own.same ∙ a.faultless);
+            (slots_fault (with_claim c l).bytes 0 (slots_in row (with_claim c l).slots)) script.there program.there own.there
+            (ap (slots_fault (with_claim c l).bytes 0) own.same ∙ a.faultless 0);
         listed = record {
           spelt = record { each = ready.whole.ops; same = sym script.same };
           listed = ready.whole.listed;

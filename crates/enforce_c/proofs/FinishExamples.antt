@@ -5,10 +5,14 @@ use Rattle.keys.specs.declared.compressed.Key.{Key}
 use Rattle.filling.specs.declared.missing.MissingSignature.{MissingSignature}
 use Rattle.enforce_c.specs.declared.finish_rows.SignedRow.{SignedRow}
 use Rattle.enforce_c.specs.declared.statuses.SignaturePlace.{SignaturePlace}
-use Rattle.enforce_c.specs.declared.statuses.Refusal.TheVariants.{OutOfRange, NoSignature, SignatureOutOfRange, NotDer, NotSighashAll, NotAsked}
-use Rattle.enforce_c.specs.Statuses.{status_of, number_of, item_of}
+use Rattle.enforce_c.specs.declared.statuses.Refusal.TheVariants.{OutOfRange, NoSuchSlot, NoSignature, SignatureOutOfRange, NotDer, NotSighashAll, NotAsked}
+use Rattle.enforce_c.specs.declared.finish_rows.FinishAnswer.{FinishAnswer}
+use Rattle.enforce_c.specs.declared.about.About.TheVariants.{Whole, OfOutput, OfClaim, OfSignature}
+use Rattle.enforce_c.specs.Statuses.{status_of, number_of}
+use Rattle.enforce_c.specs.About.{kind_of, row_of, refused_whole}
+use Rattle.enforce_c.specs.Spent.{spend_refused}
 use Rattle.enforce_c.specs.Der.{is_shortest, is_der, is_sighash_all}
-use Rattle.enforce_c.specs.Finished.{signature_for, signatures_of, with_signatures, finish_left_by}
+use Rattle.enforce_c.specs.Finished.{signature_for, signatures_of, with_signatures, SignedParts, finish_refused, finish_left_by}
 
 -- ---- the form (BIP 66)
 
@@ -108,23 +112,42 @@ put_in key = refl
 
 -- ---- what the call leaves
 
+abbrev made : SignedParts
+made = record { bytes = 7 ∷ 8 ∷ []; txid = 1 ∷ 2 ∷ [] }
+
+abbrev answer : FinishAnswer
+answer = record { bytes = 2; number = 0; row = 0; about = 0; txid = 1 ∷ 2 ∷ []; shown_txid = 2 ∷ 1 ∷ [] }
+
 -- room of just the length, and one byte less
-fits : (finish_left_by (Ok (7 ∷ 8 ∷ [])) (0 ∷ 0 ∷ []) ≡ record { status = 0; answer = record { bytes = 2; number = 0; item = 0 }; bytes = 7 ∷ 8 ∷ [] })
-    × (finish_left_by (Ok (7 ∷ 8 ∷ [])) (5 ∷ []) ≡ record { status = 2; answer = record { bytes = 2; number = 0; item = 0 }; bytes = 5 ∷ [] })
+fits : (finish_left_by (Ok made) (0 ∷ 0 ∷ []) ≡ record { status = 0; answer = answer; bytes = 7 ∷ 8 ∷ [] })
+    × (finish_left_by (Ok made) (5 ∷ []) ≡ record { status = 2; answer = answer; bytes = 5 ∷ [] })
 fits = (refl, refl)
 
--- a refusal of a signature tells its input and its item, and another neither
-told : (finish_left_by (Err (NotDer (at 3 4))) (5 ∷ []) ≡ record { status = 2307; answer = record { bytes = 0; number = 3; item = 4 }; bytes = 5 ∷ [] })
-    × (finish_left_by (Err OutOfRange) (5 ∷ []) ≡ record { status = 1793; answer = record { bytes = 0; number = 0; item = 0 }; bytes = 5 ∷ [] })
-told = (refl, refl)
+-- ---- refusals
+
+abbrev refused_as : ℕ → ℕ → ℕ → FinishAnswer
+refused_as number row about = record { bytes = 0; number = number; row = row; about = about; txid = replicate 32 0; shown_txid = replicate 32 0 }
+
+-- of a signature with its input and its item, of an output or a claim with its row, and of neither
+told : map finish_refused (refused_whole (NotDer (at 3 4)) ∷ record { why = OutOfRange; about = OfOutput 5 } ∷ record { why = NoSuchSlot 6; about = OfClaim 7 } ∷ refused_whole OutOfRange ∷ [])
+    ≡ refused_as 4 3 3 ∷ refused_as 0 5 1 ∷ refused_as 6 7 2 ∷ refused_as 0 0 0 ∷ []
+told = refl
+
+left : finish_left_by (Err (record { why = NoSuchSlot 6; about = OfClaim 7 })) (5 ∷ []) ≡ record { status = 1794; answer = refused_as 6 7 2; bytes = 5 ∷ [] }
+left = refl
+
+-- the answer of a spend tells the same
+spend_told : spend_refused (record { why = NoSuchSlot 6; about = OfClaim 7 })
+    ≡ record { bytes = 0; signatures = 0; number = 6; row = 7; weight = 0; fee_sat = 0; about = 2; txid = replicate 32 0; shown_txid = replicate 32 0 }
+spend_told = refl
 
 statuses : map status_of (NoSignature (at 3 4) ∷ SignatureOutOfRange (at 3 4) ∷ NotDer (at 3 4) ∷ NotSighashAll (at 3 4) ∷ NotAsked (at 3 4) ∷ []) ≡ 2305 ∷ 2306 ∷ 2307 ∷ 2308 ∷ 2309 ∷ []
 statuses = refl
 
-other_places : (map number_of (NoSignature (at 5 6) ∷ SignatureOutOfRange (at 5 6) ∷ NotDer (at 5 6) ∷ NotSighashAll (at 5 6) ∷ NotAsked (at 5 6) ∷ []) ≡ 5 ∷ 5 ∷ 5 ∷ 5 ∷ 5 ∷ [])
-    × (map item_of (NoSignature (at 5 6) ∷ SignatureOutOfRange (at 5 6) ∷ NotDer (at 5 6) ∷ NotSighashAll (at 5 6) ∷ NotAsked (at 5 6) ∷ []) ≡ 6 ∷ 6 ∷ 6 ∷ 6 ∷ 6 ∷ [])
-other_places = (refl, refl)
-
-places : (map number_of (NoSignature (at 3 4) ∷ SignatureOutOfRange (at 3 4) ∷ NotDer (at 3 4) ∷ NotSighashAll (at 3 4) ∷ NotAsked (at 3 4) ∷ []) ≡ 3 ∷ 3 ∷ 3 ∷ 3 ∷ 3 ∷ [])
-    × (map item_of (NoSignature (at 3 4) ∷ SignatureOutOfRange (at 3 4) ∷ NotDer (at 3 4) ∷ NotSighashAll (at 3 4) ∷ NotAsked (at 3 4) ∷ OutOfRange ∷ []) ≡ 4 ∷ 4 ∷ 4 ∷ 4 ∷ 4 ∷ 0 ∷ [])
+places : (map (λ e. (refused_whole e).about) (NoSignature (at 3 4) ∷ SignatureOutOfRange (at 5 6) ∷ NotDer (at 7 8) ∷ NotSighashAll (at 9 10) ∷ NotAsked (at 11 12) ∷ [])
+    ≡ OfSignature 3 ∷ OfSignature 5 ∷ OfSignature 7 ∷ OfSignature 9 ∷ OfSignature 11 ∷ [])
+    × (map number_of (NoSignature (at 3 4) ∷ SignatureOutOfRange (at 5 6) ∷ NotDer (at 7 8) ∷ NotSighashAll (at 9 10) ∷ NotAsked (at 11 12) ∷ []) ≡ 4 ∷ 6 ∷ 8 ∷ 10 ∷ 12 ∷ [])
 places = (refl, refl)
+
+kinds : (map kind_of (Whole ∷ OfOutput 5 ∷ OfClaim 6 ∷ OfSignature 7 ∷ []) ≡ 0 ∷ 1 ∷ 2 ∷ 3 ∷ []) × (map row_of (Whole ∷ OfOutput 5 ∷ OfClaim 6 ∷ OfSignature 7 ∷ []) ≡ 0 ∷ 5 ∷ 6 ∷ 7 ∷ [])
+kinds = (refl, refl)

@@ -4,7 +4,7 @@ use Rattle.keys.specs.declared.compressed.Key.{Key}
 use Rattle.claim.specs.declared.parts.WitnessItem.{WitnessItem}
 use Rattle.claim.specs.declared.parts.Slot.TheVariants.{Sig, Preimage, Exact}
 use Rattle.enforce_c.specs.declared.claim_rows.SlotRow.{SlotRow}
-use Rattle.enforce_c.specs.declared.statuses.Refusal.TheVariants.{OutOfRange, NoSuchSlot}
+use Rattle.enforce_c.specs.declared.statuses.Refusal.TheVariants.{SlotOutOfRange, NoSuchSlot}
 use Rattle.enforce_c.specs.Ranges.{part}
 use Rattle.enforce_c.specs.Claimed.{slot_fault, FillsAs}
 
@@ -20,5 +20,5 @@ module _ (row : SlotRow) where
   exact w e = (refl, e)
 
   -- a row of no kind; and of exact bytes that are not there, which a preimage's does not want
-  faults : map (λ (kind : ℕ). slot_fault [] (record row { kind = kind; bytes_at = 0; bytes_length = 1 })) (0 ∷ 2 ∷ 3 ∷ 4 ∷ []) ≡ Some NoSuchSlot ∷ None ∷ Some OutOfRange ∷ Some NoSuchSlot ∷ []
+  faults : map (λ (kind : ℕ). slot_fault [] 5 (record row { kind = kind; bytes_at = 0; bytes_length = 1 })) (0 ∷ 2 ∷ 3 ∷ 4 ∷ []) ≡ Some (NoSuchSlot 5) ∷ None ∷ Some (SlotOutOfRange 5) ∷ Some (NoSuchSlot 5) ∷ []
   faults = refl

@@ -7,6 +7,7 @@ mod RowExamples
 mod RangeExamples
 mod KindExamples
 pub mod Slots
+pub mod FaultyClaims
 pub mod Spends
 pub mod Spelled
 pub mod FormBytes
@@ -17,3 +18,5 @@ pub mod ClaimRows
 pub mod FoundClaims
 pub mod SignedSpends
 pub mod DerForms
+pub mod Prepared
+pub mod Noted

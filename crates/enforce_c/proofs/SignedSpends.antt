@@ -1,6 +1,6 @@
 -- Signatures that are put into a spend one by one.
-use Rattle.std.proofs.Common.{◌≡◌, ◌<◌, ◌≤◌, ◌+◌, inl, inr, ℕ, zero, suc, true, List, [], ◌∷◌, length, drop, get_or, Result, Ok, Err, arith, refl, subst, sym, ap, ◌∙◌, nat_le, le-leb}
-use Rattle.std.specs.Prelude.{Some, None, slice_get, slice_set, MatchResult}
+use Rattle.std.proofs.Common.{◌≡◌, ◌<◌, ◌≤◌, ◌+◌, ◌⊎◌, inl, inr, ℕ, zero, suc, true, List, [], ◌∷◌, length, drop, get_or, Result, Ok, Err, arith, refl, subst, sym, ap, ◌∙◌, nat_le, le-leb}
+use Rattle.std.specs.Prelude.{Some, None, slice_get, slice_set}
 use Rattle.std.specs.List.{list_all, AllByRecursion}
 use Rattle.std.proofs.lemmas.Bool.{and_from}
 use Rattle.std.proofs.lemmas.List.{drop_more, drop_all}
@@ -11,18 +11,21 @@ use Rattle.tx.specs.declared.input.TxIn.{TxIn}
 use Rattle.tx.specs.declared.limits.TheConstants.{MAX_ITEMS, MAX_BYTES}
 use Rattle.tx.specs.Parts.{Output, IsWithin, IsBounded}
 use Rattle.tx.specs.Fields.{Transaction, inputs_with_witness}
-use Rattle.tx.specs.Spelling.{IsTransaction}
+use Rattle.tx.specs.Spelling.{IsTransaction, transaction_id}
 use Rattle.claim.specs.Claims.{ClaimParts}
 use Rattle.filling.specs.declared.missing.MissingSignature.{MissingSignature}
 use Rattle.filling.specs.Spends.{IsUnsignedSpend, with_item, changed_at, with_tokens}
 use Rattle.enforce_c.specs.declared.finish_rows.SignedRow.{SignedRow}
 use Rattle.enforce_c.specs.declared.finish_rows.FinishAnswer.{FinishAnswer}
 use Rattle.enforce_c.specs.declared.statuses.Refusal.{Refusal}
-use Rattle.enforce_c.specs.declared.statuses.Refusal.TheVariants.{NoSignature, NotAsked}
+use Rattle.enforce_c.specs.declared.statuses.Refusal.TheVariants.{NoMemory, NoSignature, NotAsked}
+use Rattle.enforce_c.specs.declared.about.Refused.{Refused}
+use Rattle.enforce_c.specs.About.{refused_whole}
+use Rattle.enforce_c.specs.Faulty.{refused_at}
 use Rattle.enforce_c.specs.Statuses.{status_of}
 use Rattle.enforce_c.specs.Spent.{Asked, AreRead, UnlessMemory, IsUnread, IsUnspent, IsNotEncoded}
-use Rattle.enforce_c.specs.Finished.{place_of, row_place, signature_for, signatures_of, with_signatures, tokens_of, HasSignatures, IsSigned, IsNotSigned, IsFinished, LeftFinish, left_by_finish, finish_refused, AnswersFinish}
-use Rattle.enforce_c.proofs.Spends.{unless_memory, still_unless_memory}
+use Rattle.enforce_c.specs.Finished.{place_of, row_place, signature_for, signatures_of, with_signatures, tokens_of, HasSignatures, SignedParts, IsSigned, IsNotSigned, IsNoFinish, IsFinished, LeftFinish, left_by_finish, finish_refused, AnswersFinish}
+use Rattle.enforce_c.proofs.Spends.{unless_memory, still_unless_memory, carried}
 
 -- ---- a witness with another item
 
@@ -157,15 +160,17 @@ tokens_same : (missing : List MissingSignature) (inputs : List TxIn) → with_si
 tokens_same [] inputs = refl
 tokens_same (m ∷ missing) inputs = tokens_same missing (changed_at (with_item m.item (token_of m.key.bytes m.digest)) m.input inputs)
 
-pub is_signed : (claims : List ClaimParts) (outputs : List Output) (preimages : List (List ℕ)) (rows : List SignedRow) (given bytes : List ℕ) (unsigned tx : Transaction) (missing : List MissingSignature)
-    → IsUnsignedSpend claims outputs preimages unsigned missing → HasSignatures given missing rows unsigned tx → IsTransaction tx bytes → IsSigned claims outputs preimages rows given bytes
-is_signed claims outputs preimages rows given bytes unsigned tx missing spend signed spelled = record {
+pub is_signed : (claims : List ClaimParts) (outputs : List Output) (preimages : List (List ℕ)) (rows : List SignedRow) (given bytes txid : List ℕ) (unsigned tx : Transaction) (missing : List MissingSignature)
+    → IsUnsignedSpend claims outputs preimages unsigned missing → HasSignatures given missing rows unsigned tx → IsTransaction tx bytes → txid ≡ transaction_id tx
+    → IsSigned claims outputs preimages rows given (record { bytes = bytes; txid = txid })
+is_signed claims outputs preimages rows given bytes txid unsigned tx missing spend signed spelled id = record {
   unsigned = unsigned;
   missing = missing;
   spend = spend;
   tx = tx;
   signed = signed;
   spelled = spelled;
+  id = id;
   filled = ap (λ inputs. record unsigned { inputs = inputs }) (tokens_same missing unsigned.inputs) ∙ spend.signed;
   clean = spend.clean;
 }
@@ -184,20 +189,32 @@ pub no_bytes : (claims : List ClaimParts) (outputs : List Output) (preimages : L
 no_bytes claims outputs preimages rows given unsigned tx missing e spend signed is =
     still_unless_memory e (IsNotEncoded tx e) (IsNotSigned claims outputs preimages rows given e) (λ f. inr (inr (record { unsigned = unsigned; missing = missing; spend = spend; tx = tx; signed = signed; refused = f }))) is
 
-pub not_read : (a : Asked) (preimages : List (List ℕ)) (rows : List SignedRow) (e : Refusal) → UnlessMemory e (IsUnread a e) → IsFinished a preimages rows (Err e)
-not_read a preimages rows e is = still_unless_memory e (IsUnread a e) _ (λ f. inl f) is
+pub memory_out : (a : Asked) (preimages : List (List ℕ)) (rows : List SignedRow) (e : Refused) → e ≡ refused_whole NoMemory → IsFinished a preimages rows (Err e)
+memory_out a preimages rows e is = subst (λ x. IsFinished a preimages rows (Err x)) (sym is) tt
 
-pub finished_of : (a : Asked) (preimages : List (List ℕ)) (rows : List SignedRow) (claims : List ClaimParts) (outputs : List Output) (r : Result (List ℕ) Refusal) → AreRead a claims outputs
-    → MatchResult r (λ b. IsSigned claims outputs preimages rows a.bytes b) (λ e. UnlessMemory e (IsNotSigned claims outputs preimages rows a.bytes e)) → IsFinished a preimages rows r
-finished_of a preimages rows claims outputs (Ok b) read signed = record { claims = claims; outputs = outputs; read = read; signed = signed }
-finished_of a preimages rows claims outputs (Err e) read signed =
-    still_unless_memory e (IsNotSigned claims outputs preimages rows a.bytes e) _ (λ f. inr (record { claims = claims; outputs = outputs; read = read; refused = f })) signed
+pub not_read : (a : Asked) (preimages : List (List ℕ)) (rows : List SignedRow) (e : Refused) → UnlessMemory e.why (IsUnread a e) → IsFinished a preimages rows (Err e)
+not_read a preimages rows e is = still_unless_memory e.why (IsUnread a e) _ (λ f. inl f) is
+
+pub finished_of : (a : Asked) (preimages : List (List ℕ)) (rows : List SignedRow) (claims : List ClaimParts) (outputs : List Output) (s : SignedParts) → AreRead a claims outputs → IsSigned claims outputs preimages rows a.bytes s
+    → IsFinished a preimages rows (Ok s)
+finished_of a preimages rows claims outputs s read signed = record { claims = claims; outputs = outputs; read = read; signed = signed }
+
+at_claim : (a : Asked) (preimages : List (List ℕ)) (rows : List SignedRow) (claims : List ClaimParts) (outputs : List Output) (why : Refusal) → AreRead a claims outputs
+    → UnlessMemory why (IsNotSigned claims outputs preimages rows a.bytes why) → IsFinished a preimages rows (Err (refused_at claims preimages why))
+at_claim a preimages rows claims outputs why read is =
+    still_unless_memory why (IsNotSigned claims outputs preimages rows a.bytes why) _ (λ f. inr (record { claims = claims; outputs = outputs; read = read; refused = f; about = refl })) is
+
+pub not_finished : (a : Asked) (preimages : List (List ℕ)) (rows : List SignedRow) (claims : List ClaimParts) (outputs : List Output) (why : Refusal) (e : Refused) → AreRead a claims outputs
+    → UnlessMemory why (IsNotSigned claims outputs preimages rows a.bytes why) → UnlessMemory e.why (e ≡ refused_at claims preimages why) → IsFinished a preimages rows (Err e)
+not_finished a preimages rows claims outputs why e read is same =
+    carried e (refused_at claims preimages why) (λ x. IsUnread a x ⊎ IsNoFinish a preimages rows x) same (at_claim a preimages rows claims outputs why read is)
 
 -- ---- what the call leaves
 
-pub finished_bytes : (a : Asked) (preimages : List (List ℕ)) (rows : List SignedRow) (before bytes : List ℕ) (after : LeftFinish) → IsFinished a preimages rows (Ok bytes) → left_by_finish bytes before ≡ after → AnswersFinish a preimages rows before after
-finished_bytes a preimages rows before bytes after finished left = (Ok bytes, finished, left)
+pub finished_bytes : (a : Asked) (preimages : List (List ℕ)) (rows : List SignedRow) (before : List ℕ) (s : SignedParts) (after : LeftFinish) → IsFinished a preimages rows (Ok s) → left_by_finish s before ≡ after
+    → AnswersFinish a preimages rows before after
+finished_bytes a preimages rows before s after finished left = (Ok s, finished, left)
 
-pub refused_finish : (a : Asked) (preimages : List (List ℕ)) (rows : List SignedRow) (before : List ℕ) (e : Refusal) (s : ℕ) (n : FinishAnswer) → IsFinished a preimages rows (Err e) → s ≡ status_of e → n ≡ finish_refused e
+pub refused_finish : (a : Asked) (preimages : List (List ℕ)) (rows : List SignedRow) (before : List ℕ) (e : Refused) (s : ℕ) (n : FinishAnswer) → IsFinished a preimages rows (Err e) → s ≡ status_of e.why → n ≡ finish_refused e
     → AnswersFinish a preimages rows before (record { status = s; answer = n; bytes = before })
 refused_finish a preimages rows before e s n refused status answer = (Err e, refused, rw (status, answer) refl)

@@ -1,5 +1,5 @@
 -- The rows of slots, as they are written, are read as these slots.
-use Rattle.std.proofs.Common.{◌≡◌, ℕ, suc, List, [], ◌∷◌, ◌++◌, length, refl, subst, sym, ap, ◌∙◌, append_assoc}
+use Rattle.std.proofs.Common.{◌≡◌, ℕ, suc, ◌+◌, List, [], ◌∷◌, ◌++◌, length, refl, subst, sym, ap, ◌∙◌, append_assoc}
 use Rattle.std.specs.Prelude.{Option, Some, None, Bool, true, false, ◌==◌, nat_lt, if◌then◌else◌}
 use Rattle.std.proofs.lemmas.Bool.{le-ltb}
 use Rattle.std.proofs.lemmas.List.{append-nil}
@@ -9,7 +9,7 @@ use Rattle.claim.specs.declared.parts.Slot.{Slot}
 use Rattle.claim.specs.declared.parts.Slot.TheVariants.{Sig, Preimage, Exact}
 use Rattle.enforce_c.specs.declared.claim_rows.SlotRow.{SlotRow}
 use Rattle.enforce_c.specs.declared.statuses.Refusal.{Refusal}
-use Rattle.enforce_c.specs.declared.statuses.Refusal.TheVariants.{NotAKey, OutOfRange, NoSuchSlot, ItemTooLong}
+use Rattle.enforce_c.specs.declared.statuses.Refusal.TheVariants.{NotAKey, NoSuchSlot, ItemTooLong, SlotOutOfRange}
 use Rattle.enforce_c.specs.Ranges.{has_part, part}
 use Rattle.enforce_c.specs.Claimed.{or_then, item_fault, slot_fault, slots_fault, FillsAs, FillAs}
 use Rattle.claim.specs.declared.parts.Shell.{Shell}
@@ -20,76 +20,76 @@ use Rattle.enforce_c.specs.ClaimLists.{ListsOfClaims, slot_row, given_row, token
 use Rattle.enforce_c.proofs.Parts.{stands_here, stands_more}
 
 -- the fault of a slot's row, by that of its item
-abbrev by_item : (is_signed is_preimage is_exact : Bool) (key item : Option Refusal) → Option Refusal
-by_item is_signed is_preimage is_exact key item = if is_signed then key else if is_preimage then None else if is_exact then item else Some NoSuchSlot
+abbrev by_item : ℕ → (is_signed is_preimage is_exact : Bool) (key item : Option Refusal) → Option Refusal
+by_item index is_signed is_preimage is_exact key item = if is_signed then key else if is_preimage then None else if is_exact then item else Some (NoSuchSlot index)
 
-still_none : (a b c : Bool) (k f g : Option Refusal) → by_item a b c k f ≡ None → (f ≡ None → g ≡ None) → by_item a b c k g ≡ None
-still_none true b c k f g e more = e
-still_none false true c k f g e more = refl
-still_none false false true k f g e more = more e
-still_none false false false k f g e more = e
+still_none : (index : ℕ) (a b c : Bool) (k f g : Option Refusal) → by_item index a b c k f ≡ None → (f ≡ None → g ≡ None) → by_item index a b c k g ≡ None
+still_none index true b c k f g e more = e
+still_none index false true c k f g e more = refl
+still_none index false false true k f g e more = more e
+still_none index false false false k f g e more = e
 
 -- an item that is there, and is not too long
 record IsItem (bytes : List ℕ) (row : SlotRow) : Type 0 where
   there : has_part row.bytes_at row.bytes_length bytes ≡ true
   short : nat_lt MAX_SCRIPT_ELEMENT_SIZE (length (part row.bytes_at row.bytes_length bytes)) ≡ false
 
-abbrev item_by : Bool → Bool → Option Refusal
-item_by there long = if there then (if long then Some ItemTooLong else None) else Some OutOfRange
+abbrev item_by : ℕ → Bool → Bool → Option Refusal
+item_by index there long = if there then (if long then Some (ItemTooLong index) else None) else Some (SlotOutOfRange index)
 
-no_fault : (there long : Bool) → item_by there long ≡ None → (there ≡ true) × (long ≡ false)
-no_fault true true e = absurd (let t : Some ItemTooLong ≡ None = e in cc)
-no_fault true false e = (refl, refl)
-no_fault false long e = absurd (let t : Some OutOfRange ≡ None = e in cc)
+no_fault : (index : ℕ) (there long : Bool) → item_by index there long ≡ None → (there ≡ true) × (long ≡ false)
+no_fault index true true e = absurd (let t : Some (ItemTooLong index) ≡ None = e in cc)
+no_fault index true false e = (refl, refl)
+no_fault index false long e = absurd (let t : Some (SlotOutOfRange index) ≡ None = e in cc)
 
-is_item : (bytes : List ℕ) (row : SlotRow) → item_fault bytes row ≡ None → IsItem bytes row
-is_item bytes row e =
-    let two = no_fault (has_part row.bytes_at row.bytes_length bytes) (nat_lt MAX_SCRIPT_ELEMENT_SIZE (length (part row.bytes_at row.bytes_length bytes))) e in
+is_item : (bytes : List ℕ) (index : ℕ) (row : SlotRow) → item_fault bytes index row ≡ None → IsItem bytes row
+is_item bytes index row e =
+    let two = no_fault index (has_part row.bytes_at row.bytes_length bytes) (nat_lt MAX_SCRIPT_ELEMENT_SIZE (length (part row.bytes_at row.bytes_length bytes))) e in
     record { there = two.0; short = two.1 }
 
-faultless_item : (bytes : List ℕ) (row : SlotRow) → IsItem bytes row → item_fault bytes row ≡ None
-faultless_item bytes row h = ap (λ b. item_by b (nat_lt MAX_SCRIPT_ELEMENT_SIZE (length (part row.bytes_at row.bytes_length bytes)))) h.there ∙ ap (item_by true) h.short
+faultless_item : (bytes : List ℕ) (index : ℕ) (row : SlotRow) → IsItem bytes row → item_fault bytes index row ≡ None
+faultless_item bytes index row h = ap (λ b. item_by index b (nat_lt MAX_SCRIPT_ELEMENT_SIZE (length (part row.bytes_at row.bytes_length bytes)))) h.there ∙ ap (item_by index true) h.short
 
 -- in more bytes an item is what it was
-item_more : (bytes more : List ℕ) (row : SlotRow) → item_fault bytes row ≡ None → item_fault (bytes ++ more) row ≡ None
-item_more bytes more row e =
-    let h = is_item bytes row e in
+item_more : (bytes more : List ℕ) (index : ℕ) (row : SlotRow) → item_fault bytes index row ≡ None → item_fault (bytes ++ more) index row ≡ None
+item_more bytes more index row e =
+    let h = is_item bytes index row e in
     let s = stands_more row.bytes_at row.bytes_length bytes more h.there in
-    faultless_item (bytes ++ more) row (record { there = s.there; short = ap (λ xs. nat_lt MAX_SCRIPT_ELEMENT_SIZE (length xs)) s.same ∙ h.short })
+    faultless_item (bytes ++ more) index row (record { there = s.there; short = ap (λ xs. nat_lt MAX_SCRIPT_ELEMENT_SIZE (length xs)) s.same ∙ h.short })
 
-slot_more : (bytes more : List ℕ) (row : SlotRow) → slot_fault bytes row ≡ None → slot_fault (bytes ++ more) row ≡ None
-slot_more bytes more row e =
-    still_none (row.kind == 1) (row.kind == 2) (row.kind == 3) (if is_key row.key then None else Some NotAKey) (item_fault bytes row) (item_fault (bytes ++ more) row) e (item_more bytes more row)
+slot_more : (bytes more : List ℕ) (index : ℕ) (row : SlotRow) → slot_fault bytes index row ≡ None → slot_fault (bytes ++ more) index row ≡ None
+slot_more bytes more index row e =
+    still_none index (row.kind == 1) (row.kind == 2) (row.kind == 3) (if is_key row.key then None else Some (NotAKey index)) (item_fault bytes index row) (item_fault (bytes ++ more) index row) e (item_more bytes more index row)
 
 pub first_none : (x y : Option Refusal) → or_then x y ≡ None → (x ≡ None) × (y ≡ None)
 first_none None y e = (refl, e)
 first_none (Some x) y e = absurd (let t : Some x ≡ None = e in cc)
 
-pub slots_more : (bytes more : List ℕ) (rows : List SlotRow) → slots_fault bytes rows ≡ None → slots_fault (bytes ++ more) rows ≡ None
-slots_more bytes more [] e = refl
-slots_more bytes more (row ∷ rows) e =
-    let two = first_none (slot_fault bytes row) (slots_fault bytes rows) e in
-    ap (λ x. or_then x (slots_fault (bytes ++ more) rows)) (slot_more bytes more row two.0) ∙ slots_more bytes more rows two.1
+pub slots_more : (bytes more : List ℕ) (index : ℕ) (rows : List SlotRow) → slots_fault bytes index rows ≡ None → slots_fault (bytes ++ more) index rows ≡ None
+slots_more bytes more index [] e = refl
+slots_more bytes more index (row ∷ rows) e =
+    let two = first_none (slot_fault bytes index row) (slots_fault bytes (index + 1) rows) e in
+    ap (λ x. or_then x (slots_fault (bytes ++ more) (index + 1) rows)) (slot_more bytes more index row two.0) ∙ slots_more bytes more (index + 1) rows two.1
 
-exact_item : (bytes : List ℕ) (row : SlotRow) → row.kind ≡ 3 → slot_fault bytes row ≡ None → item_fault bytes row ≡ None
-exact_item bytes row is e =
-    let key = if is_key row.key then None else Some NotAKey in
-    sym (ap (λ k. by_item (k == 1) (k == 2) (k == 3) key (item_fault bytes row)) is) ∙ e
+exact_item : (bytes : List ℕ) (index : ℕ) (row : SlotRow) → row.kind ≡ 3 → slot_fault bytes index row ≡ None → item_fault bytes index row ≡ None
+exact_item bytes index row is e =
+    let key = if is_key row.key then None else Some (NotAKey index) in
+    sym (ap (λ k. by_item index (k == 1) (k == 2) (k == 3) key (item_fault bytes index row)) is) ∙ e
 
-fills_more : (bytes more : List ℕ) (row : SlotRow) (s : Slot) → slot_fault bytes row ≡ None → FillsAs bytes row s → FillsAs (bytes ++ more) row s
-fills_more bytes more row (Sig k) e h = h
-fills_more bytes more row (Preimage p) e h = h
-fills_more bytes more row (Exact w) e h =
-    let item = is_item bytes row (exact_item bytes row h.0 e) in
+fills_more : (bytes more : List ℕ) (index : ℕ) (row : SlotRow) (s : Slot) → slot_fault bytes index row ≡ None → FillsAs bytes row s → FillsAs (bytes ++ more) row s
+fills_more bytes more index row (Sig k) e h = h
+fills_more bytes more index row (Preimage p) e h = h
+fills_more bytes more index row (Exact w) e h =
+    let item = is_item bytes index row (exact_item bytes index row h.0 e) in
     (h.0, h.1 ∙ sym (stands_more row.bytes_at row.bytes_length bytes more item.there).same)
 
-pub fill_more : (bytes more : List ℕ) (rows : List SlotRow) (ss : List Slot) → slots_fault bytes rows ≡ None → FillAs bytes rows ss → FillAs (bytes ++ more) rows ss
-fill_more bytes more [] [] e all = tt
-fill_more bytes more [] (s ∷ ss) e all = absurd all
-fill_more bytes more (row ∷ rows) [] e all = absurd all
-fill_more bytes more (row ∷ rows) (s ∷ ss) e all =
-    let two = first_none (slot_fault bytes row) (slots_fault bytes rows) e in
-    (fills_more bytes more row s two.0 all.0, fill_more bytes more rows ss two.1 all.1)
+pub fill_more : (bytes more : List ℕ) (index : ℕ) (rows : List SlotRow) (ss : List Slot) → slots_fault bytes index rows ≡ None → FillAs bytes rows ss → FillAs (bytes ++ more) rows ss
+fill_more bytes more index [] [] e all = tt
+fill_more bytes more index [] (s ∷ ss) e all = absurd all
+fill_more bytes more index (row ∷ rows) [] e all = absurd all
+fill_more bytes more index (row ∷ rows) (s ∷ ss) e all =
+    let two = first_none (slot_fault bytes index row) (slots_fault bytes (index + 1) rows) e in
+    (fills_more bytes more index row s two.0 all.0, fill_more bytes more (index + 1) rows ss two.1 all.1)
 
 -- a slot that is written is read as that slot
 fills_here : (before after : List ℕ) (s : Slot) → FillsAs ((before ++ item_in s) ++ after) (slot_row s (length before)) s
@@ -97,12 +97,12 @@ fills_here before after (Sig k) = (refl, refl)
 fills_here before after (Preimage h) = (refl, refl)
 fills_here before after (Exact w) = (refl, sym (stands_here before w.item after).same)
 
-faultless_here : (before after : List ℕ) (s : Slot) → slot_fault ((before ++ item_in s) ++ after) (slot_row s (length before)) ≡ None
-faultless_here before after (Sig k) = ap (λ b. if b then None else Some NotAKey) k.form
-faultless_here before after (Preimage h) = refl
-faultless_here before after (Exact w) =
+faultless_here : (before after : List ℕ) (index : ℕ) (s : Slot) → slot_fault ((before ++ item_in s) ++ after) index (slot_row s (length before)) ≡ None
+faultless_here before after index (Sig k) = ap (λ b. if b then None else Some (NotAKey index)) k.form
+faultless_here before after index (Preimage h) = refl
+faultless_here before after index (Exact w) =
     let s = stands_here before w.item after in
-    faultless_item ((before ++ w.item) ++ after) (slot_row (Exact w) (length before))
+    faultless_item ((before ++ w.item) ++ after) index (slot_row (Exact w) (length before))
     (record { there = s.there; short = ap (λ xs. nat_lt MAX_SCRIPT_ELEMENT_SIZE (length xs)) s.same ∙ le-ltb MAX_SCRIPT_ELEMENT_SIZE (length w.item) w.short })
 
 -- what slots add to the lists
@@ -142,11 +142,11 @@ pub record Adds (ss : List Slot) (l after : ListsOfClaims) : Type 0 where
   pub bytes : after.bytes ≡ l.bytes ++ more
   pub claims : after.claims ≡ l.claims
   pub count : length rows ≡ length ss
-  pub faultless : slots_fault after.bytes rows ≡ None
+  pub faultless : (index : ℕ) → slots_fault after.bytes index rows ≡ None
   pub filled : FillAs after.bytes rows ss
 
 adds : (ss : List Slot) (l : ListsOfClaims) → Adds ss l (with_slots Open ss l)
-adds [] l = record { rows = []; more = []; slots = sym (append-nil l.slots); bytes = sym (append-nil l.bytes); claims = refl; count = refl; faultless = refl; filled = tt }
+adds [] l = record { rows = []; more = []; slots = sym (append-nil l.slots); bytes = sym (append-nil l.bytes); claims = refl; count = refl; faultless = λ index. refl; filled = tt }
 adds (s ∷ ss) l =
     let a = adds ss (with_slot Open s l) in
     let row = slot_row s (length l.bytes) in
@@ -158,7 +158,7 @@ adds (s ∷ ss) l =
       bytes = a.bytes ∙ append_assoc l.bytes (item_in s) a.more;
       claims = a.claims;
       count = ap (λ n. suc n) a.count;
-      faultless = ap (λ x. or_then x (slots_fault (with_slots Open ss (with_slot Open s l)).bytes a.rows)) (subst (λ b. slot_fault b row ≡ None) bytes (faultless_here l.bytes a.more s)) ∙ a.faultless;
+      faultless = λ index. ap (λ x. or_then x (slots_fault (with_slots Open ss (with_slot Open s l)).bytes (index + 1) a.rows)) (subst (λ b. slot_fault b index row ≡ None) bytes (faultless_here l.bytes a.more index s)) ∙ a.faultless (index + 1);
       filled = (subst (λ b. FillsAs b row s) bytes (fills_here l.bytes a.more s), a.filled);
     }
 

@@ -13,6 +13,7 @@ use Rattle.enforce_c.specs.declared.statuses.Refusal.{Refusal}
 use Rattle.enforce_c.specs.declared.statuses.Refusal.TheVariants.{NoMemory}
 use Rattle.enforce_c.specs.FormScripts.{IsWritten}
 use Rattle.terms.specs.Scripts.{number_push, to_local, offered, received}
+use Rattle.anchor_forms.specs.Scripts.{offered_with_anchors, received_with_anchors}
 
 -- the push of 0, of a number that has an opcode of its own, and of a larger one
 pub none : (n : ℕ) → n ≡ 0 → spelling (number_push n ∷ []) ≡ 0 ∷ []
@@ -98,6 +99,14 @@ received_ops : (revocation remote local payment : List ℕ) (n : ℕ) → length
 unfolding AreOps
 received_ops revocation remote local payment n r m l p = each (received revocation remote local payment n) (search (rules, is_op))
 
+offered_with_anchors_ops : (revocation remote local payment : List ℕ) → length revocation ≡ 20 → length remote ≡ 33 → length local ≡ 33 → length payment ≡ 20 → All IsOp (offered_with_anchors revocation remote local payment)
+unfolding AreOps
+offered_with_anchors_ops revocation remote local payment r m l p = each (offered_with_anchors revocation remote local payment) (search (rules, is_op))
+
+received_with_anchors_ops : (revocation remote local payment : List ℕ) (n : ℕ) → length revocation ≡ 20 → length remote ≡ 33 → length local ≡ 33 → length payment ≡ 20 → All IsOp (received_with_anchors revocation remote local payment n)
+unfolding AreOps
+received_with_anchors_ops revocation remote local payment n r m l p = each (received_with_anchors revocation remote local payment n) (search (rules, is_op))
+
 -- the bytes of one opcode
 alone : (op : Op) → spelling (op ∷ []) ≡ code_of op ∷ payload_of op
 alone op = ap (λ payload. code_of op ∷ payload) (append-nil (payload_of op))
@@ -106,15 +115,22 @@ alone op = ap (λ payload. code_of op ∷ payload) (append-nil (payload_of op))
 abbrev pub to_local_parts : (revocation delay delayed : List ℕ) → List ℕ
 to_local_parts revocation delay delayed = concat ((0x63 ∷ 33 ∷ []) ∷ revocation ∷ (0x67 ∷ []) ∷ delay ∷ (0xb2 ∷ 0x75 ∷ 33 ∷ []) ∷ delayed ∷ (0x68 ∷ 0xac ∷ []) ∷ [])
 
-abbrev pub offered_parts : (revocation remote local payment : List ℕ) → List ℕ
-offered_parts revocation remote local payment =
+abbrev pub offered_parts : (revocation remote local payment end : List ℕ) → List ℕ
+offered_parts revocation remote local payment end =
     concat ((0x76 ∷ 0xa9 ∷ 20 ∷ []) ∷ revocation ∷ (0x87 ∷ 0x63 ∷ 0xac ∷ 0x67 ∷ 33 ∷ []) ∷ remote ∷ (0x7c ∷ 0x82 ∷ 1 ∷ 32 ∷ 0x87 ∷ 0x64 ∷ 0x75 ∷ 0x52 ∷ 0x7c ∷ 33 ∷ []) ∷ local
-    ∷ (0x52 ∷ 0xae ∷ 0x67 ∷ 0xa9 ∷ 20 ∷ []) ∷ payment ∷ (0x88 ∷ 0xac ∷ 0x68 ∷ 0x68 ∷ []) ∷ [])
+    ∷ (0x52 ∷ 0xae ∷ 0x67 ∷ 0xa9 ∷ 20 ∷ []) ∷ payment ∷ (0x88 ∷ 0xac ∷ 0x68 ∷ end) ∷ [])
 
-abbrev pub received_parts : (revocation remote local payment expiry : List ℕ) → List ℕ
-received_parts revocation remote local payment expiry =
+abbrev pub received_parts : (revocation remote local payment expiry end : List ℕ) → List ℕ
+received_parts revocation remote local payment expiry end =
     concat ((0x76 ∷ 0xa9 ∷ 20 ∷ []) ∷ revocation ∷ (0x87 ∷ 0x63 ∷ 0xac ∷ 0x67 ∷ 33 ∷ []) ∷ remote ∷ (0x7c ∷ 0x82 ∷ 1 ∷ 32 ∷ 0x87 ∷ 0x63 ∷ 0xa9 ∷ 20 ∷ []) ∷ payment ∷ (0x88 ∷ 0x52 ∷ 0x7c ∷ 33 ∷ []) ∷ local
-    ∷ (0x52 ∷ 0xae ∷ 0x67 ∷ 0x75 ∷ []) ∷ expiry ∷ (0xb1 ∷ 0x75 ∷ 0xac ∷ 0x68 ∷ 0x68 ∷ []) ∷ [])
+    ∷ (0x52 ∷ 0xae ∷ 0x67 ∷ 0x75 ∷ []) ∷ expiry ∷ (0xb1 ∷ 0x75 ∷ 0xac ∷ 0x68 ∷ end) ∷ [])
+
+-- what ends an HTLC's script, without anchors and with them
+abbrev pub plain_end : List ℕ
+plain_end = 0x68 ∷ []
+
+abbrev pub anchor_end : List ℕ
+anchor_end = 0x51 ∷ 0xb2 ∷ 0x75 ∷ 0x68 ∷ []
 
 -- they spell the script, unless memory ran out
 spelled : (r : Result (List ℕ) Refusal) (ops : List Op) (parts : List ℕ) → All IsOp ops → parts ≡ spelling ops → MatchResult r (λ b. b ≡ parts) (λ e. e ≡ NoMemory) → IsWritten ops r
@@ -134,12 +150,23 @@ to_local_spells r revocation delayed delay n m v d s push =
     spelled r (to_local revocation n delayed) (to_local_parts revocation delay delayed) (to_local_ops revocation delayed n v d) (rw (push ∙ alone (number_push m), s, v, d) refl)
 
 pub offered_spells : (r : Result (List ℕ) Refusal) (revocation remote local payment hash made : List ℕ) → length revocation ≡ 20 → length remote ≡ 33 → length local ≡ 33 → length payment ≡ 20 → hash ≡ revocation → made ≡ payment
-    → MatchResult r (λ b. b ≡ offered_parts hash remote local made) (λ e. e ≡ NoMemory) → IsWritten (offered revocation remote local payment) r
+    → MatchResult r (λ b. b ≡ offered_parts hash remote local made plain_end) (λ e. e ≡ NoMemory) → IsWritten (offered revocation remote local payment) r
 offered_spells r revocation remote local payment hash made v m l p h i =
-    spelled r (offered revocation remote local payment) (offered_parts hash remote local made) (offered_ops revocation remote local payment v m l p) (rw (h, i, thirty_two, v, m, l, p) refl)
+    spelled r (offered revocation remote local payment) (offered_parts hash remote local made plain_end) (offered_ops revocation remote local payment v m l p) (rw (h, i, thirty_two, v, m, l, p) refl)
+
+pub offered_with_anchors_spells : (r : Result (List ℕ) Refusal) (revocation remote local payment hash made : List ℕ) → length revocation ≡ 20 → length remote ≡ 33 → length local ≡ 33 → length payment ≡ 20 → hash ≡ revocation → made ≡ payment
+    → MatchResult r (λ b. b ≡ offered_parts hash remote local made anchor_end) (λ e. e ≡ NoMemory) → IsWritten (offered_with_anchors revocation remote local payment) r
+offered_with_anchors_spells r revocation remote local payment hash made v m l p h i =
+    spelled r (offered_with_anchors revocation remote local payment) (offered_parts hash remote local made anchor_end) (offered_with_anchors_ops revocation remote local payment v m l p) (rw (h, i, thirty_two, v, m, l, p) refl)
 
 pub received_spells : (r : Result (List ℕ) Refusal) (revocation remote local payment hash made expiry : List ℕ) (n : ℕ) → length revocation ≡ 20 → length remote ≡ 33 → length local ≡ 33 → length payment ≡ 20
     → hash ≡ revocation → made ≡ payment → expiry ≡ spelling (number_push n ∷ [])
-    → MatchResult r (λ b. b ≡ received_parts hash remote local made expiry) (λ e. e ≡ NoMemory) → IsWritten (received revocation remote local payment n) r
+    → MatchResult r (λ b. b ≡ received_parts hash remote local made expiry plain_end) (λ e. e ≡ NoMemory) → IsWritten (received revocation remote local payment n) r
 received_spells r revocation remote local payment hash made expiry n v m l p h i push =
-    spelled r (received revocation remote local payment n) (received_parts hash remote local made expiry) (received_ops revocation remote local payment n v m l p) (rw (h, i, push ∙ alone (number_push n), thirty_two, v, m, l, p) refl)
+    spelled r (received revocation remote local payment n) (received_parts hash remote local made expiry plain_end) (received_ops revocation remote local payment n v m l p) (rw (h, i, push ∙ alone (number_push n), thirty_two, v, m, l, p) refl)
+
+pub received_with_anchors_spells : (r : Result (List ℕ) Refusal) (revocation remote local payment hash made expiry : List ℕ) (n : ℕ) → length revocation ≡ 20 → length remote ≡ 33 → length local ≡ 33 → length payment ≡ 20
+    → hash ≡ revocation → made ≡ payment → expiry ≡ spelling (number_push n ∷ [])
+    → MatchResult r (λ b. b ≡ received_parts hash remote local made expiry anchor_end) (λ e. e ≡ NoMemory) → IsWritten (received_with_anchors revocation remote local payment n) r
+received_with_anchors_spells r revocation remote local payment hash made expiry n v m l p h i push =
+    spelled r (received_with_anchors revocation remote local payment n) (received_parts hash remote local made expiry anchor_end) (received_with_anchors_ops revocation remote local payment n v m l p) (rw (h, i, push ∙ alone (number_push n), thirty_two, v, m, l, p) refl)

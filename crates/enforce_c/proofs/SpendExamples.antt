@@ -25,9 +25,11 @@ use Rattle.enforce_c.specs.declared.claim_rows.ClaimRow.{ClaimRow}
 use Rattle.enforce_c.specs.declared.claim_rows.SlotRow.{SlotRow}
 use Rattle.enforce_c.specs.declared.spend_rows.OutputRow.{OutputRow}
 use Rattle.enforce_c.specs.declared.spend_rows.SignatureRow.{SignatureRow}
+use Rattle.enforce_c.specs.declared.spend_rows.SpendAnswer.{SpendAnswer}
 use Rattle.enforce_c.specs.declared.statuses.Refusal.TheVariants.{OutOfRange, Field}
+use Rattle.enforce_c.specs.declared.about.About.TheVariants.{OfOutput}
 use Rattle.enforce_c.specs.Statuses.{parse_status, check_status, accept_status, spend_status, field_status, encode_status, decode_status}
-use Rattle.enforce_c.specs.Spent.{SpendLists, number_fault, output_of, outputs_of, AreClaimsOf, left_by_lists}
+use Rattle.enforce_c.specs.Spent.{SpendParts, SpendLists, number_fault, output_of, outputs_of, AreClaimsOf, capped, left_by_spend}
 
 -- ---- the numbers of rows
 
@@ -57,9 +59,10 @@ not_there : (output_of three (paying 2100000000000001 1 3) ≡ Err OutOfRange) �
 not_there = (refl, refl)
 
 -- in their order, and of two faults the first
-in_order : (outputs_of three (paying 5 0 1 ∷ paying 6 3 0 ∷ []) ≡ Ok (record { value = 5; script = 7 ∷ [] } ∷ record { value = 6; script = [] } ∷ []))
-    × (outputs_of three (paying 5 0 1 ∷ paying 2100000000000001 0 1 ∷ paying 5 4 0 ∷ []) ≡ Err (Field ValueTooLarge))
-in_order = (refl, refl)
+in_order : (outputs_of three 0 (paying 5 0 1 ∷ paying 6 3 0 ∷ []) ≡ Ok (record { value = 5; script = 7 ∷ [] } ∷ record { value = 6; script = [] } ∷ []))
+    × (outputs_of three 0 (paying 5 0 1 ∷ paying 2100000000000001 0 1 ∷ paying 5 4 0 ∷ []) ≡ Err (record { why = Field ValueTooLarge; about = OfOutput 1 }))
+    × (outputs_of three 0 (paying 5 0 1 ∷ paying 6 3 0 ∷ paying 5 4 0 ∷ []) ≡ Err (record { why = OutOfRange; about = OfOutput 2 }))
+in_order = (refl, refl, refl)
 
 -- ---- claims
 
@@ -75,19 +78,29 @@ signature n = record { input = n; item = n; key = []; digest = [] }
 abbrev lists : List ℕ → List SignatureRow → SpendLists
 lists bytes signatures = record { bytes = bytes; signatures = signatures }
 
+abbrev made : SpendParts
+made = record { bytes = 7 ∷ 8 ∷ []; signatures = signature 1 ∷ []; weight = 5; fee_sat = 6; txid = 1 ∷ 2 ∷ [] }
+
+abbrev told : SpendAnswer
+told = record { bytes = 2; signatures = 1; number = 0; row = 0; weight = 5; fee_sat = 6; about = 0; txid = 1 ∷ 2 ∷ []; shown_txid = 2 ∷ 1 ∷ [] }
+
 -- what is written stands at the beginning of both buffers, whose rest stays
-fits : left_by_lists (lists (7 ∷ 8 ∷ []) (signature 1 ∷ [])) (lists (0 ∷ 0 ∷ 5 ∷ []) (signature 0 ∷ signature 9 ∷ []))
-    ≡ record { status = 0; answer = record { bytes = 2; signatures = 1; number = 0 }; lists = lists (7 ∷ 8 ∷ 5 ∷ []) (signature 1 ∷ signature 9 ∷ []) }
+fits : left_by_spend made (lists (0 ∷ 0 ∷ 5 ∷ []) (signature 0 ∷ signature 9 ∷ []))
+    ≡ record { status = 0; answer = told; lists = lists (7 ∷ 8 ∷ 5 ∷ []) (signature 1 ∷ signature 9 ∷ []) }
 fits = refl
 
 -- where one is shorter by one, both stay, and both sizes are told
-short_bytes : left_by_lists (lists (7 ∷ 8 ∷ []) (signature 1 ∷ [])) (lists (0 ∷ []) (signature 0 ∷ signature 9 ∷ []))
-    ≡ record { status = 2; answer = record { bytes = 2; signatures = 1; number = 0 }; lists = lists (0 ∷ []) (signature 0 ∷ signature 9 ∷ []) }
+short_bytes : left_by_spend made (lists (0 ∷ []) (signature 0 ∷ signature 9 ∷ []))
+    ≡ record { status = 2; answer = told; lists = lists (0 ∷ []) (signature 0 ∷ signature 9 ∷ []) }
 short_bytes = refl
 
-short_rows : left_by_lists (lists (7 ∷ 8 ∷ []) (signature 1 ∷ [])) (lists (0 ∷ 0 ∷ []) [])
-    ≡ record { status = 2; answer = record { bytes = 2; signatures = 1; number = 0 }; lists = lists (0 ∷ 0 ∷ []) [] }
+short_rows : left_by_spend made (lists (0 ∷ 0 ∷ []) [])
+    ≡ record { status = 2; answer = told; lists = lists (0 ∷ 0 ∷ []) [] }
 short_rows = refl
+
+-- a number of 64 bits, and one more
+most : map capped (0 ∷ 18446744073709551615 ∷ 18446744073709551616 ∷ []) ≡ 0 ∷ 18446744073709551615 ∷ 18446744073709551615 ∷ []
+most = refl
 
 -- ---- statuses: the family times 256, and the number that the crate gives the refusal
 

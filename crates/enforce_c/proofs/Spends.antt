@@ -1,12 +1,12 @@
 -- Outputs and claims that are read one by one, and the spend of them.
-use Rattle.std.proofs.Common.{◌≡◌, ◌<◌, ◌≤◌, ◌+◌, inl, inr, ℕ, List, [], ◌∷◌, ◌++◌, length, take, drop, map, get_or, Result, Ok, Err, arith, refl, subst, sym, ap, ◌∙◌, append_assoc}
+use Rattle.std.proofs.Common.{◌≡◌, ◌<◌, ◌≤◌, ◌+◌, ◌⊎◌, inl, inr, ℕ, List, [], ◌∷◌, ◌++◌, length, take, drop, map, get_or, Result, Ok, Err, refl, subst, sym, ap, ◌∙◌, append_assoc}
 use Rattle.std.specs.Prelude.{Some, None, MatchResult}
 use Rattle.std.proofs.lemmas.List.{take_more, take_all, drop_more, drop_all, append-nil}
 use Rattle.script.specs.Step.{◌>>=◌}
 use Rattle.tx.specs.declared.errors.EncodeError.{EncodeError}
 use Rattle.tx.specs.Parts.{Output}
 use Rattle.tx.specs.Fields.{Transaction}
-use Rattle.tx.specs.Spelling.{IsTransaction}
+use Rattle.tx.specs.Spelling.{IsTransaction, transaction_id}
 use Rattle.claim.specs.Claims.{ClaimParts}
 use Rattle.filling.specs.declared.missing.MissingSignature.{MissingSignature}
 use Rattle.filling.specs.declared.errors.SpendError.{SpendError}
@@ -17,8 +17,12 @@ use Rattle.enforce_c.specs.declared.spend_rows.OutputRow.{OutputRow}
 use Rattle.enforce_c.specs.declared.spend_rows.SignatureRow.{SignatureRow}
 use Rattle.enforce_c.specs.declared.statuses.Refusal.{Refusal}
 use Rattle.enforce_c.specs.declared.statuses.Refusal.TheVariants.{NoMemory, Spend, Encode}
-use Rattle.enforce_c.specs.Claimed.{IsClaimOf, IsNoClaim}
-use Rattle.enforce_c.specs.Spent.{Asked, SpendLists, AreClaimsOf, IsFirstNoClaim, UnlessMemory, number_fault, output_of, outputs_of, signature_row, AreRead, IsUnread, IsUnspent, IsEncodeRefusal, IsNotEncoded, IsMade, IsUnmade, IsSpent}
+use Rattle.enforce_c.specs.declared.about.About.TheVariants.{OfOutput}
+use Rattle.enforce_c.specs.declared.about.Refused.{Refused}
+use Rattle.enforce_c.specs.About.{refused_whole}
+use Rattle.enforce_c.specs.Faulty.{refused_at}
+use Rattle.enforce_c.specs.Claimed.{IsClaimOf}
+use Rattle.enforce_c.specs.Spent.{Asked, SpendParts, AreClaimsOf, IsNoClaimAt, IsFirstNoClaim, UnlessMemory, number_fault, output_of, output_at, outputs_of, signature_row, AreRead, IsUnread, IsUnspent, IsEncodeRefusal, IsNotEncoded, capped, greatest_weight, fee_of, IsTold, IsMade, IsUnmade, IsNoSpend, IsSpent}
 
 -- ---- unless memory ran out
 
@@ -33,34 +37,38 @@ still_unless_memory e P Q f p = f p
 -- ---- outputs
 
 -- outputs before those of a result
-abbrev pub with_first : List Output → Result (List Output) Refusal → Result (List Output) Refusal
+abbrev pub with_first : List Output → Result (List Output) Refused → Result (List Output) Refused
 with_first before (Ok outputs) = Ok (before ++ outputs)
 with_first before (Err e) = Err e
 
-moved : (old : List Output) (o : Output) (r : Result (List Output) Refusal) → with_first old (r >>= λ os. Ok (o ∷ os)) ≡ with_first (old ++ o ∷ []) r
+moved : (old : List Output) (o : Output) (r : Result (List Output) Refused) → with_first old (r >>= λ os. Ok (o ∷ os)) ≡ with_first (old ++ o ∷ []) r
 moved old o (Ok os) = ap Ok (sym (append_assoc old (o ∷ []) os))
 moved old o (Err e) = refl
 
+-- the refusal of a row's output, which has an index
+pub no_output : (index : ℕ) (r : Result Output Refusal) (why : Refusal) → UnlessMemory why (r ≡ Err why) → UnlessMemory why (output_at index r ≡ Err (record { why = why; about = OfOutput index }))
+no_output index r why is = still_unless_memory why (r ≡ Err why) (output_at index r ≡ Err (record { why = why; about = OfOutput index })) (λ e. ap (output_at index) e) is
+
 -- those of the rows that are left, by the next one
-left : (bytes : List ℕ) (rows : List OutputRow) (i : ℕ) (d row : OutputRow) (r : Result Output Refusal) → i < length rows → row ≡ get_or rows i d → output_of bytes row ≡ r
-    → outputs_of bytes (drop i rows) ≡ (r >>= λ o. outputs_of bytes (drop (i + 1) rows) >>= λ os. Ok (o ∷ os))
+left : (bytes : List ℕ) (rows : List OutputRow) (i : ℕ) (d row : OutputRow) (r : Result Output Refused) → i < length rows → row ≡ get_or rows i d → output_at i (output_of bytes row) ≡ r
+    → outputs_of bytes i (drop i rows) ≡ (r >>= λ o. outputs_of bytes (i + 1) (drop (i + 1) rows) >>= λ os. Ok (o ∷ os))
 left bytes rows i d row r h e is =
-    let rest = outputs_of bytes (drop (i + 1) rows) in
-    ap (outputs_of bytes) (drop_more rows i d h) ∙ ap (λ x. output_of bytes x >>= λ o. rest >>= λ os. Ok (o ∷ os)) (sym e) ∙ ap (λ x. x >>= λ o. rest >>= λ os. Ok (o ∷ os)) is
+    let rest = outputs_of bytes (i + 1) (drop (i + 1) rows) in
+    ap (outputs_of bytes i) (drop_more rows i d h) ∙ ap (λ x. output_at i (output_of bytes x) >>= λ o. rest >>= λ os. Ok (o ∷ os)) (sym e) ∙ ap (λ x. x >>= λ o. rest >>= λ os. Ok (o ∷ os)) is
 
-pub outputs_next : (bytes : List ℕ) (rows : List OutputRow) (i : ℕ) (d row : OutputRow) (old : List Output) (o : Output) → i < length rows → row ≡ get_or rows i d → output_of bytes row ≡ Ok o
-    → with_first old (outputs_of bytes (drop i rows)) ≡ outputs_of bytes rows → with_first (old ++ o ∷ []) (outputs_of bytes (drop (i + 1) rows)) ≡ outputs_of bytes rows
+pub outputs_next : (bytes : List ℕ) (rows : List OutputRow) (i : ℕ) (d row : OutputRow) (old : List Output) (o : Output) → i < length rows → row ≡ get_or rows i d → output_at i (output_of bytes row) ≡ Ok o
+    → with_first old (outputs_of bytes i (drop i rows)) ≡ outputs_of bytes 0 rows → with_first (old ++ o ∷ []) (outputs_of bytes (i + 1) (drop (i + 1) rows)) ≡ outputs_of bytes 0 rows
 outputs_next bytes rows i d row old o h e is whole =
-    sym (moved old o (outputs_of bytes (drop (i + 1) rows))) ∙ sym (ap (with_first old) (left bytes rows i d row (Ok o) h e is)) ∙ whole
+    sym (moved old o (outputs_of bytes (i + 1) (drop (i + 1) rows))) ∙ sym (ap (with_first old) (left bytes rows i d row (Ok o) h e is)) ∙ whole
 
-pub output_here : (bytes : List ℕ) (rows : List OutputRow) (i : ℕ) (d row : OutputRow) (old : List Output) (e : Refusal) → i < length rows → row ≡ get_or rows i d → UnlessMemory e (output_of bytes row ≡ Err e)
-    → with_first old (outputs_of bytes (drop i rows)) ≡ outputs_of bytes rows → UnlessMemory e (outputs_of bytes rows ≡ Err e)
+pub output_here : (bytes : List ℕ) (rows : List OutputRow) (i : ℕ) (d row : OutputRow) (old : List Output) (e : Refused) → i < length rows → row ≡ get_or rows i d → UnlessMemory e.why (output_at i (output_of bytes row) ≡ Err e)
+    → with_first old (outputs_of bytes i (drop i rows)) ≡ outputs_of bytes 0 rows → UnlessMemory e.why (outputs_of bytes 0 rows ≡ Err e)
 output_here bytes rows i d row old e h same is whole =
-    still_unless_memory e (output_of bytes row ≡ Err e) (outputs_of bytes rows ≡ Err e) (λ f. sym whole ∙ ap (with_first old) (left bytes rows i d row (Err e) h same f)) is
+    still_unless_memory e.why (output_at i (output_of bytes row) ≡ Err e) (outputs_of bytes 0 rows ≡ Err e) (λ f. sym whole ∙ ap (with_first old) (left bytes rows i d row (Err e) h same f)) is
 
-pub outputs_all : (bytes : List ℕ) (rows : List OutputRow) (i : ℕ) (outputs : List Output) → length rows ≤ i → with_first outputs (outputs_of bytes (drop i rows)) ≡ outputs_of bytes rows → outputs_of bytes rows ≡ Ok outputs
+pub outputs_all : (bytes : List ℕ) (rows : List OutputRow) (i : ℕ) (outputs : List Output) → length rows ≤ i → with_first outputs (outputs_of bytes i (drop i rows)) ≡ outputs_of bytes 0 rows → outputs_of bytes 0 rows ≡ Ok outputs
 outputs_all bytes rows i outputs h whole =
-    sym whole ∙ ap (λ rs. with_first outputs (outputs_of bytes rs)) (drop_all i rows h) ∙ ap Ok (append-nil outputs)
+    sym whole ∙ ap (λ rs. with_first outputs (outputs_of bytes i rs)) (drop_all i rows h) ∙ ap Ok (append-nil outputs)
 
 -- ---- claims
 
@@ -84,33 +92,30 @@ split : (rows : List ClaimRow) (i : ℕ) (d row : ClaimRow) → i < length rows 
 split rows i d row h e = ap (λ r. r ∷ drop (i + 1) rows) e ∙ sym (drop_more rows i d h)
 
 -- a refusal of the next row, and one of the rows after it, is one of the rows that are left
-pub no_claim_here : (slots : List SlotRow) (bytes : List ℕ) (rows : List ClaimRow) (i : ℕ) (d row : ClaimRow) (e : Refusal) → i < length rows → row ≡ get_or rows i d → IsNoClaim row slots bytes e → IsFirstNoClaim slots bytes (drop i rows) e
-no_claim_here slots bytes rows i d row e h same is = subst (λ rs. IsFirstNoClaim slots bytes rs e) (split rows i d row h same) (inl is)
+pub no_claim_here : (slots : List SlotRow) (bytes : List ℕ) (rows : List ClaimRow) (i : ℕ) (d row : ClaimRow) (e : Refused) → i < length rows → row ≡ get_or rows i d → IsNoClaimAt i row slots bytes e
+    → IsFirstNoClaim slots bytes i (drop i rows) e
+no_claim_here slots bytes rows i d row e h same is = subst (λ rs. IsFirstNoClaim slots bytes i rs e) (split rows i d row h same) (inl is)
 
-pub no_claim_later : (slots : List SlotRow) (bytes : List ℕ) (rows : List ClaimRow) (i : ℕ) (d row : ClaimRow) (c : ClaimParts) (e : Refusal) → i < length rows → row ≡ get_or rows i d → IsClaimOf row slots bytes c
-    → IsFirstNoClaim slots bytes (drop (i + 1) rows) e → IsFirstNoClaim slots bytes (drop i rows) e
-no_claim_later slots bytes rows i d row c e h same is later = subst (λ rs. IsFirstNoClaim slots bytes rs e) (split rows i d row h same) (inr (c, is, later))
+pub no_claim_later : (slots : List SlotRow) (bytes : List ℕ) (rows : List ClaimRow) (i : ℕ) (d row : ClaimRow) (c : ClaimParts) (e : Refused) → i < length rows → row ≡ get_or rows i d → IsClaimOf row slots bytes c
+    → IsFirstNoClaim slots bytes (i + 1) (drop (i + 1) rows) e → IsFirstNoClaim slots bytes i (drop i rows) e
+no_claim_later slots bytes rows i d row c e h same is later = subst (λ rs. IsFirstNoClaim slots bytes i rs e) (split rows i d row h same) (inr (c, is, later))
 
 -- the refusal of the next row is the first one of all rows, where one of the rows that are left is
-pub no_claim : (slots : List SlotRow) (bytes : List ℕ) (rows : List ClaimRow) (i : ℕ) (d row : ClaimRow) (e : Refusal) → i < length rows → row ≡ get_or rows i d
-    → ((x : Refusal) → IsFirstNoClaim slots bytes (drop i rows) x → IsFirstNoClaim slots bytes rows x) → IsNoClaim row slots bytes e → IsFirstNoClaim slots bytes rows e
-no_claim slots bytes rows i d row e h same whole is = whole e (no_claim_here slots bytes rows i d row e h same is)
-
--- where there is a row, memory may run out
-pub memory_out : (slots : List SlotRow) (bytes : List ℕ) (rows : List ClaimRow) (i : ℕ) → i < length rows → IsFirstNoClaim slots bytes rows NoMemory
-memory_out slots bytes [] i h = omega arith
-memory_out slots bytes (row ∷ rows) i h = inl tt
+pub no_claim : (slots : List SlotRow) (bytes : List ℕ) (rows : List ClaimRow) (i : ℕ) (d row : ClaimRow) (e : Refused) → i < length rows → row ≡ get_or rows i d
+    → ((x : Refused) → IsFirstNoClaim slots bytes i (drop i rows) x → IsFirstNoClaim slots bytes 0 rows x) → IsNoClaimAt i row slots bytes e → UnlessMemory e.why (IsFirstNoClaim slots bytes 0 rows e)
+no_claim slots bytes rows i d row e h same whole is = unless_memory e.why (IsFirstNoClaim slots bytes 0 rows e) (whole e (no_claim_here slots bytes rows i d row e h same is))
 
 -- ---- what rows say
 
-pub unread_number : (a : Asked) (e : Refusal) → number_fault (length a.claims) (length a.outputs) ≡ Some e → UnlessMemory e (IsUnread a e)
-unread_number a e is = unless_memory e (IsUnread a e) (inl is)
+pub unread_number : (a : Asked) (why : Refusal) (e : Refused) → number_fault (length a.claims) (length a.outputs) ≡ Some why → e ≡ refused_whole why → UnlessMemory e.why (IsUnread a e)
+unread_number a why e is same = subst (λ x. UnlessMemory x.why (IsUnread a x)) (sym same) (unless_memory why (IsUnread a (refused_whole why)) (inl (is, refl)))
 
-pub unread_output : (a : Asked) (e : Refusal) → number_fault (length a.claims) (length a.outputs) ≡ None → UnlessMemory e (outputs_of a.bytes a.outputs ≡ Err e) → UnlessMemory e (IsUnread a e)
-unread_output a e none is = still_unless_memory e (outputs_of a.bytes a.outputs ≡ Err e) (IsUnread a e) (λ f. inr (none, inl f)) is
+pub unread_output : (a : Asked) (e : Refused) → number_fault (length a.claims) (length a.outputs) ≡ None → UnlessMemory e.why (outputs_of a.bytes 0 a.outputs ≡ Err e) → UnlessMemory e.why (IsUnread a e)
+unread_output a e none is = still_unless_memory e.why (outputs_of a.bytes 0 a.outputs ≡ Err e) (IsUnread a e) (λ f. inr (none, inl f)) is
 
-pub unread_claim : (a : Asked) (e : Refusal) (outputs : List Output) → number_fault (length a.claims) (length a.outputs) ≡ None → outputs_of a.bytes a.outputs ≡ Ok outputs → IsFirstNoClaim a.slots a.bytes a.claims e → UnlessMemory e (IsUnread a e)
-unread_claim a e outputs none are is = unless_memory e (IsUnread a e) (inr (none, inr (outputs, are, is)))
+pub unread_claim : (a : Asked) (e : Refused) (outputs : List Output) → number_fault (length a.claims) (length a.outputs) ≡ None → outputs_of a.bytes 0 a.outputs ≡ Ok outputs
+    → UnlessMemory e.why (IsFirstNoClaim a.slots a.bytes 0 a.claims e) → UnlessMemory e.why (IsUnread a e)
+unread_claim a e outputs none are is = still_unless_memory e.why (IsFirstNoClaim a.slots a.bytes 0 a.claims e) (IsUnread a e) (λ f. inr (none, inr (outputs, are, f))) is
 
 -- ---- the spend
 
@@ -120,9 +125,14 @@ unspent claims outputs preimages why is = record { why = why; named = refl; firs
 pub not_encoded : (t : Transaction) (why : EncodeError) → IsEncodeRefusal t why → IsNotEncoded t (Encode why)
 not_encoded t why is = record { why = why; named = refl; refused = is }
 
-pub is_made : (claims : List ClaimParts) (outputs : List Output) (preimages : List (List ℕ)) (t : Transaction) (signatures : List MissingSignature) (bytes : List ℕ) (rows : List SignatureRow)
-    → IsUnsignedSpend claims outputs preimages t signatures → IsTransaction t bytes → rows ≡ map signature_row signatures → IsMade claims outputs preimages (record { bytes = bytes; signatures = rows })
-is_made claims outputs preimages t signatures bytes rows spend spelt same = record { tx = t; signatures = signatures; spend = spend; spelt = spelt; rows = same }
+pub is_told : (claims : List ClaimParts) (t : Transaction) (signatures : List MissingSignature) (bytes : List ℕ) (rows : List SignatureRow) (weight fee_sat : ℕ) (txid : List ℕ)
+    → IsTransaction t bytes → rows ≡ map signature_row signatures → weight ≡ capped (greatest_weight t bytes (length signatures)) → fee_sat ≡ capped (fee_of claims t) → txid ≡ transaction_id t
+    → IsTold claims t signatures (record { bytes = bytes; signatures = rows; weight = weight; fee_sat = fee_sat; txid = txid })
+is_told claims t signatures bytes rows weight fee_sat txid spelt same heavy paid id = record { spelt = spelt; rows = same; weight = heavy; fee = paid; id = id }
+
+pub is_made : (claims : List ClaimParts) (outputs : List Output) (preimages : List (List ℕ)) (t : Transaction) (signatures : List MissingSignature) (s : SpendParts)
+    → IsUnsignedSpend claims outputs preimages t signatures → IsTold claims t signatures s → IsMade claims outputs preimages s
+is_made claims outputs preimages t signatures s spend told = record { tx = t; signatures = signatures; spend = spend; told = told }
 
 pub no_spend : (claims : List ClaimParts) (outputs : List Output) (preimages : List (List ℕ)) (e : Refusal) → UnlessMemory e (IsUnspent claims outputs preimages e) → UnlessMemory e (IsUnmade claims outputs preimages e)
 no_spend claims outputs preimages e is = still_unless_memory e (IsUnspent claims outputs preimages e) (IsUnmade claims outputs preimages e) (λ f. inl f) is
@@ -132,11 +142,33 @@ pub no_bytes : (claims : List ClaimParts) (outputs : List Output) (preimages : L
 no_bytes claims outputs preimages t signatures e spend is =
     still_unless_memory e (IsNotEncoded t e) (IsUnmade claims outputs preimages e) (λ f. inr (record { tx = t; signatures = signatures; spend = spend; refused = f })) is
 
-pub not_read : (a : Asked) (preimages : List (List ℕ)) (e : Refusal) → UnlessMemory e (IsUnread a e) → IsSpent a preimages (Err e)
-not_read a preimages e is = still_unless_memory e (IsUnread a e) _ (λ f. inl f) is
+-- where memory ran out, nothing more is said
+pub no_memory : (e : Refused) (P : Type 0) → e ≡ refused_whole NoMemory → UnlessMemory e.why P
+no_memory e P is = subst (λ x. UnlessMemory x.why P) (sym is) tt
 
-pub spent_of : (a : Asked) (preimages : List (List ℕ)) (claims : List ClaimParts) (outputs : List Output) (r : Result SpendLists Refusal) → AreRead a claims outputs
-    → MatchResult r (λ s. IsMade claims outputs preimages s) (λ e. UnlessMemory e (IsUnmade claims outputs preimages e)) → IsSpent a preimages r
-spent_of a preimages claims outputs (Ok s) read made = record { claims = claims; outputs = outputs; read = read; made = made }
-spent_of a preimages claims outputs (Err e) read made =
-    still_unless_memory e (IsUnmade claims outputs preimages e) _ (λ f. inr (record { claims = claims; outputs = outputs; read = read; refused = f })) made
+pub memory_out : (a : Asked) (preimages : List (List ℕ)) (e : Refused) → e ≡ refused_whole NoMemory → IsSpent a preimages (Err e)
+memory_out a preimages e is = subst (λ x. IsSpent a preimages (Err x)) (sym is) tt
+
+pub not_read : (a : Asked) (preimages : List (List ℕ)) (e : Refused) → UnlessMemory e.why (IsUnread a e) → IsSpent a preimages (Err e)
+not_read a preimages e is = still_unless_memory e.why (IsUnread a e) _ (λ f. inl f) is
+
+pub spent_of : (a : Asked) (preimages : List (List ℕ)) (claims : List ClaimParts) (outputs : List Output) (s : SpendParts) → AreRead a claims outputs → IsMade claims outputs preimages s → IsSpent a preimages (Ok s)
+spent_of a preimages claims outputs s read made = record { claims = claims; outputs = outputs; read = read; made = made }
+
+-- a refusal that is another one, unless memory ran out, has what holds of that
+carried_by : (why : Refusal) (e x : Refused) (P : Refused → Type 0) → e.why ≡ why → UnlessMemory why (e ≡ x) → UnlessMemory x.why (P x) → UnlessMemory why (P e)
+carried_by NoMemory e x P w same p = tt
+carried_by why e x P w same p = subst P (sym same) (subst (λ z. UnlessMemory z (P x)) (sym (ap (λ r. r.why) same) ∙ w) p)
+
+pub carried : (e x : Refused) (P : Refused → Type 0) → UnlessMemory e.why (e ≡ x) → UnlessMemory x.why (P x) → UnlessMemory e.why (P e)
+carried e x P = carried_by e.why e x P refl
+
+at_claim : (a : Asked) (preimages : List (List ℕ)) (claims : List ClaimParts) (outputs : List Output) (why : Refusal) → AreRead a claims outputs → UnlessMemory why (IsUnmade claims outputs preimages why)
+    → IsSpent a preimages (Err (refused_at claims preimages why))
+at_claim a preimages claims outputs why read made =
+    still_unless_memory why (IsUnmade claims outputs preimages why) _ (λ f. inr (record { claims = claims; outputs = outputs; read = read; refused = f; about = refl })) made
+
+pub not_spent : (a : Asked) (preimages : List (List ℕ)) (claims : List ClaimParts) (outputs : List Output) (why : Refusal) (e : Refused) → AreRead a claims outputs → UnlessMemory why (IsUnmade claims outputs preimages why)
+    → UnlessMemory e.why (e ≡ refused_at claims preimages why) → IsSpent a preimages (Err e)
+not_spent a preimages claims outputs why e read made same =
+    carried e (refused_at claims preimages why) (λ x. IsUnread a x ⊎ IsNoSpend a preimages x) same (at_claim a preimages claims outputs why read made)

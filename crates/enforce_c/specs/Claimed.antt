@@ -1,5 +1,5 @@
 -- The claim that rows ask for, or why there is none.
-use Rattle.std.specs.Prelude.{◌≡◌, ℕ, ◌==◌, nat_lt, if◌then◌else◌, not, List, [], ◌∷◌, length, Option, Some, None, Result, Ok, Err}
+use Rattle.std.specs.Prelude.{◌≡◌, ℕ, ◌+◌, ◌==◌, nat_lt, if◌then◌else◌, not, List, [], ◌∷◌, length, Option, Some, None, Result, Ok, Err}
 use Rattle.script.specs.Token.{is_key}
 use Rattle.script.specs.declared.limits.TheConstants.{MAX_SCRIPT_ELEMENT_SIZE}
 use Rattle.paths.specs.Listing.{CheckedScript}
@@ -16,7 +16,7 @@ use Rattle.enforce_c.specs.declared.claim_rows.ClaimRow.{ClaimRow}
 use Rattle.enforce_c.specs.declared.claim_rows.SlotRow.{SlotRow}
 use Rattle.enforce_c.specs.declared.claim_rows.Due.{Due}
 use Rattle.enforce_c.specs.declared.statuses.Refusal.{Refusal}
-use Rattle.enforce_c.specs.declared.statuses.Refusal.TheVariants.{NoMemory, Parse, Check, NotAKey, OutOfRange, NoSuchSlot, ItemTooLong, Accept}
+use Rattle.enforce_c.specs.declared.statuses.Refusal.TheVariants.{NoMemory, Parse, Check, NotAKey, OutOfRange, NoSuchSlot, ItemTooLong, SlotOutOfRange, Accept}
 use Rattle.enforce_c.specs.Statuses.{status_of}
 use Rattle.enforce_c.specs.Ranges.{has_part, part}
 use Rattle.enforce_c.specs.Answers.{refused_with, bytes_answer}
@@ -34,20 +34,20 @@ or_then None next = next
 
 -- ---- slots
 
--- why there is no item of these bytes, if there is none: at most 520 of them
-abbrev pub item_fault : List ℕ → SlotRow → Option Refusal
-item_fault bytes row =
+-- why there is no item of these bytes for the slot of this index, if there is none: at most 520 of them
+abbrev pub item_fault : List ℕ → ℕ → SlotRow → Option Refusal
+item_fault bytes index row =
     if has_part row.bytes_at row.bytes_length bytes
-    then (if nat_lt MAX_SCRIPT_ELEMENT_SIZE (length (part row.bytes_at row.bytes_length bytes)) then Some ItemTooLong else None)
-    else Some OutOfRange
+    then (if nat_lt MAX_SCRIPT_ELEMENT_SIZE (length (part row.bytes_at row.bytes_length bytes)) then Some (ItemTooLong index) else None)
+    else Some (SlotOutOfRange index)
 
--- why a row fills no slot, if it fills none
-abbrev pub slot_fault : List ℕ → SlotRow → Option Refusal
-slot_fault bytes row =
-    if row.kind == 1 then (if is_key row.key then None else Some NotAKey)
+-- why a row does not fill the slot of this index, if it does not
+abbrev pub slot_fault : List ℕ → ℕ → SlotRow → Option Refusal
+slot_fault bytes index row =
+    if row.kind == 1 then (if is_key row.key then None else Some (NotAKey index))
     else if row.kind == 2 then None
-    else if row.kind == 3 then item_fault bytes row
-    else Some NoSuchSlot
+    else if row.kind == 3 then item_fault bytes index row
+    else Some (NoSuchSlot index)
 
 -- the row fills a slot so
 abbrev pub FillsAs : List ℕ → SlotRow → Slot → Type 0
@@ -55,10 +55,10 @@ FillsAs bytes row (Sig k) = (row.kind ≡ 1) × (k.bytes ≡ row.key)
 FillsAs bytes row (Preimage h) = (row.kind ≡ 2) × (h ≡ row.hash)
 FillsAs bytes row (Exact w) = (row.kind ≡ 3) × (w.item ≡ part row.bytes_at row.bytes_length bytes)
 
--- the same of rows, one by one
-abbrev pub slots_fault : List ℕ → List SlotRow → Option Refusal
-slots_fault bytes [] = None
-slots_fault bytes (row ∷ rows) = or_then (slot_fault bytes row) (slots_fault bytes rows)
+-- the same of rows, one by one, the first of which has this index
+abbrev pub slots_fault : List ℕ → ℕ → List SlotRow → Option Refusal
+slots_fault bytes index [] = None
+slots_fault bytes index (row ∷ rows) = or_then (slot_fault bytes index row) (slots_fault bytes (index + 1) rows)
 
 abbrev pub FillAs : List ℕ → List SlotRow → List Slot → Type 0
 FillAs bytes [] [] = Unit {0}
@@ -87,7 +87,7 @@ rows_fault row rows bytes =
     if not (has_part row.script_at row.script_length bytes) then Some OutOfRange
     else if not (has_part row.program_at row.program_length bytes) then Some OutOfRange
     else if not (has_part row.first_slot row.slots rows) then Some OutOfRange
-    else slots_fault bytes (slots_in row rows)
+    else slots_fault bytes 0 (slots_in row rows)
 
 -- ---- the claim
 

@@ -1,11 +1,11 @@
 -- The spend of claims with the signatures that are given, or why there is none.
-use Rattle.std.specs.Prelude.{◌≡◌, ◌⊎◌, ℕ, Bool, ◌&&◌, not, ◌==◌, nat_le, if◌then◌else◌, List, [], ◌∷◌, length, map, Result, Ok, Err}
+use Rattle.std.specs.Prelude.{◌≡◌, ◌⊎◌, ℕ, Bool, ◌&&◌, not, ◌==◌, nat_le, if◌then◌else◌, List, [], ◌∷◌, length, map, replicate, reverse, Result, Ok, Err}
 use Rattle.script.specs.Step.{◌>>=◌}
 use Rattle.script.specs.Token.{token_of}
 use Rattle.tx.specs.declared.input.TxIn.{TxIn}
 use Rattle.tx.specs.Parts.{Output}
 use Rattle.tx.specs.Fields.{Transaction}
-use Rattle.tx.specs.Spelling.{IsTransaction}
+use Rattle.tx.specs.Spelling.{IsTransaction, transaction_id}
 use Rattle.claim.specs.Claims.{ClaimParts}
 use Rattle.filling.specs.declared.missing.MissingSignature.{MissingSignature}
 use Rattle.filling.specs.Filling.{filling_of}
@@ -16,7 +16,10 @@ use Rattle.enforce_c.specs.declared.finish_rows.FinishAnswer.{FinishAnswer}
 use Rattle.enforce_c.specs.declared.statuses.SignaturePlace.{SignaturePlace}
 use Rattle.enforce_c.specs.declared.statuses.Refusal.{Refusal}
 use Rattle.enforce_c.specs.declared.statuses.Refusal.TheVariants.{NoSignature, SignatureOutOfRange, NotDer, NotSighashAll, NotAsked}
-use Rattle.enforce_c.specs.Statuses.{status_of, number_of, item_of}
+use Rattle.enforce_c.specs.declared.about.Refused.{Refused}
+use Rattle.enforce_c.specs.Statuses.{status_of, number_of}
+use Rattle.enforce_c.specs.About.{kind_of, row_of}
+use Rattle.enforce_c.specs.Faulty.{spend_about}
 use Rattle.enforce_c.specs.Ranges.{has_part, part}
 use Rattle.enforce_c.specs.Answers.{over}
 use Rattle.enforce_c.specs.Der.{is_der, is_sighash_all}
@@ -80,15 +83,21 @@ pub record HasSignatures (given : List ℕ) (missing : List MissingSignature) (r
   pub read : signatures_of given missing rows ≡ Ok signatures
   pub signed : after ≡ signed_with before missing signatures
 
+-- a transaction's bytes, and its id
+pub record SignedParts : Type 0 where
+  pub bytes : List ℕ
+  pub txid : List ℕ
+
 -- the bytes are those of the unsigned spend of the claims with the signatures that the rows give (BIP 144). The same with the token of each key over
 -- its digest is the filling of the claims, each input of which runs clean
-pub record IsSigned (claims : List ClaimParts) (outputs : List Output) (preimages : List (List ℕ)) (rows : List SignedRow) (given bytes : List ℕ) : Type 0 where
+pub record IsSigned (claims : List ClaimParts) (outputs : List Output) (preimages : List (List ℕ)) (rows : List SignedRow) (given : List ℕ) (s : SignedParts) : Type 0 where
   pub unsigned : Transaction
   pub missing : List MissingSignature
   pub spend : IsUnsignedSpend claims outputs preimages unsigned missing
   pub tx : Transaction
   pub signed : HasSignatures given missing rows unsigned tx
-  pub spelled : IsTransaction tx bytes
+  pub spelled : IsTransaction tx s.bytes
+  pub id : s.txid ≡ transaction_id tx
   pub filled : signed_with unsigned missing (tokens_of missing) ≡ filling_of claims outputs preimages
   pub clean : AllRunClean (filling_of claims outputs preimages) (filling_of claims outputs preimages).inputs (map (λ c. c.place) claims)
 
@@ -116,21 +125,22 @@ IsNotSigned claims outputs preimages rows given e =
     IsUnspent claims outputs preimages e ⊎ (HasNoSignature claims outputs preimages rows given e ⊎ IsUnspelled claims outputs preimages rows given e)
 
 -- the spend is made of the claims and the outputs that the rows ask for
-pub record IsFinishOf (a : Asked) (preimages : List (List ℕ)) (rows : List SignedRow) (bytes : List ℕ) : Type 0 where
+pub record IsFinishOf (a : Asked) (preimages : List (List ℕ)) (rows : List SignedRow) (s : SignedParts) : Type 0 where
   pub claims : List ClaimParts
   pub outputs : List Output
   pub read : AreRead a claims outputs
-  pub signed : IsSigned claims outputs preimages rows a.bytes bytes
+  pub signed : IsSigned claims outputs preimages rows a.bytes s
 
-pub record IsNoFinish (a : Asked) (preimages : List (List ℕ)) (rows : List SignedRow) (e : Refusal) : Type 0 where
+pub record IsNoFinish (a : Asked) (preimages : List (List ℕ)) (rows : List SignedRow) (e : Refused) : Type 0 where
   pub claims : List ClaimParts
   pub outputs : List Output
   pub read : AreRead a claims outputs
-  pub refused : IsNotSigned claims outputs preimages rows a.bytes e
+  pub refused : IsNotSigned claims outputs preimages rows a.bytes e.why
+  pub about : e.about ≡ spend_about claims preimages e.why
 
-abbrev pub IsFinished : Asked → List (List ℕ) → List SignedRow → Result (List ℕ) Refusal → Type 0
-IsFinished a preimages rows (Ok bytes) = IsFinishOf a preimages rows bytes
-IsFinished a preimages rows (Err e) = UnlessMemory e (IsUnread a e ⊎ IsNoFinish a preimages rows e)
+abbrev pub IsFinished : Asked → List (List ℕ) → List SignedRow → Result SignedParts Refused → Type 0
+IsFinished a preimages rows (Ok s) = IsFinishOf a preimages rows s
+IsFinished a preimages rows (Err e) = UnlessMemory e.why (IsUnread a e ⊎ IsNoFinish a preimages rows e)
 
 -- ---- what the call leaves
 
@@ -139,21 +149,21 @@ pub record LeftFinish : Type 0 where
   pub answer : FinishAnswer
   pub bytes : List ℕ
 
-abbrev pub finish_size : List ℕ → FinishAnswer
-finish_size bytes = record { bytes = length bytes; number = 0; item = 0 }
+abbrev pub finish_told : SignedParts → FinishAnswer
+finish_told s = record { bytes = length s.bytes; number = 0; row = 0; about = 0; txid = s.txid; shown_txid = reverse s.txid }
 
-abbrev pub finish_refused : Refusal → FinishAnswer
-finish_refused e = record { bytes = 0; number = number_of e; item = item_of e }
+abbrev pub finish_refused : Refused → FinishAnswer
+finish_refused e = record { bytes = 0; number = number_of e.why; row = row_of e.about; about = kind_of e.about; txid = replicate 32 0; shown_txid = replicate 32 0 }
 
-abbrev pub left_by_finish : List ℕ → List ℕ → LeftFinish
-left_by_finish bytes room = if nat_le (length bytes) (length room)
-    then record { status = 0; answer = finish_size bytes; bytes = over bytes room }
-    else record { status = 2; answer = finish_size bytes; bytes = room }
+abbrev pub left_by_finish : SignedParts → List ℕ → LeftFinish
+left_by_finish s room = if nat_le (length s.bytes) (length room)
+    then record { status = 0; answer = finish_told s; bytes = over s.bytes room }
+    else record { status = 2; answer = finish_told s; bytes = room }
 
-abbrev pub finish_left_by : Result (List ℕ) Refusal → List ℕ → LeftFinish
-finish_left_by (Ok bytes) room = left_by_finish bytes room
-finish_left_by (Err e) room = record { status = status_of e; answer = finish_refused e; bytes = room }
+abbrev pub finish_left_by : Result SignedParts Refused → List ℕ → LeftFinish
+finish_left_by (Ok s) room = left_by_finish s room
+finish_left_by (Err e) room = record { status = status_of e.why; answer = finish_refused e; bytes = room }
 
 -- the call leaves this, by what becomes of the rows
 abbrev pub AnswersFinish : Asked → List (List ℕ) → List SignedRow → List ℕ → LeftFinish → Type 0
-AnswersFinish a preimages rows before after = (r : Result (List ℕ) Refusal) × IsFinished a preimages rows r × (finish_left_by r before ≡ after)
+AnswersFinish a preimages rows before after = (r : Result SignedParts Refused) × IsFinished a preimages rows r × (finish_left_by r before ≡ after)

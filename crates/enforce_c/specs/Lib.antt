@@ -5,9 +5,13 @@ pub mod Listed
 pub mod FormScripts
 pub mod Ranges
 pub mod Claimed
+pub mod About
+pub mod Faulty
 pub mod Spent
 pub mod Der
 pub mod Finished
 pub mod ClaimLists
+pub mod Prepared
+pub mod Noted
 pub mod Commitments
 pub mod Found

@@ -1,5 +1,7 @@
 -- The statuses: 0, or a family times 256 and the number of a refusal in it.
-use Rattle.std.specs.Prelude.{ℕ}
+use Rattle.std.specs.Prelude.{ℕ, List, [], ◌∷◌}
+use Rattle.facts.specs.Symbols.{Fact}
+use Rattle.facts.specs.declared.symbols.FactOver.TheVariants.{Hash, Size, Truth, Is, KeyForm, Form, Token, Assigned, Lock, Age}
 use Rattle.script.specs.declared.parse.ParseError.{ParseError}
 use Rattle.script.specs.declared.parse.ParseError.TheVariants.{NoMemory as ParseMemory, BadOpcode, Truncated, TooLong}
 use Rattle.paths.specs.declared.errors.CheckError.{CheckError}
@@ -15,7 +17,7 @@ use Rattle.claim.specs.declared.errors.AcceptError.TheVariants.{NoMemory as Acce
 use Rattle.filling.specs.declared.errors.SpendError.{SpendError}
 use Rattle.filling.specs.declared.errors.SpendError.TheVariants.{NoMemory as SpendMemory, FixedTransaction, SameOutpoint, OutputsExceed, MeasuredSignature, NoPreimage}
 use Rattle.enforce_c.specs.declared.statuses.Refusal.{Refusal}
-use Rattle.enforce_c.specs.declared.statuses.Refusal.TheVariants.{NoMemory, Parse, Check, NoSuchForm, NotAKey, NotAHeight, OutOfRange, NoSuchSlot, ItemTooLong, Accept, Field, Spend, Encode, Decode, NoSuchChannelType, NotACommitmentKey, NoSuchDirection, ExpiryTooLarge, NoSuchClose, NoSignature, SignatureOutOfRange, NotDer, NotSighashAll, NotAsked}
+use Rattle.enforce_c.specs.declared.statuses.Refusal.TheVariants.{NoMemory, Parse, Check, NoSuchForm, NotAKey, NotAHeight, OutOfRange, NoSuchSlot, ItemTooLong, SlotOutOfRange, Accept, Field, Spend, Encode, Decode, NoSuchChannelType, NotACommitmentKey, NoSuchDirection, ExpiryTooLarge, NoSuchClose, NoSignature, SignatureOutOfRange, NotDer, NotSighashAll, NotAsked}
 
 -- of a script's bytes
 abbrev pub parse_status : ParseError → ℕ
@@ -78,15 +80,16 @@ status_of NoMemory = 1
 status_of (Parse e) = parse_status e
 status_of (Check e) = check_status e
 status_of NoSuchForm = 1025
-status_of NotAKey = 1026
+status_of (NotAKey number) = 1026
 status_of NotAHeight = 1027
 status_of (Accept e) = accept_status e
 status_of (Spend e) = spend_status e
 status_of (Field e) = field_status e
 status_of (Encode e) = encode_status e
 status_of OutOfRange = 1793
-status_of NoSuchSlot = 1794
-status_of ItemTooLong = 1795
+status_of (NoSuchSlot index) = 1794
+status_of (ItemTooLong index) = 1795
+status_of (SlotOutOfRange index) = 1796
 status_of (Decode e) = decode_status e
 status_of NoSuchChannelType = 2049
 status_of (NotACommitmentKey number) = 2050
@@ -109,24 +112,41 @@ abbrev pub check_number : CheckError → ℕ
 check_number (Undecided at) = at
 check_number e = 0
 
+-- the slot that a fact is about, the first one of a choice; 0 where it is about the spend
+abbrev pub first_of : List ℕ → ℕ
+first_of [] = 0
+first_of (slot ∷ slots) = slot
+
+abbrev pub slot_of : Fact → ℕ
+slot_of (Hash slot h) = slot
+slot_of (Size slot n) = slot
+slot_of (Truth slot) = slot
+slot_of (Is slot b) = slot
+slot_of (KeyForm slot) = slot
+slot_of (Form slot) = slot
+slot_of (Token slot key) = slot
+slot_of (Assigned slots keys) = first_of slots
+slot_of (Lock n) = 0
+slot_of (Age n) = 0
+
+abbrev pub accept_number : AcceptError → ℕ
+accept_number (Unmet stated) = slot_of stated.fact
+accept_number e = 0
+
 abbrev pub number_of : Refusal → ℕ
 number_of (Parse e) = parse_number e
 number_of (Check e) = check_number e
+number_of (NotAKey number) = number
+number_of (NoSuchSlot index) = index
+number_of (ItemTooLong index) = index
+number_of (SlotOutOfRange index) = index
+number_of (Accept e) = accept_number e
 number_of (NotACommitmentKey number) = number
 number_of (NoSuchDirection index) = index
 number_of (ExpiryTooLarge index) = index
-number_of (NoSignature place) = place.input
-number_of (SignatureOutOfRange place) = place.input
-number_of (NotDer place) = place.input
-number_of (NotSighashAll place) = place.input
-number_of (NotAsked place) = place.input
+number_of (NoSignature place) = place.item
+number_of (SignatureOutOfRange place) = place.item
+number_of (NotDer place) = place.item
+number_of (NotSighashAll place) = place.item
+number_of (NotAsked place) = place.item
 number_of e = 0
-
--- the item of an input that a refusal is about
-abbrev pub item_of : Refusal → ℕ
-item_of (NoSignature place) = place.item
-item_of (SignatureOutOfRange place) = place.item
-item_of (NotDer place) = place.item
-item_of (NotSighashAll place) = place.item
-item_of (NotAsked place) = place.item
-item_of e = 0

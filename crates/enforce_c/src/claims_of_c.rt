@@ -14,45 +14,45 @@ use lists::ByteString;
 use std::alloc::Global;
 use tx::OutPoint;
 
-// The bytes that a row names, as an item.
-fn item_of(alloc: Global, bytes: &[u8], row: &SlotRow) -> Result<WitnessItem, Refusal>
+// The bytes that a row names, as the item of the slot of an index.
+fn item_of(alloc: Global, bytes: &[u8], index: usize, row: &SlotRow) -> Result<WitnessItem, Refusal>
     ensures { MatchResult result
-        (λ w. (item_fault bytes.now row.now ≡ None) × (w.item ≡ part row.now.bytes_at row.now.bytes_length bytes.now))
-        (IsFirst (item_fault bytes.now row.now)) }
+        (λ w. (item_fault bytes.now index row.now ≡ None) × (w.item ≡ part row.now.bytes_at row.now.bytes_length bytes.now))
+        (IsFirst (item_fault bytes.now index row.now)) }
 {
     let Some(item) = part(bytes, row.bytes_at, row.bytes_length) else {
-        return Err(Refusal::OutOfRange);
+        return Err(Refusal::SlotOutOfRange(index));
     };
     match WitnessItem::new(ByteString::from_slice(alloc, item)?) {
         Ok(item) => Ok(item),
-        Err(_) => Err(Refusal::ItemTooLong),
+        Err(_) => Err(Refusal::ItemTooLong(index)),
     }
 }
 
-// How a row fills its slot.
-fn slot_of(alloc: Global, bytes: &[u8], row: &SlotRow) -> Result<Slot, Refusal>
+// How a row fills the slot of an index.
+fn slot_of(alloc: Global, bytes: &[u8], index: usize, row: &SlotRow) -> Result<Slot, Refusal>
     ensures { MatchResult result
-        (λ s. (slot_fault bytes.now row.now ≡ None) × FillsAs bytes.now row.now s)
-        (IsFirst (slot_fault bytes.now row.now)) }
+        (λ s. (slot_fault bytes.now index row.now ≡ None) × FillsAs bytes.now row.now s)
+        (IsFirst (slot_fault bytes.now index row.now)) }
 {
     match row.kind {
-        SLOT_SIGNATURE => Ok(Slot::Sig(key_of(&row.key)?)),
+        SLOT_SIGNATURE => Ok(Slot::Sig(key_of(&row.key, index)?)),
         SLOT_PREIMAGE => Ok(Slot::Preimage(row.hash)),
-        SLOT_EXACT => Ok(Slot::Exact(item_of(alloc, bytes, row)?)),
-        _ => Err(Refusal::NoSuchSlot),
+        SLOT_EXACT => Ok(Slot::Exact(item_of(alloc, bytes, index, row)?)),
+        _ => Err(Refusal::NoSuchSlot(index)),
     }
 }
 
-// How rows fill their slots, one by one.
+/// How rows fill their slots, one by one.
 #[tactic(auto, using(crate::proofs::Slots::filled_next, crate::proofs::Slots::filled_all, crate::proofs::Slots::faultless_next, crate::proofs::Slots::fault_here))]
-fn slots_of(alloc: Global, bytes: &[u8], rows: &[SlotRow]) -> Result<Vec<Slot>, Refusal>
+pub(crate) fn slots_of(alloc: Global, bytes: &[u8], rows: &[SlotRow]) -> Result<Vec<Slot>, Refusal>
     ensures { MatchResult result
-        (λ v. (slots_fault bytes.now rows.now ≡ None) × FillAs bytes.now rows.now v.items)
-        (IsFirst (slots_fault bytes.now rows.now)) }
+        (λ v. (slots_fault bytes.now 0 rows.now ≡ None) × FillAs bytes.now rows.now v.items)
+        (IsFirst (slots_fault bytes.now 0 rows.now)) }
 {
     let mut slots = Vec::new(alloc);
-    for row in rows {
-        slots.push(slot_of(alloc, bytes, row)?)?;
+    for (index, row) in rows.iter().enumerate() {
+        slots.push(slot_of(alloc, bytes, index, row)?)?;
     }
     Ok(slots)
 }

@@ -14,12 +14,19 @@ pub struct SignedRow {
     pub bytes_length: usize,
 }
 
-/// What the call that finishes a transaction tells beside its status. Each call writes all of it: the number of bytes, whether or not they were written,
-/// and of a refusal the number that it carries, of a signature the indices of its input and of its item.
+/// What the call that finishes a transaction tells beside its status. Each call writes all of it: of a transaction the number of bytes, whether or not
+/// they were written, and its id; of a refusal the number that it carries, and what it is about. The others are 0.
 #[repr(C)]
 #[derive(Clone, Copy)]
 pub struct FinishAnswer {
     pub bytes: usize,
     pub number: usize,
-    pub item: usize,
+    /// The index of the row that the refusal is about, of a signature the index of its input.
+    pub row: usize,
+    /// One of the kinds of what a refusal is about.
+    pub about: u32,
+    /// The id of the transaction, in the hash's own byte order, as rows of claims have it.
+    pub txid: [u8; 32],
+    /// The same in the other order, as nodes and explorers show it.
+    pub shown_txid: [u8; 32],
 }

@@ -7,8 +7,10 @@ ghost use Rattle.filling.specs.Spends.{IsUnsignedSpend, with_item, changed_at};
 ghost use Rattle.enforce_c.specs.Spent.{preimages_in, UnlessMemory};
 ghost use Rattle.enforce_c.specs.Finished.{place_of, row_place, signature_in, signature_for, signatures_of, HasSignatures, IsSigned, IsNotSigned, IsFinished};
 
+use crate::about::Refused;
 use crate::claim_rows::{ClaimRow, SlotRow};
 use crate::der::{is_der, is_sighash_all};
+use crate::faulty::refused_at;
 use crate::finish_rows::SignedRow;
 use crate::ranges::part;
 use crate::spend_rows::{OutputRow, PreimageRow};
@@ -18,7 +20,23 @@ use claim::Claim;
 use filling::{MissingSignature, UnsignedSpend};
 use lists::ByteString;
 use std::alloc::{AllocError, Global};
-use tx::{Tx, TxOut, Witness};
+use std::marker::Model;
+use tx::{Tx, TxOut, Witness, txid};
+
+/// A transaction with its signatures: its bytes and its id. A contract sees it as both.
+#[derive(Drop)]
+pub struct Finishing {
+    pub(crate) bytes: Vec<u8>,
+    pub(crate) txid: [u8; 32],
+}
+
+impl Model for Finishing {
+    ghost use Rattle.enforce_c.specs.Finished.{SignedParts};
+
+    ghost Value = { SignedParts };
+
+    ghost view = { λ s. record { bytes = s.bytes.items; txid = s.txid } };
+}
 
 // Where a signature that is lacking goes.
 fn place_of(missing: &MissingSignature) -> SignaturePlace
@@ -162,7 +180,7 @@ fn sign(
     }
 }
 
-// The bytes of the signed spend of claims.
+// The signed spend of claims.
 #[tactic(auto, using(crate::proofs::SignedSpends::is_signed, crate::proofs::SignedSpends::no_spend, crate::proofs::SignedSpends::no_signature, crate::proofs::SignedSpends::no_bytes))]
 fn signed_spend(
     alloc: Global,
@@ -171,7 +189,7 @@ fn signed_spend(
     preimages: &[[u8; 32]],
     rows: &[SignedRow],
     bytes: &[u8],
-) -> Result<ByteString, Refusal>
+) -> Result<Finishing, Refusal>
     requires some { 1 ≤ length claims.now }
     requires inputs { length claims.now ≤ max_inputs }
     requires outputs { length outputs.items ≤ max_outputs }
@@ -183,11 +201,13 @@ fn signed_spend(
     let UnsignedSpend { tx, signatures } = spend_of(alloc, claims, outputs, preimages)?;
     let mut tx = tx;
     sign(alloc, &mut tx, signatures.values(), rows, bytes)?;
-    Ok(ByteString::from_vec(encoded(alloc, &tx)?))
+    let bytes = encoded(alloc, &tx)?;
+    let txid = txid(&tx);
+    Ok(Finishing { bytes, txid })
 }
 
 /// The signed spend that rows ask for. Checked in this order: the numbers of claims and of outputs, each output, each claim, the spend, each signature.
-#[tactic(auto, using(crate::proofs::SignedSpends::not_read, crate::proofs::SignedSpends::finished_of))]
+#[tactic(auto, using(crate::proofs::SignedSpends::not_read, crate::proofs::SignedSpends::finished_of, crate::proofs::SignedSpends::not_finished, crate::proofs::SignedSpends::memory_out))]
 pub(crate) fn finished(
     alloc: Global,
     claims: &[ClaimRow],
@@ -196,7 +216,7 @@ pub(crate) fn finished(
     preimages: &[PreimageRow],
     signed: &[SignedRow],
     bytes: &[u8],
-) -> Result<ByteString, Refusal>
+) -> Result<Finishing, Refused>
     ensures { IsFinished (record {
       claims = claims.now;
       slots = slots.now;
@@ -209,12 +229,9 @@ pub(crate) fn finished(
         outputs: paid,
     } = read(alloc, claims, slots, outputs, bytes)?;
     let preimages = preimages_of(alloc, preimages)?;
-    signed_spend(
-        alloc,
-        accepted.as_slice(),
-        paid,
-        preimages.as_slice(),
-        signed,
-        bytes,
-    )
+    let (accepted, preimages) = (accepted.as_slice(), preimages.as_slice());
+    match signed_spend(alloc, accepted, paid, preimages, signed, bytes) {
+        Ok(finishing) => Ok(finishing),
+        Err(why) => Err(refused_at(alloc, accepted, preimages, why)),
+    }
 }

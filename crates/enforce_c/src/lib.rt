@@ -27,7 +27,10 @@ ghost use Rattle.enforce_c.specs.Spent.{AnswersSpend, preimages_in};
 ghost use Rattle.enforce_c.specs.declared.commitment_rows.Question.TheVariants.{OfClose};
 ghost use Rattle.enforce_c.specs.Found.{asked_of_revoked, AnswersFound};
 ghost use Rattle.enforce_c.specs.Finished.{AnswersFinish};
+ghost use Rattle.enforce_c.specs.Prepared.{AnswersSlots};
+ghost use Rattle.enforce_c.specs.Noted.{AnswersNotes};
 
+mod about;
 mod answers;
 mod buffers;
 mod claim_lists;
@@ -36,29 +39,39 @@ mod claims_of_c;
 mod commitment_rows;
 mod commitments_of_c;
 mod der;
+mod faulty;
 mod finding;
 mod finish_rows;
 mod finishing;
 mod forms_of_c;
 mod listing;
+mod note_rows;
+mod noting;
+mod preparing;
+mod programs;
 mod ranges;
 mod rows;
 mod script_bytes;
+mod slot_rows;
 mod spend_rows;
 mod spending;
 mod statuses;
 mod telling;
 
 use crate::answers::{
-    refuse, refuse_finish, refuse_found, refuse_spend, write_bytes, write_due, write_finish,
-    write_found, write_rows, write_spend,
+    refuse, refuse_finish, refuse_found, refuse_notes, refuse_slots, refuse_spend, write_bytes,
+    write_due, write_finish, write_found, write_notes, write_rows, write_slots, write_spend,
 };
 use crate::claims_of_c::claimed;
 use crate::finding::found;
 use crate::finishing::finished;
 use crate::forms_of_c::form_bytes;
 use crate::listing::{text_of, told};
+use crate::noting::noted;
+use crate::preparing::prepared;
+use crate::programs::program_of;
 use crate::spending::spent;
+pub use about::{ABOUT_ALL, ABOUT_CLAIM, ABOUT_OUTPUT, ABOUT_SIGNATURE};
 pub use claim_rows::{
     ClaimRow, Due, SLOT_EXACT, SLOT_GIVEN, SLOT_PREIMAGE, SLOT_SIGNATURE, SlotRow,
 };
@@ -69,18 +82,23 @@ pub use commitment_rows::{
     OUTPUT_OWN_ANCHOR, OUTPUT_PEERS_ANCHOR, OUTPUT_RECEIVED, OUTPUT_TO_LOCAL, OUTPUT_TO_REMOTE,
     OUTPUT_UNKNOWN, OtherRow,
 };
-use digest::sha256;
 pub use finish_rows::{FinishAnswer, SignedRow};
 pub use forms_of_c::{
-    FORM_FUNDING, FORM_KEY_HASH, FORM_OFFERED, FORM_RECEIVED, FORM_TO_LOCAL, Form,
+    FORM_FUNDING, FORM_KEY_HASH, FORM_OFFERED, FORM_OFFERED_WITH_ANCHORS, FORM_RECEIVED,
+    FORM_RECEIVED_WITH_ANCHORS, FORM_TO_LOCAL, Form,
+};
+pub use note_rows::{
+    NOTE_ANYONE, NOTE_FINDER, NOTE_NOBODY, NOTE_STRICTER_KEY, NOTE_STRICTER_NUMBER,
+    NOTE_STRICTER_SIGNATURE, NoteRow, NotesAnswer,
 };
 pub use rows::{Answer, FactRow, PathRow};
+pub use slot_rows::{KeyRow, SlotsAnswer};
 pub use spend_rows::{OutputRow, PreimageRow, SignatureRow, SpendAnswer};
 pub use statuses::DONE;
 use std::alloc::Global;
 
 /// What declarations mean together: it is raised whenever one changes its meaning.
-pub const ABI: u32 = 4;
+pub const ABI: u32 = 5;
 
 /// The library's `ABI`, to be compared with that of the declarations once, at the start.
 #[unsafe(no_mangle)]
@@ -112,6 +130,48 @@ pub extern "C" fn enforce_script_list(
     }
 }
 
+/// Notes what of a script endangers money: the paths that others can take, in their order, that nobody can spend, by consensus neither, and the branches that end by a rule that consensus has not, by which others may spend. The statuses of refusals are those of
+/// families 1 and 2, and `TOO_SMALL`.
+#[unsafe(no_mangle)]
+#[tactic(auto, using(crate::proofs::Noted::noted_rows, crate::proofs::Noted::refused_notes))]
+pub extern "C" fn enforce_script_notes(
+    alloc: Global,
+    script: &[u8],
+    notes: &mut [NoteRow],
+    answer: &mut NotesAnswer,
+) -> u32
+    ensures { AnswersNotes script.now notes.old (record { status = result; answer = answer.new; notes = notes.new }) }
+{
+    match noted(alloc, script) {
+        Ok(found) => write_notes(found.as_slice(), notes, answer),
+        Err(refusal) => refuse_notes(&refusal, answer),
+    }
+}
+
+/// Prepares the slots of a claim by a path of a script: a row for each, the top of the stack first, and the bytes that they refer to, from 0. A signature is asked by its key, bytes that the path fixes are told, and the item of a hash is the key or the preimage that is given with it.
+/// Of a choice of keys those are taken that are given, else the last ones. A claim with these slots is accepted: whatever fills them so meets the path. Where it is not, a slot is asked for what is not given, or for what no row can say. The statuses of refusals are those of families 1, 2 and 3, in this order:
+/// the script, its listing, the path, and the claim, with the slot of the first fact that is not met; and `TOO_SMALL` if one of the two buffers is too short.
+#[unsafe(no_mangle)]
+#[tactic(auto, using(crate::proofs::Prepared::prepared_slots, crate::proofs::Prepared::refused_slots))]
+pub extern "C" fn enforce_path_slots(
+    alloc: Global,
+    script: &[u8],
+    path: usize,
+    keys: &[KeyRow],
+    preimages: &[PreimageRow],
+    slots: &mut [SlotRow],
+    bytes: &mut [u8],
+    answer: &mut SlotsAnswer,
+) -> u32
+    ensures { AnswersSlots script.now path keys.now preimages.now (record { slots = slots.old; bytes = bytes.old })
+        (record { status = result; answer = answer.new; lists = record { slots = slots.new; bytes = bytes.new } }) }
+{
+    match prepared(alloc, script, path, keys, preimages) {
+        Ok(lists) => write_slots(&lists, slots, bytes, answer),
+        Err(refusal) => refuse_slots(&refusal, answer),
+    }
+}
+
 /// Writes the text of `enforce paths` on this script, in ASCII, without notes. Its length is the answer's `bytes`. The statuses of refusals are those of
 /// families 1 and 2, and `TOO_SMALL`.
 #[unsafe(no_mangle)]
@@ -132,13 +192,10 @@ pub extern "C" fn enforce_script_text(
 
 /// Writes the program that an output with this script has (BIP 141, P2WSH), 34 bytes: 00, 20 and the script's SHA-256 in the hash's own byte order.
 #[unsafe(no_mangle)]
-#[tactic(auto, unfolding(sighash::specs::Programs::script_hash_program))]
 pub extern "C" fn enforce_script_program(script: &[u8], program: &mut [u8; 34])
     ensures { program.new ≡ script_hash_program script.now }
 {
-    *program = [0; 34];
-    program[1] = 0x20;
-    program[2..].copy_from_slice(&sha256(script));
+    *program = program_of(script);
 }
 
 /// Writes the script of a form. Its length is the answer's `bytes`. The statuses of refusals are those of family 4, in the order of their numbers, and
@@ -180,11 +237,11 @@ pub extern "C" fn enforce_claim(
     }
 }
 
-/// Writes the transaction that spends the outputs of claims, in which nothing is signed, and the signatures that it lacks. It has version 2, the claims' inputs in their order with their sequences, and these outputs.
+/// Writes the transaction that spends the outputs of claims, in which nothing is signed, and the signatures that it lacks. The answer has its weight, fee and id. It has version 2, the claims' inputs in their order with their sequences, and these outputs.
 /// Its lock time is the greatest height that a claim needs. The empty item stands in the place of each signature, and after a signature in its item comes the byte 01 (SIGHASH_ALL). The statuses of refusals are
-/// `NO_INPUTS` and `OVER_LIMIT` by the numbers of rows, then those of each output and of each claim in their order, then family 5, then `NO_WITNESS`; and `TOO_SMALL` if one of the two buffers is too short.
+/// `NO_INPUTS` and `OVER_LIMIT` by the numbers of rows, then those of each output and of each claim in their order, then family 5, then `NO_WITNESS`; and `TOO_SMALL` if one of the two buffers is too short. The answer names the output or the claim that a refusal is of.
 #[unsafe(no_mangle)]
-#[tactic(auto, using(crate::proofs::Answering::spent_lists, crate::proofs::Answering::refused_spend))]
+#[tactic(auto, using(crate::proofs::Answering::spent_parts, crate::proofs::Answering::refused_spend))]
 pub extern "C" fn enforce_unsigned_spend(
     alloc: Global,
     claims: &[ClaimRow],
@@ -228,7 +285,7 @@ pub extern "C" fn enforce_finish(
         (record { status = result; answer = answer.new; bytes = tx.new }) }
 {
     match finished(alloc, claims, slots, outputs, preimages, signed_rows, bytes) {
-        Ok(bytes) => write_finish(bytes.bytes(), tx, answer),
+        Ok(finishing) => write_finish(&finishing, tx, answer),
         Err(refusal) => refuse_finish(&refusal, answer),
     }
 }

@@ -6,6 +6,7 @@ ghost use Rattle.digest.specs.Hash.{hash160 as hash160_of};
 ghost use Rattle.digest.specs.Ripemd160.{ripemd160 as ripemd160_of};
 ghost use Rattle.script.specs.Spelling.{spelling};
 ghost use Rattle.terms.specs.Scripts.{number_push, two_of_two as two_of_two_ops, funding as funding_ops, to_local as to_local_ops, key_hash as key_hash_ops, offered as offered_ops, received as received_ops};
+ghost use Rattle.anchor_forms.specs.Scripts.{offered_with_anchors as offered_with_anchors_ops, received_with_anchors as received_with_anchors_ops};
 ghost use Rattle.enforce_c.specs.declared.statuses.Refusal.TheVariants.{NoMemory};
 ghost use Rattle.enforce_c.specs.FormScripts.{IsWritten};
 
@@ -20,6 +21,8 @@ use std::cmp::Ordering;
 const PUSH_HASH: u8 = 20;
 
 const PUSH_KEY: u8 = 33;
+
+const NUMBER_1: u8 = 0x51;
 
 const NUMBER_2: u8 = 0x52;
 
@@ -53,8 +56,8 @@ const CHECKLOCKTIMEVERIFY: u8 = 0xb1;
 
 const CHECKSEQUENCEVERIFY: u8 = 0xb2;
 
-// The bytes of the longest script here: a received HTLC's, whose expiry takes five with its push.
-const LONGEST: usize = 140;
+// The bytes of the longest script here: a received HTLC's with anchors, whose expiry takes five with its push.
+const LONGEST: usize = 143;
 
 // The parts, one after another. The only refusal is that memory ran out.
 fn joined(alloc: Global, parts: &[&[u8]]) -> Result<ByteString, Refusal>
@@ -178,6 +181,44 @@ pub(crate) fn offered(
     )
 }
 
+/// The script of an HTLC that the commitment's owner offered in a channel with anchors (BOLT 3, "Offered HTLC Outputs", `option_anchors`). The only refusal is that memory ran out.
+pub(crate) fn offered_with_anchors(
+    alloc: Global,
+    revocation: &[u8; 33],
+    remote: &[u8; 33],
+    local: &[u8; 33],
+    payment_hash: &[u8; 32],
+) -> Result<ByteString, Refusal>
+    ensures { IsWritten (offered_with_anchors_ops (hash160_of revocation.now) remote.now local.now (ripemd160_of payment_hash.now)) result }
+{
+    let hash = hash160(revocation);
+    let payment = ripemd160(payment_hash);
+    joined(
+        alloc,
+        &[
+            &[DUP, HASH160, PUSH_HASH],
+            &hash,
+            &[EQUAL, IF, CHECKSIG, ELSE, PUSH_KEY],
+            remote,
+            &[
+                SWAP, SIZE, 1, 32, EQUAL, NOTIF, DROP, NUMBER_2, SWAP, PUSH_KEY,
+            ],
+            local,
+            &[NUMBER_2, CHECKMULTISIG, ELSE, HASH160, PUSH_HASH],
+            &payment,
+            &[
+                EQUALVERIFY,
+                CHECKSIG,
+                ENDIF,
+                NUMBER_1,
+                CHECKSEQUENCEVERIFY,
+                DROP,
+                ENDIF,
+            ],
+        ],
+    )
+}
+
 /// The script of an HTLC that the commitment's owner received (BOLT 3, "Received HTLC Outputs"). The only refusal is that memory ran out.
 pub(crate) fn received(
     alloc: Global,
@@ -206,6 +247,47 @@ pub(crate) fn received(
             &[NUMBER_2, CHECKMULTISIG, ELSE, DROP],
             expiry.bytes(),
             &[CHECKLOCKTIMEVERIFY, DROP, CHECKSIG, ENDIF, ENDIF],
+        ],
+    )
+}
+
+/// The script of an HTLC that the commitment's owner received in a channel with anchors (BOLT 3, "Received HTLC Outputs", `option_anchors`). The only refusal is that memory ran out.
+pub(crate) fn received_with_anchors(
+    alloc: Global,
+    revocation: &[u8; 33],
+    remote: &[u8; 33],
+    local: &[u8; 33],
+    payment_hash: &[u8; 32],
+    expiry_height: u32,
+) -> Result<ByteString, Refusal>
+    ensures { IsWritten (received_with_anchors_ops (hash160_of revocation.now) remote.now local.now (ripemd160_of payment_hash.now) expiry_height) result }
+{
+    let hash = hash160(revocation);
+    let payment = ripemd160(payment_hash);
+    let expiry = number_push(alloc, expiry_height)?;
+    joined(
+        alloc,
+        &[
+            &[DUP, HASH160, PUSH_HASH],
+            &hash,
+            &[EQUAL, IF, CHECKSIG, ELSE, PUSH_KEY],
+            remote,
+            &[SWAP, SIZE, 1, 32, EQUAL, IF, HASH160, PUSH_HASH],
+            &payment,
+            &[EQUALVERIFY, NUMBER_2, SWAP, PUSH_KEY],
+            local,
+            &[NUMBER_2, CHECKMULTISIG, ELSE, DROP],
+            expiry.bytes(),
+            &[
+                CHECKLOCKTIMEVERIFY,
+                DROP,
+                CHECKSIG,
+                ENDIF,
+                NUMBER_1,
+                CHECKSEQUENCEVERIFY,
+                DROP,
+                ENDIF,
+            ],
         ],
     )
 }

@@ -33,12 +33,24 @@ pub struct SignatureRow {
     pub digest: [u8; 32],
 }
 
-/// What a call that makes a transaction tells beside its status. Each call writes all of it: the bytes and rows that there are, whether or not they were
-/// written, and the number that a refusal carries.
+/// What a call that makes a transaction tells beside its status. Each call writes all of it: of a transaction the bytes and rows that there are, whether
+/// or not they were written, its greatest weight, its fee and its id; of a refusal the number that it carries, and what it is about. The others are 0.
 #[repr(C)]
 #[derive(Clone, Copy)]
 pub struct SpendAnswer {
     pub bytes: usize,
     pub signatures: usize,
     pub number: usize,
+    /// The index of the row that the refusal is about.
+    pub row: usize,
+    /// In weight units (BIP 141): what the transaction has at most once it is signed, with 73 bytes for each signature, 72 of DER and the hash type. Where it lacks none, it has just this. 2^64 - 1 stands for more.
+    pub weight: u64,
+    /// In satoshis: what the claimed outputs are worth, less the outputs. 2^64 - 1 stands for more.
+    pub fee_sat: u64,
+    /// One of the kinds of what a refusal is about.
+    pub about: u32,
+    /// The id of the transaction, signed or not, in the hash's own byte order, as rows of claims have it.
+    pub txid: [u8; 32],
+    /// The same in the other order, as nodes and explorers show it.
+    pub shown_txid: [u8; 32],
 }

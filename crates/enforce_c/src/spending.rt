@@ -1,36 +1,50 @@
 // The spend of claims, from rows that the caller gives.
 
-ghost use Rattle.std.specs.Prelude.{◌≡◌, ◌≤◌, None, Some, Ok, Err, length, map, IfOk, MatchResult};
+ghost use Rattle.std.specs.Prelude.{◌≡◌, ◌≤◌, ◌+◌, ◌*◌, None, Some, Ok, Err, length, map, IfOk, MatchResult};
 ghost use Rattle.tx.specs.declared.limits.TheConstants.{MAX_INPUTS as max_inputs, MAX_OUTPUTS as max_outputs};
-ghost use Rattle.tx.specs.Spelling.{IsTransaction};
+ghost use Rattle.tx.specs.Spelling.{IsTransaction, stripped_spelling};
 ghost use Rattle.filling.specs.Spends.{IsUnsignedSpend};
-ghost use Rattle.enforce_c.specs.Spent.{preimages_in, output_of, outputs_of, AreClaimsOf, IsFirstNoClaim, number_fault, signature_row, AreRead, UnlessMemory, IsUnread, IsUnspent, IsNotEncoded, IsMade, IsUnmade, IsSpent};
+ghost use Rattle.enforce_c.specs.Spent.{preimages_in, output_of, output_at, outputs_of, IsNoClaimAt, AreClaimsOf, IsFirstNoClaim, number_fault, signature_row, AreRead, UnlessMemory, IsUnread, IsUnspent, IsNotEncoded, capped, fee_of, IsTold, IsMade, IsUnmade, IsSpent};
+ghost use Rattle.enforce_c.specs.Claimed.{IsClaimOf};
 
+use crate::about::{About, Refused};
 use crate::claim_rows::{ClaimRow, SlotRow};
 use crate::claims_of_c::claimed;
+use crate::faulty::refused_at;
 use crate::ranges::part;
 use crate::spend_rows::{OutputRow, PreimageRow, SignatureRow};
 use crate::statuses::Refusal;
 use claim::Claim;
-use filling::{MissingSignature, UnsignedSpend, unsigned_spend};
+use filling::{MissingSignature, UnsignedSpend, total_claimed, unsigned_spend};
 use lists::ByteString;
 use std::alloc::{AllocError, Global};
 use std::marker::Model;
-use tx::{FieldError, MAX_INPUTS, MAX_OUTPUTS, Tx, TxOut, encode};
+use tx::{
+    FieldError, MAX_INPUTS, MAX_OUTPUTS, Tx, TxOut, encode, encode_stripped, total_value, txid,
+};
 
-/// The bytes of a transaction, and the signatures that it lacks. A contract sees it as both lists.
+// The greatest number of 64 bits.
+const GREATEST: u128 = 18_446_744_073_709_551_615;
+
+// The greatest number of bytes of a signature: 72 of DER, and the hash type.
+const SIGNATURE_SIZE: u128 = 73;
+
+/// A transaction before it is signed, with what is told of it.
 #[derive(Drop)]
 pub struct Spending {
     pub(crate) bytes: Vec<u8>,
     pub(crate) signatures: Vec<SignatureRow>,
+    pub(crate) weight: u64,
+    pub(crate) fee_sat: u64,
+    pub(crate) txid: [u8; 32],
 }
 
 impl Model for Spending {
-    ghost use Rattle.enforce_c.specs.Spent.{SpendLists};
+    ghost use Rattle.enforce_c.specs.Spent.{SpendParts};
 
-    ghost Value = { SpendLists };
+    ghost Value = { SpendParts };
 
-    ghost view = { λ s. record { bytes = s.bytes.items; signatures = s.signatures.items } };
+    ghost view = { λ s. record { bytes = s.bytes.items; signatures = s.signatures.items; weight = s.weight; fee_sat = s.fee_sat; txid = s.txid } };
 }
 
 // The output of a row.
@@ -47,16 +61,31 @@ fn output_of(alloc: Global, bytes: &[u8], row: &OutputRow) -> Result<TxOut, Refu
     }
 }
 
+// The output of the row of an index.
+#[tactic(auto, using(crate::proofs::Spends::no_output))]
+fn output_at(alloc: Global, bytes: &[u8], index: usize, row: &OutputRow) -> Result<TxOut, Refused>
+    ensures { MatchResult result (λ o. output_at index (output_of bytes.now row.now) ≡ Ok o)
+        (λ e. UnlessMemory e.why (output_at index (output_of bytes.now row.now) ≡ Err e)) }
+{
+    match output_of(alloc, bytes, row) {
+        Ok(output) => Ok(output),
+        Err(why) => Err(Refused {
+            why,
+            about: About::OfOutput(index),
+        }),
+    }
+}
+
 // The outputs of rows.
-#[tactic(auto, using(crate::proofs::Spends::outputs_next, crate::proofs::Spends::output_here, crate::proofs::Spends::outputs_all))]
-fn outputs_of(alloc: Global, bytes: &[u8], rows: &[OutputRow]) -> Result<Vec<TxOut>, Refusal>
-    ensures value { MatchResult result (λ v. outputs_of bytes.now rows.now ≡ Ok v.items)
-        (λ e. UnlessMemory e (outputs_of bytes.now rows.now ≡ Err e)) }
+#[tactic(auto, using(crate::proofs::Spends::outputs_next, crate::proofs::Spends::output_here, crate::proofs::Spends::outputs_all, crate::proofs::Spends::no_memory))]
+fn outputs_of(alloc: Global, bytes: &[u8], rows: &[OutputRow]) -> Result<Vec<TxOut>, Refused>
+    ensures value { MatchResult result (λ v. outputs_of bytes.now 0 rows.now ≡ Ok v.items)
+        (λ e. UnlessMemory e.why (outputs_of bytes.now 0 rows.now ≡ Err e)) }
     ensures count { IfOk result (λ v. length v.items ≡ length rows.now) }
 {
     let mut outputs = Vec::new(alloc);
-    for row in rows {
-        outputs.push(output_of(alloc, bytes, row)?)?;
+    for (index, row) in rows.iter().enumerate() {
+        outputs.push(output_at(alloc, bytes, index, row)?)?;
     }
     Ok(outputs)
 }
@@ -72,21 +101,41 @@ pub(crate) fn preimages_of(alloc: Global, rows: &[PreimageRow]) -> Result<Vec<[u
     Ok(preimages)
 }
 
+// The claim of the row of an index.
+fn claim_at(
+    alloc: Global,
+    index: usize,
+    row: &ClaimRow,
+    slots: &[SlotRow],
+    bytes: &[u8],
+) -> Result<Claim, Refused>
+    ensures { MatchResult result (λ c. IsClaimOf row.now slots.now bytes.now c)
+        (λ e. IsNoClaimAt index row.now slots.now bytes.now e) }
+{
+    match claimed(alloc, row, slots, bytes) {
+        Ok(claim) => Ok(claim),
+        Err(why) => Err(Refused {
+            why,
+            about: About::OfClaim(index),
+        }),
+    }
+}
+
 // The claims of rows.
-#[tactic(auto, using(crate::proofs::Spends::claims_next, crate::proofs::Spends::claims_all, crate::proofs::Spends::no_claim, crate::proofs::Spends::no_claim_later))]
+#[tactic(auto, using(crate::proofs::Spends::claims_next, crate::proofs::Spends::claims_all, crate::proofs::Spends::no_claim, crate::proofs::Spends::no_claim_later, crate::proofs::Spends::no_memory))]
 fn all_claimed(
     alloc: Global,
     rows: &[ClaimRow],
     slots: &[SlotRow],
     bytes: &[u8],
-) -> Result<Vec<Claim>, Refusal>
+) -> Result<Vec<Claim>, Refused>
     ensures value { MatchResult result (λ v. AreClaimsOf slots.now bytes.now rows.now v.items)
-        (IsFirstNoClaim slots.now bytes.now rows.now) }
+        (λ e. UnlessMemory e.why (IsFirstNoClaim slots.now bytes.now 0 rows.now e)) }
     ensures count { IfOk result (λ v. length v.items ≡ length rows.now) }
 {
     let mut claims = Vec::new(alloc);
-    for row in rows {
-        claims.push(claimed(alloc, row, slots, bytes)?)?;
+    for (index, row) in rows.iter().enumerate() {
+        claims.push(claim_at(alloc, index, row, slots, bytes)?)?;
     }
     Ok(claims)
 }
@@ -157,10 +206,10 @@ pub(crate) fn read(
     slots: &[SlotRow],
     outputs: &[OutputRow],
     bytes: &[u8],
-) -> Result<Parts, Refusal>
+) -> Result<Parts, Refused>
     ensures value { MatchResult result
         (λ p. AreRead (record { claims = claims.now; slots = slots.now; outputs = outputs.now; bytes = bytes.now }) p.claims.items p.outputs.items)
-        (λ e. UnlessMemory e (IsUnread (record { claims = claims.now; slots = slots.now; outputs = outputs.now; bytes = bytes.now }) e)) }
+        (λ e. UnlessMemory e.why (IsUnread (record { claims = claims.now; slots = slots.now; outputs = outputs.now; bytes = bytes.now }) e)) }
     ensures some { IfOk result (λ p. 1 ≤ length p.claims.items) }
     ensures inputs { IfOk result (λ p. length p.claims.items ≤ max_inputs) }
     ensures outputs { IfOk result (λ p. length p.outputs.items ≤ max_outputs) }
@@ -205,7 +254,60 @@ pub(crate) fn encoded(alloc: Global, tx: &Tx) -> Result<Vec<u8>, Refusal>
     }
 }
 
-// The spend of claims: its bytes, and the signatures that it lacks.
+// A number as 64 bits tell it: the greatest stands for more.
+fn capped(number: u128) -> u64
+    ensures { result ≡ capped number }
+{
+    if number > GREATEST {
+        18_446_744_073_709_551_615
+    } else {
+        number as u64
+    }
+}
+
+// The weight that a transaction has at most once it is signed, by its bytes and the number of signatures that it lacks.
+fn weight_of(alloc: Global, tx: &Tx, bytes: usize, signatures: usize) -> Result<u64, AllocError>
+    ensures { IfOk result (λ w. w ≡ capped (3 * length (stripped_spelling tx.now) + bytes + 73 * signatures)) }
+{
+    let stripped = encode_stripped(alloc, tx)?.len();
+    let weight = 3 * stripped as u128 + bytes as u128 + SIGNATURE_SIZE * signatures as u128;
+    Ok(capped(weight))
+}
+
+// What the claimed outputs are worth, less the outputs.
+fn fee_of(alloc: Global, claims: &[Claim], tx: &Tx) -> Result<u64, AllocError>
+    ensures { IfOk result (λ n. n ≡ capped (fee_of claims.now tx.now)) }
+{
+    let claims = lent(alloc, claims)?;
+    let claimed = total_claimed(claims.as_slice());
+    Ok(capped(claimed.saturating_sub(total_value(tx.outputs()))))
+}
+
+// What is told of a spend.
+#[tactic(auto, using(crate::proofs::Spends::is_told))]
+fn told_of(
+    alloc: Global,
+    claims: &[Claim],
+    spend: &UnsignedSpend,
+    bytes: Vec<u8>,
+) -> Result<Spending, AllocError>
+    requires { IsTransaction spend.now.tx bytes.items }
+    ensures { IfOk result (λ s. IsTold claims.now spend.now.tx spend.now.signatures s) }
+{
+    let weight = weight_of(alloc, &spend.tx, bytes.len(), spend.signatures.len())?;
+    let fee_sat = fee_of(alloc, claims, &spend.tx)?;
+    let signatures = signature_rows(alloc, spend.signatures.values())?;
+    let txid = txid(&spend.tx);
+    Ok(Spending {
+        bytes,
+        signatures,
+        weight,
+        fee_sat,
+        txid,
+    })
+}
+
+// The spend of claims: its bytes, the signatures that it lacks, and what is told of it.
 #[tactic(auto, using(crate::proofs::Spends::is_made, crate::proofs::Spends::no_spend, crate::proofs::Spends::no_bytes))]
 fn spending_of(
     alloc: Global,
@@ -222,12 +324,11 @@ fn spending_of(
 {
     let spend = spend_of(alloc, claims, outputs, preimages)?;
     let bytes = encoded(alloc, &spend.tx)?;
-    let signatures = signature_rows(alloc, spend.signatures.values())?;
-    Ok(Spending { bytes, signatures })
+    Ok(told_of(alloc, claims, &spend, bytes)?)
 }
 
 /// The spend that rows ask for. Checked in this order: the numbers of claims and of outputs, each output, each claim, the spend.
-#[tactic(auto, using(crate::proofs::Spends::not_read, crate::proofs::Spends::spent_of))]
+#[tactic(auto, using(crate::proofs::Spends::not_read, crate::proofs::Spends::spent_of, crate::proofs::Spends::not_spent, crate::proofs::Spends::memory_out))]
 pub(crate) fn spent(
     alloc: Global,
     claims: &[ClaimRow],
@@ -235,7 +336,7 @@ pub(crate) fn spent(
     outputs: &[OutputRow],
     preimages: &[PreimageRow],
     bytes: &[u8],
-) -> Result<Spending, Refusal>
+) -> Result<Spending, Refused>
     ensures { IsSpent (record { claims = claims.now; slots = slots.now; outputs = outputs.now; bytes = bytes.now }) (preimages_in preimages.now) result }
 {
     let Parts {
@@ -243,5 +344,9 @@ pub(crate) fn spent(
         outputs: paid,
     } = read(alloc, claims, slots, outputs, bytes)?;
     let preimages = preimages_of(alloc, preimages)?;
-    spending_of(alloc, accepted.as_slice(), paid, preimages.as_slice())
+    let preimages = preimages.as_slice();
+    match spending_of(alloc, accepted.as_slice(), paid, preimages) {
+        Ok(spending) => Ok(spending),
+        Err(why) => Err(refused_at(alloc, accepted.as_slice(), preimages, why)),
+    }
 }

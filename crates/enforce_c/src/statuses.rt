@@ -1,10 +1,11 @@
 // Why a call gives nothing: the statuses.
 
 ghost use Rattle.std.specs.Prelude.{◌≡◌, ◌<◌};
-ghost use Rattle.enforce_c.specs.Statuses.{parse_status, check_status, accept_status, spend_status, field_status, encode_status, decode_status, status_of, number_of, item_of};
+ghost use Rattle.enforce_c.specs.Statuses.{parse_status, check_status, accept_status, spend_status, field_status, encode_status, decode_status, status_of, first_of, slot_of, number_of};
 ghost use Rattle.enforce_c.specs.declared.statuses.Refusal.TheVariants.{NoMemory};
 
 use claim::AcceptError;
+use facts::Fact;
 use filling::SpendError;
 use paths::CheckError;
 use script::ParseError;
@@ -37,7 +38,7 @@ pub const TOO_TALL: u32 = 0x205;
 pub const NO_SUCH_PATH: u32 = 0x301;
 /// The number of slots is not that of the path.
 pub const WRONG_ARITY: u32 = 0x302;
-/// The slots do not show a fact of the path.
+/// The slots do not show a fact of the path; the answer has the slot that it is about, 0 where that is the spend.
 pub const UNMET: u32 = 0x303;
 /// The path asks for one fact with both polarities.
 pub const CONTRADICTION: u32 = 0x304;
@@ -47,7 +48,7 @@ pub const WRONG_PROGRAM: u32 = 0x305;
 pub const WRONG_SHELL: u32 = 0x306;
 /// There is no form of this kind.
 pub const NO_SUCH_FORM: u32 = 0x401;
-/// Bytes that are to be a key do not have the form of one.
+/// Bytes that are to be a key do not have the form of one; the answer has which key of the form it is, from 0 for `revocation`, or the index of the slot.
 pub const NOT_A_KEY: u32 = 0x402;
 /// The expiry is 500,000,000 or more, which is a time and not a height.
 pub const NOT_A_HEIGHT: u32 = 0x403;
@@ -77,12 +78,14 @@ pub const VALUE_TOO_LARGE: u32 = 0x606;
 pub const TRAILING: u32 = 0x607;
 /// There are more than 4,000 claims or outputs, or the script of an output has more than 10,000 bytes; of a transaction that is given, a count is above its limit, or an input has a script.
 pub const OVER_LIMIT: u32 = 0x608;
-/// A row refers to bytes or to rows that are not there.
+/// The row of a claim refers to bytes or to rows that are not there, or the row of an output to bytes.
 pub const OUT_OF_RANGE: u32 = 0x701;
-/// There is no slot of this kind.
+/// There is no slot of this kind; the answer has the index of the slot.
 pub const NO_SUCH_SLOT: u32 = 0x702;
-/// The bytes of a slot are more than 520.
+/// The bytes of a slot are more than 520; the answer has the index of the slot.
 pub const ITEM_TOO_LONG: u32 = 0x703;
+/// The row of a slot refers to bytes that are not there; the answer has the index of the slot.
+pub const SLOT_OUT_OF_RANGE: u32 = 0x704;
 /// There is no type of channels of this kind.
 pub const NO_SUCH_CHANNEL_TYPE: u32 = 0x801;
 /// Bytes that are to be a key of the commitment do not have the form of one; the answer has which of its fields it is, from 0.
@@ -93,15 +96,15 @@ pub const NO_SUCH_DIRECTION: u32 = 0x803;
 pub const EXPIRY_TOO_LARGE: u32 = 0x804;
 /// It is neither one's own commitment nor the peer's.
 pub const NO_SUCH_CLOSE: u32 = 0x805;
-/// A slot asks a signature, and the next one that is given is not of it; the answer has the input and the item that lack it.
+/// A slot asks a signature, and the next one that is given is not of it; the answer has the item that lacks it.
 pub const NO_SIGNATURE: u32 = 0x901;
-/// The row of a signature refers to bytes that are not there; the answer has its input and its item, as of the two below.
+/// The row of a signature refers to bytes that are not there; the answer has its item, as of the two below.
 pub const SIGNATURE_OUT_OF_RANGE: u32 = 0x902;
 /// Bytes that are to be a signature are not in strict DER (BIP 66).
 pub const NOT_DER: u32 = 0x903;
 /// The hash type of a signature is not ALL, the byte 01.
 pub const NOT_SIGHASH_ALL: u32 = 0x904;
-/// A signature is given after that of the last slot that asks one; the answer has the input and the item of its row.
+/// A signature is given after that of the last slot that asks one; the answer has the item of its row.
 pub const NOT_ASKED: u32 = 0x905;
 
 /// The place of a signature: an item of an input's witness, the deepest item of the stack first.
@@ -118,11 +121,16 @@ pub enum Refusal {
     Parse(ParseError),
     Check(CheckError),
     NoSuchForm,
-    NotAKey,
+    /// Which key of a form it is, or of which slot.
+    NotAKey(usize),
     NotAHeight,
     OutOfRange,
-    NoSuchSlot,
-    ItemTooLong,
+    /// Which slot it is.
+    NoSuchSlot(usize),
+    /// Which slot it is.
+    ItemTooLong(usize),
+    /// Which slot it is.
+    SlotOutOfRange(usize),
     Accept(AcceptError),
     Field(FieldError),
     Spend(SpendError),
@@ -243,6 +251,34 @@ fn check_status(error: &CheckError) -> u32
     }
 }
 
+// The slot that a fact is about; 0 where it is about the spend.
+fn slot_of(fact: &Fact) -> usize
+    ensures { result ≡ slot_of fact.now }
+{
+    match fact {
+        Fact::Hash(slot, _) => *slot,
+        Fact::Size(slot, _) => *slot,
+        Fact::Truth(slot) => *slot,
+        Fact::Is(slot, _) => *slot,
+        Fact::KeyForm(slot) => *slot,
+        Fact::Form(slot) => *slot,
+        Fact::Token(slot, _) => *slot,
+        Fact::Assigned(slots, _) => first_of(slots.values()),
+        Fact::Lock(_) => 0,
+        Fact::Age(_) => 0,
+    }
+}
+
+// The first slot of a choice; 0 where it has none.
+fn first_of(slots: &[usize]) -> usize
+    ensures { result ≡ first_of slots.now }
+{
+    match slots.first() {
+        Some(slot) => *slot,
+        None => 0,
+    }
+}
+
 impl Refusal {
     /// The status: the family times 256, and the refusal's number in it.
     pub fn status(&self) -> u32
@@ -254,11 +290,12 @@ impl Refusal {
             Refusal::Parse(error) => parse_status(error),
             Refusal::Check(error) => check_status(error),
             Refusal::NoSuchForm => NO_SUCH_FORM,
-            Refusal::NotAKey => NOT_A_KEY,
+            Refusal::NotAKey(_) => NOT_A_KEY,
             Refusal::NotAHeight => NOT_A_HEIGHT,
             Refusal::OutOfRange => OUT_OF_RANGE,
-            Refusal::NoSuchSlot => NO_SUCH_SLOT,
-            Refusal::ItemTooLong => ITEM_TOO_LONG,
+            Refusal::NoSuchSlot(_) => NO_SUCH_SLOT,
+            Refusal::ItemTooLong(_) => ITEM_TOO_LONG,
+            Refusal::SlotOutOfRange(_) => SLOT_OUT_OF_RANGE,
             Refusal::Accept(error) => accept_status(error),
             Refusal::Field(error) => field_status(error),
             Refusal::Spend(error) => spend_status(error),
@@ -277,7 +314,7 @@ impl Refusal {
         }
     }
 
-    /// The number that the refusal carries: a byte's position, or the index of an opcode, a key, an HTLC or an input, from 0; else 0.
+    /// The number that the refusal carries: a byte's position, or the index of an opcode, a key, a slot, an HTLC or an item, from 0; else 0.
     pub fn number(&self) -> usize
         ensures { result ≡ number_of self.now }
     {
@@ -285,23 +322,14 @@ impl Refusal {
             Refusal::Parse(ParseError::BadOpcode(at)) => *at,
             Refusal::Parse(ParseError::Truncated(at)) => *at,
             Refusal::Check(CheckError::Undecided(at)) => *at,
+            Refusal::NotAKey(number) => *number,
+            Refusal::NoSuchSlot(index) => *index,
+            Refusal::ItemTooLong(index) => *index,
+            Refusal::SlotOutOfRange(index) => *index,
+            Refusal::Accept(AcceptError::Unmet(stated)) => slot_of(&stated.fact),
             Refusal::NotACommitmentKey(number) => *number,
             Refusal::NoSuchDirection(index) => *index,
             Refusal::ExpiryTooLarge(index) => *index,
-            Refusal::NoSignature(place) => place.input,
-            Refusal::SignatureOutOfRange(place) => place.input,
-            Refusal::NotDer(place) => place.input,
-            Refusal::NotSighashAll(place) => place.input,
-            Refusal::NotAsked(place) => place.input,
-            _ => 0,
-        }
-    }
-
-    /// The index of the item that the refusal is about, from the deepest; 0 where it is about none.
-    pub fn item(&self) -> usize
-        ensures { result ≡ item_of self.now }
-    {
-        match self {
             Refusal::NoSignature(place) => place.item,
             Refusal::SignatureOutOfRange(place) => place.item,
             Refusal::NotDer(place) => place.item,

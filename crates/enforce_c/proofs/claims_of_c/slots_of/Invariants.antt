@@ -3,8 +3,8 @@ use Rattle.std.proofs.Common.{◌≡◌, take, drop}
 use Rattle.enforce_c.specs.Claimed.{slots_fault, FillAs}
 use Rattle.enforce_c.proofs.claims_of_c.slots_of.Given as goal
 
-abbrev pub invariant-loop-row : goal.invariant-loop-row
-invariant-loop-row l = record {
-  faults : slots_fault l.bytes (drop l.row-index l.rows) ≡ slots_fault l.bytes l.rows;
-  filled : FillAs l.bytes (take l.row-index l.rows) l.slots.items;
+abbrev pub invariant-loop-index : goal.invariant-loop-index
+invariant-loop-index l = record {
+  faults : slots_fault l.bytes l.index (drop l.index l.rows) ≡ slots_fault l.bytes 0 l.rows;
+  filled : FillAs l.bytes (take l.index l.rows) l.slots.items;
 }

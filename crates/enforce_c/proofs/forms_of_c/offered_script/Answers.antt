@@ -1,10 +1,7 @@
-use Rattle.std.proofs.Common.{rules, ◌≡◌, true}
-use Rattle.std.specs.Prelude.{◌&&◌}
-use Rattle.script.specs.Token.{is_key}
 use Rattle.enforce_c.proofs.FormBytes.{offered_spelt}
 use Rattle.enforce_c.proofs.forms_of_c.offered_script.Goals as goal
 
 pub returns : goal.returns
 returns c =
-    let keys : (is_key c.args.form.now.key && is_key c.args.form.now.other && is_key c.args.form.now.local) ≡ true = search rules in
-    offered_spelt c.args.form.now c.offered.result keys c.offered.ensures
+    let k = c.in_ok-htlc_keyed.ensures in
+    offered_spelt c.args.form.now c.offered.result k.0 k.1 k.2 c.offered.ensures

@@ -4,8 +4,8 @@ use Rattle.enforce_c.specs.Spent.{outputs_of}
 use Rattle.enforce_c.proofs.Spends.{with_first}
 use Rattle.enforce_c.proofs.spending.outputs_of.Given as goal
 
-abbrev pub invariant-loop-row : goal.invariant-loop-row
-invariant-loop-row l = record {
-  value : with_first l.outputs.items (outputs_of l.bytes (drop l.row-index l.rows)) ≡ outputs_of l.bytes l.rows;
-  count : length l.outputs.items ≡ l.row-index;
+abbrev pub invariant-loop-index : goal.invariant-loop-index
+invariant-loop-index l = record {
+  value : with_first l.outputs.items (outputs_of l.bytes l.index (drop l.index l.rows)) ≡ outputs_of l.bytes 0 l.rows;
+  count : length l.outputs.items ≡ l.index;
 }
