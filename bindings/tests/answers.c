@@ -471,7 +471,7 @@ static void refuse_each(work *w, const request *r, state *other) {
     for (refused_number = 1;; refused_number++) {
         call(r, other, most(r));
         if (asked < refused_number) break;
-        if (other->status != ENFORCE_NO_MEMORY || !is_left(other) || !is_untold(other) || other->number || other->row || other->about) w->wrong++;
+        if (other->status != ENFORCE_NO_MEMORY || !is_left(other) || !is_untold(other) || other->number) w->wrong++;
         w->refused++;
     }
     refused_number = 0;

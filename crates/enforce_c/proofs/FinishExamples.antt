@@ -144,10 +144,15 @@ spend_told = refl
 statuses : map status_of (NoSignature (at 3 4) ∷ SignatureOutOfRange (at 3 4) ∷ NotDer (at 3 4) ∷ NotSighashAll (at 3 4) ∷ NotAsked (at 3 4) ∷ []) ≡ 2305 ∷ 2306 ∷ 2307 ∷ 2308 ∷ 2309 ∷ []
 statuses = refl
 
-places : (map (λ e. (refused_whole e).about) (NoSignature (at 3 4) ∷ SignatureOutOfRange (at 5 6) ∷ NotDer (at 7 8) ∷ NotSighashAll (at 9 10) ∷ NotAsked (at 11 12) ∷ [])
-    ≡ OfSignature 3 ∷ OfSignature 5 ∷ OfSignature 7 ∷ OfSignature 9 ∷ OfSignature 11 ∷ [])
-    × (map number_of (NoSignature (at 3 4) ∷ SignatureOutOfRange (at 5 6) ∷ NotDer (at 7 8) ∷ NotSighashAll (at 9 10) ∷ NotAsked (at 11 12) ∷ []) ≡ 4 ∷ 6 ∷ 8 ∷ 10 ∷ 12 ∷ [])
-places = (refl, refl)
+places : map (λ e. (refused_whole e).about) (NoSignature (at 3 4) ∷ SignatureOutOfRange (at 5 6) ∷ NotDer (at 7 8) ∷ NotSighashAll (at 9 10) ∷ NotAsked (at 11 12) ∷ [])
+    ≡ OfSignature 3 ∷ OfSignature 5 ∷ OfSignature 7 ∷ OfSignature 9 ∷ OfSignature 11 ∷ []
+places = refl
+
+items : map number_of (NoSignature (at 3 4) ∷ SignatureOutOfRange (at 5 6) ∷ NotDer (at 7 8) ∷ NotSighashAll (at 9 10) ∷ NotAsked (at 11 12) ∷ []) ≡ 4 ∷ 6 ∷ 8 ∷ 10 ∷ 12 ∷ []
+items = refl
+
+other_items : map number_of (NoSignature (at 4 40) ∷ SignatureOutOfRange (at 6 60) ∷ NotDer (at 8 80) ∷ NotSighashAll (at 10 100) ∷ NotAsked (at 12 120) ∷ []) ≡ 40 ∷ 60 ∷ 80 ∷ 100 ∷ 120 ∷ []
+other_items = refl
 
 kinds : (map kind_of (Whole ∷ OfOutput 5 ∷ OfClaim 6 ∷ OfSignature 7 ∷ []) ≡ 0 ∷ 1 ∷ 2 ∷ 3 ∷ []) × (map row_of (Whole ∷ OfOutput 5 ∷ OfClaim 6 ∷ OfSignature 7 ∷ []) ≡ 0 ∷ 5 ∷ 6 ∷ 7 ∷ [])
 kinds = (refl, refl)

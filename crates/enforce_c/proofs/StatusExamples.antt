@@ -10,7 +10,7 @@ use Rattle.tx.specs.declared.errors.DecodeError.TheVariants as decode
 use Rattle.claim.specs.declared.errors.AcceptError.TheVariants.{NoMemory as AcceptMemory, NoSuchPath, WrongArity, Unmet, Contradiction, WrongProgram, WrongShell}
 use Rattle.filling.specs.declared.errors.SpendError.TheVariants.{NoMemory as SpendMemory, FixedTransaction, SameOutpoint, OutputsExceed, MeasuredSignature, NoPreimage}
 use Rattle.enforce_c.specs.declared.statuses.Refusal.TheVariants.{NoMemory, Parse, Check, NoSuchForm, NotAKey, NotAHeight, OutOfRange, NoSuchSlot, ItemTooLong, SlotOutOfRange, Accept, Field, Spend, Encode, Decode, NoSuchChannelType, NotACommitmentKey, NoSuchDirection, ExpiryTooLarge, NoSuchClose}
-use Rattle.enforce_c.specs.Statuses.{parse_status, check_status, accept_status, spend_status, field_status, encode_status, decode_status, status_of, parse_number, check_number, slot_of, number_of}
+use Rattle.enforce_c.specs.Statuses.{parse_status, check_status, accept_status, spend_status, field_status, encode_status, decode_status, status_of, parse_number, check_number, slot_of, accept_number, number_of}
 
 parse_statuses : map parse_status (ParseMemory ∷ BadOpcode 7 ∷ Truncated 8 ∷ TooLong ∷ []) ≡ 1 ∷ 257 ∷ 258 ∷ 259 ∷ []
 parse_statuses = refl
@@ -63,6 +63,10 @@ commitment_numbers = refl
 -- the slot of an unmet fact, whatever the fact is, the first one of a choice
 unmet : map slot_of (Hash 3 [] ∷ Size 4 1 ∷ Truth 5 ∷ Is 6 [] ∷ KeyForm 7 ∷ Form 8 ∷ Token 9 (SlotKey 1) ∷ Assigned (10 ∷ 11 ∷ []) [] ∷ Assigned [] [] ∷ Lock 12 ∷ Age 13 ∷ []) ≡ 3 ∷ 4 ∷ 5 ∷ 6 ∷ 7 ∷ 8 ∷ 9 ∷ 10 ∷ 0 ∷ 0 ∷ 0 ∷ []
 unmet = refl
+
+accept_numbers : map accept_number (AcceptMemory ∷ NoSuchPath ∷ WrongArity ∷ Unmet (record { fact = Truth 3; holds = true }) ∷ Unmet (record { fact = Truth 30; holds = true }) ∷ Contradiction ∷ WrongProgram ∷ WrongShell ∷ [])
+    ≡ 0 ∷ 0 ∷ 0 ∷ 3 ∷ 30 ∷ 0 ∷ 0 ∷ 0 ∷ []
+accept_numbers = refl
 
 told_unmet : (number_of (Accept (Unmet (record { fact = Size 3 32; holds = true }))) ≡ 3) × (number_of (Accept (Unmet (record { fact = Truth 30; holds = false }))) ≡ 30)
 told_unmet = (refl, refl)
