@@ -52,6 +52,24 @@ type MissingSignature struct {
 	Digest      [32]byte
 }
 
+// Spend is a transaction (BIP 144) with the empty item in the place of each signature, and the signatures that it lacks. The weight is in weight units (BIP 141), once it is signed, at most: each signature counts as 73
+// bytes. The fee is in satoshis.
+type Spend struct {
+	Tx             []byte
+	Missing        []MissingSignature
+	Weight, FeeSat uint64
+	ID             ID
+}
+
+// ID is the id of a transaction, signed or not: in the hash's own byte order, as a Claim has it, and in the other one, as nodes and explorers show it.
+type ID struct {
+	Txid, Shown [32]byte
+}
+
+func idOf(txid, shown *[32]C.uint8_t) ID {
+	return ID{*(*[32]byte)(unsafe.Pointer(txid)), *(*[32]byte)(unsafe.Pointer(shown))}
+}
+
 // Signed is a signature for an item that lacks one: the input and the item of the MissingSignature, and strict DER (BIP 66) with the byte 01 after it.
 type Signed struct {
 	Input, Item uint64
@@ -137,12 +155,41 @@ func (claim *Claim) Accept() (Due, error) {
 	return Due{uint64(due.height), uint32(due.sequence)}, nil
 }
 
-// UnsignedSpend is the transaction (BIP 144) that spends the outputs of claims, with the empty item in the place of each signature, and the signatures that it lacks.
+// PathSlots has the slots that a path of a script asks for. The keys are those that the caller can sign with, the preimages those that it knows: they are wanted where the path asks for their hashes, or for a choice.
+//
+// Proved of enforce_path_slots: a claim with these slots is accepted.
+func PathSlots(script []byte, path uint64, keys [][33]byte, preimages [][32]byte) ([]Slot, error) {
+	if err := sameABI(); err != nil {
+		return nil, err
+	}
+	given, length := bytesOf(script)
+	signers, secrets := (*C.enforce_key_row)(unsafe.Pointer(first(keys))), (*C.enforce_preimage_row)(unsafe.Pointer(first(preimages)))
+	l := makeLists(0, 16, 0, 1024)
+	for {
+		var answer C.enforce_slots_answer
+		data, size := bytesOf(l.bytes)
+		status := C.enforce_path_slots(given, length, C.size_t(path), signers, C.size_t(len(keys)), secrets, C.size_t(len(preimages)), first(l.slots), C.size_t(len(l.slots)), data, size, &answer)
+		switch status {
+		case C.ENFORCE_DONE:
+			slots := make([]Slot, answer.slots)
+			for i := range slots {
+				slots[i] = l.slot(&l.slots[i])
+			}
+			return slots, nil
+		case C.ENFORCE_TOO_SMALL:
+			l = makeLists(0, answer.slots, 0, answer.bytes)
+		default:
+			return nil, refused(status, answer.number)
+		}
+	}
+}
+
+// UnsignedSpend is the transaction that spends the outputs of claims, in which nothing is signed.
 //
 // Proved of enforce_unsigned_spend: with the token of each missing signature in its place, each input runs clean. Finish puts in the signature by the key over the digest, with the byte 01 after it.
-func UnsignedSpend(claims []Claim, outputs []Output, preimages [][32]byte) ([]byte, []MissingSignature, error) {
+func UnsignedSpend(claims []Claim, outputs []Output, preimages [][32]byte) (Spend, error) {
 	if err := sameABI(); err != nil {
-		return nil, nil, err
+		return Spend{}, err
 	}
 	var g given
 	claimRows, outputRows := rowsOf(claims, g.claim), rowsOf(outputs, g.output)
@@ -161,11 +208,11 @@ func UnsignedSpend(claims []Claim, outputs []Output, preimages [][32]byte) ([]by
 				row := &signatures[i]
 				missing[i] = MissingSignature{uint64(row.input), uint64(row.item), *(*[33]byte)(unsafe.Pointer(&row.key)), *(*[32]byte)(unsafe.Pointer(&row.digest))}
 			}
-			return tx[:answer.bytes], missing, nil
+			return Spend{tx[:answer.bytes], missing, uint64(answer.weight), uint64(answer.fee_sat), idOf(&answer.txid, &answer.shown_txid)}, nil
 		case C.ENFORCE_TOO_SMALL:
 			tx, signatures = make([]byte, answer.bytes), make([]C.enforce_signature_row, answer.signatures)
 		default:
-			return nil, nil, refused(status, answer.number)
+			return Spend{}, refusedAbout(status, answer.number, answer.about, answer.row)
 		}
 	}
 }
@@ -174,9 +221,9 @@ func UnsignedSpend(claims []Claim, outputs []Output, preimages [][32]byte) ([]by
 // asks.
 //
 // Proved of enforce_finish: where each is the key's over the digest, each input runs clean.
-func Finish(claims []Claim, outputs []Output, preimages [][32]byte, signed []Signed) ([]byte, error) {
+func Finish(claims []Claim, outputs []Output, preimages [][32]byte, signed []Signed) ([]byte, ID, error) {
 	if err := sameABI(); err != nil {
-		return nil, err
+		return nil, ID{}, err
 	}
 	var g given
 	claimRows, outputRows, signedRows := rowsOf(claims, g.claim), rowsOf(outputs, g.output), rowsOf(signed, g.signed)
@@ -190,11 +237,11 @@ func Finish(claims []Claim, outputs []Output, preimages [][32]byte, signed []Sig
 			secrets, C.size_t(len(preimages)), first(signedRows), C.size_t(len(signedRows)), data, size, room, length, &answer)
 		switch status {
 		case C.ENFORCE_DONE:
-			return tx[:answer.bytes], nil
+			return tx[:answer.bytes], idOf(&answer.txid, &answer.shown_txid), nil
 		case C.ENFORCE_TOO_SMALL:
 			tx = make([]byte, answer.bytes)
 		default:
-			return nil, refusedAt(status, answer.number, answer.item)
+			return nil, ID{}, refusedAbout(status, answer.number, answer.about, answer.row)
 		}
 	}
 }

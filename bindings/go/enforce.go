@@ -179,6 +179,38 @@ func Text(script []byte) (string, error) {
 	}
 }
 
+// Note is what of a script endangers money, and the index of the path or of the opcode that it is about.
+type Note struct {
+	Kind NoteKind
+	At   uint64
+}
+
+// Notes has what of a script endangers money.
+//
+// Proved of enforce_script_notes: those on paths are all that there are, and where nobody can spend, none can by consensus.
+func Notes(script []byte) ([]Note, error) {
+	if err := sameABI(); err != nil {
+		return nil, err
+	}
+	given, length := bytesOf(script)
+	rows := make([]C.enforce_note_row, 64)
+	for {
+		var answer C.enforce_notes_answer
+		switch status := C.enforce_script_notes(given, length, first(rows), C.size_t(len(rows)), &answer); status {
+		case C.ENFORCE_DONE:
+			notes := make([]Note, answer.notes)
+			for i := range notes {
+				notes[i] = Note{NoteKind(rows[i].kind), uint64(rows[i].at)}
+			}
+			return notes, nil
+		case C.ENFORCE_TOO_SMALL:
+			rows = make([]C.enforce_note_row, answer.notes)
+		default:
+			return nil, refused(status, answer.number)
+		}
+	}
+}
+
 // Program is the program that an output with this script has (BIP 141, P2WSH): 00, 20 and the script's SHA-256. Proved of enforce_script_program.
 func Program(script []byte) ([34]byte, error) {
 	if err := sameABI(); err != nil {
@@ -210,16 +242,16 @@ type Form struct {
 
 func (f *Form) row() C.enforce_form {
 	row := C.enforce_form{kind: C.uint32_t(f.Kind), expiry_height: C.uint32_t(f.ExpiryHeight), delay_blocks: C.uint16_t(f.DelayBlocks)}
-	key, other := f.Revocation, f.RemoteHtlc
+	remote, local := f.RemoteHtlc, f.LocalHtlc
 	switch f.Kind {
 	case FormFunding:
-		key, other = f.Own, f.Peers
+		remote, local = f.Peers, f.Own
 	case FormToLocal:
-		other = f.Delayed
+		local = f.Delayed
 	case FormKeyHash:
-		key = f.Key
+		remote = f.Key
 	}
-	*(*[33]byte)(unsafe.Pointer(&row.key)), *(*[33]byte)(unsafe.Pointer(&row.other)), *(*[33]byte)(unsafe.Pointer(&row.local)) = key, other, f.LocalHtlc
+	*(*[33]byte)(unsafe.Pointer(&row.revocation)), *(*[33]byte)(unsafe.Pointer(&row.remote)), *(*[33]byte)(unsafe.Pointer(&row.local)) = f.Revocation, remote, local
 	*(*[32]byte)(unsafe.Pointer(&row.payment_hash)) = f.PaymentHash
 	return row
 }

@@ -18,27 +18,29 @@ func (s Status) Error() string {
 // Refused is why a call gives nothing. errors.As finds it, and errors.Is its status.
 type Refused struct {
 	Status Status
-	// The position or the index that some refusals carry, as their statuses say.
+	// The position or the index that some refusals carry, as their statuses say: of a claim's slot, and of a signature's item, too.
 	Number uint64
-	// What it is about, or nil. Indices count from 0.
-	Place *Place
-}
-
-// Place is the item of an input's witness that a signature is for.
-type Place struct {
-	Input, Item uint64
+	// What it is about, and the index of that claim, output or input, from 0.
+	About About
+	Row   uint64
 }
 
 func (r *Refused) Error() string {
-	word := C.GoString(C.enforce_name(C.uint32_t(r.Status)))
+	text := C.GoString(C.enforce_name(C.uint32_t(r.Status)))
 	switch r.Status {
-	case ErrBadOpcode, ErrTruncated, ErrUndecided, ErrNotACommitmentKey, ErrNoSuchDirection, ErrExpiryTooLarge:
-		return fmt.Sprintf("%s %d", word, r.Number)
+	case ErrBadOpcode, ErrTruncated, ErrUndecided, ErrUnmet, ErrNotAKey, ErrNoSuchSlot, ErrItemTooLong, ErrSlotOutOfRange, ErrNotACommitmentKey, ErrNoSuchDirection, ErrExpiryTooLarge,
+		ErrNoSignature, ErrSignatureOutOfRange, ErrNotDer, ErrNotSighashAll, ErrNotAsked:
+		text += fmt.Sprintf(" %d", r.Number)
 	}
-	if r.Place != nil {
-		return fmt.Sprintf("%s %d %d", word, r.Place.Input, r.Place.Item)
+	switch r.About {
+	case AboutOutput:
+		text += fmt.Sprintf(" output %d", r.Row)
+	case AboutClaim:
+		text += fmt.Sprintf(" claim %d", r.Row)
+	case AboutSignature:
+		text += fmt.Sprintf(" input %d", r.Row)
 	}
-	return word
+	return text
 }
 
 // Unwrap is the status.
@@ -50,14 +52,8 @@ func refused(status C.uint32_t, number C.size_t) error {
 	return &Refused{Status: Status(status), Number: uint64(number)}
 }
 
-func refusedAt(status C.uint32_t, number, item C.size_t) error {
-	switch found := (&Refused{Status: Status(status), Number: uint64(number)}); found.Status {
-	case ErrNoSignature, ErrSignatureOutOfRange, ErrNotDer, ErrNotSighashAll, ErrNotAsked:
-		found.Number, found.Place = 0, &Place{uint64(number), uint64(item)}
-		return found
-	default:
-		return found
-	}
+func refusedAbout(status C.uint32_t, number C.size_t, about C.uint32_t, row C.size_t) error {
+	return &Refused{Status(status), uint64(number), About(about), uint64(row)}
 }
 
 // OtherABI is the error of each call where the library that is linked has another number than enforce.h.

@@ -51,3 +51,19 @@ func ExampleClaim_Accept() {
 	// true
 	// 0 0 <nil>
 }
+
+func ExampleUnsignedSpend() {
+	script := []byte{0x51} // 1: anyone can spend
+	program, _ := enforce.Program(script)
+	claim := enforce.Claim{Value: 1_000, Script: script, Program: program[:]}
+	spend, err := enforce.UnsignedSpend([]enforce.Claim{claim}, []enforce.Output{{Value: 800, Script: script}}, nil)
+	fmt.Println(len(spend.Missing), spend.Weight, spend.FeeSat, err)
+	other := claim
+	other.Index, other.Slots = 1, []enforce.Slot{{Exact: make([]byte, 521)}}
+	_, err = enforce.UnsignedSpend([]enforce.Claim{claim, other}, nil, nil)
+	var refused *enforce.Refused
+	fmt.Println(errors.As(err, &refused), refused.About == enforce.AboutClaim, refused.Row, refused.Number, err)
+	// Output:
+	// 0 249 200 <nil>
+	// true true 1 0 ItemTooLong 0 claim 1
+}

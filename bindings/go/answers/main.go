@@ -141,14 +141,18 @@ func finish(words []string) (string, error) {
 		p := strings.Split(it, "/")
 		signed = append(signed, enforce.Signed{Input: number(p[0]), Item: number(p[1]), Signature: data(p[2])})
 	}
-	tx, err := enforce.Finish(claims, outputs, preimages, signed)
-	return fmt.Sprintf("tx %x\n", tx), err
+	tx, id, err := enforce.Finish(claims, outputs, preimages, signed)
+	return fmt.Sprintf("tx %x\n%s", tx, ids(id)), err
+}
+
+func ids(id enforce.ID) string {
+	return fmt.Sprintf("txid %x shown %x\n", id.Txid, id.Shown)
 }
 
 func spend(words []string) (string, error) {
-	tx, signatures, err := enforce.UnsignedSpend(asked(words))
-	text := fmt.Sprintf("tx %x\n", tx)
-	for _, it := range signatures {
+	found, err := enforce.UnsignedSpend(asked(words))
+	text := fmt.Sprintf("tx %x\nweight %d fee %d\n%s", found.Tx, found.Weight, found.FeeSat, ids(found.ID))
+	for _, it := range found.Missing {
 		text += fmt.Sprintf("sign %d %d %x %x\n", it.Input, it.Item, it.Key, it.Digest)
 	}
 	return text, err
@@ -174,9 +178,9 @@ func orDash(data []byte) string {
 	return hex.EncodeToString(data)
 }
 
-func claimText(claim *enforce.Claim) string {
+func slotsText(given []enforce.Slot) string {
 	var slots []string
-	for _, it := range claim.Slots {
+	for _, it := range given {
 		switch {
 		case it.Signature != nil:
 			slots = append(slots, fmt.Sprintf("s=%x", *it.Signature))
@@ -188,7 +192,36 @@ func claimText(claim *enforce.Claim) string {
 			slots = append(slots, "e="+orDash(it.Exact))
 		}
 	}
-	return fmt.Sprintf("%s/%s/%x/%d/%d/%d/%s", orDash(claim.Script), orDash(claim.Program), claim.Txid, claim.Index, claim.Value, claim.Path, strings.Join(slots, ","))
+	return strings.Join(slots, ",")
+}
+
+func claimText(claim *enforce.Claim) string {
+	return fmt.Sprintf("%s/%s/%x/%d/%d/%d/%s", orDash(claim.Script), orDash(claim.Program), claim.Txid, claim.Index, claim.Value, claim.Path, slotsText(claim.Slots))
+}
+
+func pathSlots(words []string) (string, error) {
+	var keys [][33]byte
+	var preimages [][32]byte
+	for _, it := range parts(words[2], ",") {
+		keys = append(keys, key(it))
+	}
+	for _, it := range parts(words[3], ",") {
+		preimages = append(preimages, hash(it))
+	}
+	found, err := enforce.PathSlots(data(words[0]), number(words[1]), keys, preimages)
+	if len(found) == 0 {
+		return "-\n", err
+	}
+	return slotsText(found) + "\n", err
+}
+
+func notes(script []byte) (string, error) {
+	found, err := enforce.Notes(script)
+	text := "notes\n"
+	for _, it := range found {
+		text += fmt.Sprintf("note %d %d\n", it.Kind, it.At)
+	}
+	return text, err
 }
 
 func foundText(found enforce.Found, err error) (string, error) {
@@ -221,16 +254,16 @@ func closed(words []string) (string, error) {
 
 func formOf(words []string) enforce.Form {
 	form := enforce.Form{Kind: enforce.FormKind(number(words[0])), PaymentHash: hash(words[4]), ExpiryHeight: uint32(number(words[5])), DelayBlocks: uint16(number(words[6]))}
-	first, second := key(words[1]), key(words[2])
+	first, second, third := key(words[1]), key(words[2]), key(words[3])
 	switch form.Kind {
 	case enforce.FormFunding:
-		form.Own, form.Peers = first, second
+		form.Peers, form.Own = second, third
 	case enforce.FormKeyHash:
-		form.Key = first
+		form.Key = second
 	case enforce.FormToLocal:
-		form.Revocation, form.Delayed = first, second
+		form.Revocation, form.Delayed = first, third
 	default:
-		form.Revocation, form.RemoteHtlc, form.LocalHtlc = first, second, key(words[3])
+		form.Revocation, form.RemoteHtlc, form.LocalHtlc = first, second, third
 	}
 	return form
 }
@@ -252,6 +285,10 @@ func answer(words []string) (string, error) {
 		return spend(words[1:])
 	case "finish":
 		return finish(words[1:])
+	case "slots":
+		return pathSlots(words[1:])
+	case "notes":
+		return notes(data(words[1]))
 	case "revoked":
 		return revoked(words[1:])
 	case "close":

@@ -41,15 +41,14 @@ func main() {
 	claim.Program = scriptProgram[:]
 	copy(claim.Txid[:], bytes(txid))
 	claim.Txid = enforce.ReversedID(claim.Txid)
-	claim.Slots = []enforce.Slot{{Exact: nil}, {Signature: &form.Delayed}}
+	claim.Slots = must(enforce.PathSlots(claim.Script, claim.Path, [][33]byte{form.Delayed}, nil))
 	log.Println("can be mined", must(claim.Accept()).Sequence, "blocks after its output")
 	claims, outputs := []enforce.Claim{claim}, []enforce.Output{{Value: claim.Value - fee, Script: bytes(program)}}
-	_, missing, err := enforce.UnsignedSpend(claims, outputs, nil)
-	must(missing, err)
 	var signed []enforce.Signed
-	for _, it := range missing {
+	for _, it := range must(enforce.UnsignedSpend(claims, outputs, nil)).Missing {
 		signature := must(signer.Sign(it.Digest[:])).Serialize()
 		signed = append(signed, enforce.Signed{Input: it.Input, Item: it.Item, Signature: append(signature, 1)}) // SIGHASH_ALL
 	}
-	fmt.Printf("%x\n", must(enforce.Finish(claims, outputs, nil, signed)))
+	tx, _, err := enforce.Finish(claims, outputs, nil, signed)
+	fmt.Printf("%x\n", must(tx, err))
 }

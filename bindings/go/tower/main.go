@@ -47,13 +47,13 @@ func main() {
 	if fee > value {
 		fee = value
 	}
-	spend, signatures, refused := enforce.UnsignedSpend(claims, []enforce.Output{{Value: value - fee, Script: bytes(program)}}, nil)
+	spend, refused := enforce.UnsignedSpend(claims, []enforce.Output{{Value: value - fee, Script: bytes(program)}}, nil)
 	if err != nil || refused != nil {
 		fmt.Println("refused", err, refused)
 		os.Exit(1)
 	}
-	fmt.Printf("tx %x\n", spend)
-	for _, it := range signatures {
+	fmt.Printf("tx %x\n", spend.Tx)
+	for _, it := range spend.Missing {
 		fmt.Printf("sign %d %d %x %x\n", it.Input, it.Item, it.Key, it.Digest)
 	}
 }

@@ -1,5 +1,5 @@
 //! Makes the calls that standard input names, a line each, and prints what each answers, as `bindings/tests/answers.c` does.
-use enforce::{ChannelType, Claim, Commitment, Direction, Error, Fact, Form, Found, FoundClaim, FundingKeys, Htlc, KeySource, Output, Path, Signed, Slot, Stated, Whose};
+use enforce::{ChannelType, Claim, Commitment, Direction, Error, Fact, Form, Found, FoundClaim, FundingKeys, Htlc, HtlcForm, Id, KeySource, Note, Output, Path, Signed, Slot, Stated, Whose};
 use std::io::{self, BufRead};
 
 fn hex(bytes: &[u8]) -> String {
@@ -59,12 +59,15 @@ fn form(words: &[&str]) -> Option<Form> {
     let payment_hash = array(words[4]);
     let expiry_height = words[5].parse().expect("a height");
     let delay_blocks = words[6].parse().expect("a delay");
+    let htlc = HtlcForm { revocation: first, remote_htlc: second, local_htlc: third, payment_hash };
     Some(match words[0] {
-        "1" => Form::Funding { own: first, peers: second },
-        "2" => Form::ToLocal { revocation: first, delay_blocks, delayed: second },
-        "3" => Form::KeyHash { key: first },
-        "4" => Form::Offered { revocation: first, remote_htlc: second, local_htlc: third, payment_hash },
-        "5" => Form::Received { revocation: first, remote_htlc: second, local_htlc: third, payment_hash, expiry_height },
+        "1" => Form::Funding { peers: second, own: third },
+        "2" => Form::ToLocal { revocation: first, delay_blocks, delayed: third },
+        "3" => Form::KeyHash { key: second },
+        "4" => Form::Offered(htlc),
+        "5" => Form::Received { form: htlc, expiry_height },
+        "6" => Form::OfferedWithAnchors(htlc),
+        "7" => Form::ReceivedWithAnchors { form: htlc, expiry_height },
         _ => return None,
     })
 }
@@ -100,10 +103,14 @@ fn output(text: &str) -> Output {
     Output { value: value.parse().expect("a value"), script: bytes(script) }
 }
 
+fn ids(id: &Id) -> String {
+    format!("txid {} shown {}\n", hex(&id.txid), hex(&id.shown))
+}
+
 fn spend(claims: &str, outputs: &str, preimages: &str) -> Result<String, Error> {
     let found = enforce::unsigned_spend(&each(claims, ';', claim), &each(outputs, ';', output), &each(preimages, ',', array))?;
     let lines = found.signatures.iter().map(|it| format!("sign {} {} {} {}\n", it.input, it.item, hex(&it.key), hex(&it.digest)));
-    Ok(format!("tx {}\n", hex(&found.tx)) + &lines.collect::<String>())
+    Ok(format!("tx {}\nweight {} fee {}\n{}", hex(&found.tx), found.weight, found.fee_sat, ids(&found.id)) + &lines.collect::<String>())
 }
 
 fn signed(text: &str) -> Signed {
@@ -112,8 +119,8 @@ fn signed(text: &str) -> Signed {
 }
 
 fn finish(words: &[&str]) -> Result<String, Error> {
-    let tx = enforce::finish(&each(words[0], ';', claim), &each(words[1], ';', output), &each(words[2], ',', array), &each(words[3], ',', signed))?;
-    Ok(format!("tx {}\n", hex(&tx)))
+    let found = enforce::finish(&each(words[0], ';', claim), &each(words[1], ';', output), &each(words[2], ',', array), &each(words[3], ',', signed))?;
+    Ok(format!("tx {}\n{}", hex(&found.tx), ids(&found.id)))
 }
 
 fn htlc(text: &str) -> Option<Htlc> {
@@ -154,15 +161,38 @@ fn dash(bytes: &[u8]) -> String {
     if bytes.is_empty() { "-".to_owned() } else { hex(bytes) }
 }
 
-fn found(it: &FoundClaim) -> String {
-    let slots = it.claim.slots.iter().map(|slot| match slot {
+fn slots(given: &[Slot]) -> String {
+    let words = given.iter().map(|slot| match slot {
         Slot::Signature(key) => format!("s={}", hex(key)),
         Slot::Preimage(hash) => format!("p={}", hex(hash)),
         Slot::Exact(item) => format!("e={}", dash(item)),
         Slot::Given { key, digest, tx } => format!("g={}:{}:{}", hex(key), hex(digest), hex(tx)),
     });
+    words.collect::<Vec<_>>().join(",")
+}
+
+fn note(it: &Note) -> String {
+    let (kind, at) = match *it {
+        Note::Anyone(at) => (1, at),
+        Note::Finder(at) => (2, at),
+        Note::Nobody => (3, 0),
+        Note::StricterKey(at) => (4, at),
+        Note::StricterSignature(at) => (5, at),
+        Note::StricterNumber(at) => (6, at),
+        _ => (0, 0),
+    };
+    format!("note {kind} {at}\n")
+}
+
+fn path_slots(words: &[&str]) -> Result<String, Error> {
+    let path = words[1].parse().expect("a path");
+    let found = slots(&enforce::path_slots(&bytes(words[0]), path, &each(words[2], ',', array), &each(words[3], ',', array))?);
+    Ok(if found.is_empty() { "-\n".to_owned() } else { found + "\n" })
+}
+
+fn found(it: &FoundClaim) -> String {
     let Claim { script, program, txid, index, value, path, .. } = &it.claim;
-    let (kind, slots) = (it.kind as u32, slots.collect::<Vec<_>>().join(","));
+    let (kind, slots) = (it.kind as u32, slots(&it.claim.slots));
     let heights = format!("{} {}", it.from_height, or_dash(it.deadline_height));
     format!("found {kind} {heights} {}/{}/{}/{index}/{value}/{path}/{slots}\n", dash(script), dash(program), hex(txid))
 }
@@ -213,6 +243,8 @@ fn answer(line: &str) -> Result<String, Error> {
         "spend" => spend(words[1], words[2], words[3]),
         "finish" => finish(&words[1..]),
         "revoked" => revoked(&words[1..]),
+        "slots" => path_slots(&words[1..]),
+        "notes" => Ok("notes\n".to_owned() + &enforce::notes(&bytes(words[1]))?.iter().map(note).collect::<String>()),
         "close" => close(&words[1..]),
         _ => match form(&words[1..]) {
             Some(form) => Ok(hex(&form.script()?) + "\n"),
@@ -222,12 +254,14 @@ fn answer(line: &str) -> Result<String, Error> {
     }
 }
 
-/// The word of a refusal with its numbers.
+/// The word of a refusal, with its number and what it is about.
 fn refusal(error: &Error) -> String {
     let told = error.refused().map_or_else(|| error.to_string(), ToString::to_string);
     let word = told.split(':').next().unwrap_or_default();
     match error {
-        Error::Signature { input, item, .. } => format!("{word} {input} {item}"),
+        Error::Claim { claim, .. } => format!("{word} claim {claim}"),
+        Error::Output { output, .. } => format!("{word} output {output}"),
+        Error::Signature { input, item, .. } => format!("{word} {item} input {input}"),
         _ => word.to_owned(),
     }
 }

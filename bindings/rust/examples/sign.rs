@@ -1,5 +1,5 @@
 //! From a to_local script to the signed transaction that takes its output after the delay. Reads words from standard input, which c/sign.c names. Signs by the system's libsecp256k1; the crate `secp256k1` does the same.
-use enforce::{Claim, Form, MissingSignature, Output, Signed, Slot};
+use enforce::{Claim, Form, MissingSignature, Output, Signed};
 use std::{error, ffi::c_int, ffi::c_uint, io, ptr};
 
 type Context = *const u8;
@@ -48,12 +48,12 @@ fn main() -> Result<(), Box<dyn error::Error>> {
     let key = key_of(context, &secret);
     let script = Form::ToLocal { revocation: array(revocation), delay_blocks: delay.parse()?, delayed: key }.script()?;
     let path = enforce::paths(&script)?.iter().position(|it| it.age.is_some()).expect("a path has the delay");
-    let slots = vec![Slot::Exact(Vec::new()), Slot::Signature(key)];
+    let slots = enforce::path_slots(&script, path, &[key], &[])?;
     let claim = Claim { txid: enforce::reversed_id(array(txid)), index: index.parse()?, value, program: enforce::program(&script)?.to_vec(), script, path, slots };
     eprintln!("can be mined {} blocks after its output", claim.accept()?.sequence);
     let (claims, outputs) = ([claim], [Output { value: value.saturating_sub(fee.parse()?), script: bytes(program) }]);
     let spend = enforce::unsigned_spend(&claims, &outputs, &[])?;
     let signatures: Vec<_> = spend.signatures.iter().map(|it| signed(context, &secret, it)).collect();
-    let tx = enforce::finish(&claims, &outputs, &[], &signatures)?;
-    Ok(println!("{}", tx.iter().map(|it| format!("{it:02x}")).collect::<String>()))
+    let finished = enforce::finish(&claims, &outputs, &[], &signatures)?;
+    Ok(println!("{}", finished.tx.iter().map(|it| format!("{it:02x}")).collect::<String>()))
 }

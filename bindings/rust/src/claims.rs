@@ -17,6 +17,21 @@ pub enum Slot {
     Given { key: [u8; 33], digest: [u8; 32], tx: Vec<u8> },
 }
 
+pub(crate) const SLOT: raw::SlotRow = raw::SlotRow { kind: 0, key: [0; 33], hash: [0; 32], bytes_at: 0, bytes_length: 0 };
+
+impl Slot {
+    /// The slot of a row that a call wrote, with the bytes that it refers to.
+    pub(crate) fn of(row: &raw::SlotRow, bytes: &[u8]) -> Slot {
+        let part = || bytes[row.bytes_at..row.bytes_at + row.bytes_length].to_vec();
+        match row.kind {
+            raw::SLOT_SIGNATURE => Slot::Signature(row.key),
+            raw::SLOT_PREIMAGE => Slot::Preimage(row.hash),
+            raw::SLOT_GIVEN => Slot::Given { key: row.key, digest: row.hash, tx: part() },
+            _ => Slot::Exact(part()),
+        }
+    }
+}
+
 /// A claim on an output, by one path of its script.
 #[derive(Clone, Debug, PartialEq, Eq)]
 pub struct Claim {
@@ -68,6 +83,27 @@ pub struct MissingSignature {
 pub struct UnsignedSpend {
     pub tx: Vec<u8>,
     pub signatures: Vec<MissingSignature>,
+    /// In weight units (BIP 141), of the transaction once it is signed, at most: each signature counts as 73 bytes.
+    pub weight: u64,
+    /// What the claimed outputs are worth, less the outputs, in satoshis.
+    pub fee_sat: u64,
+    pub id: Id,
+}
+
+/// The id of a transaction, signed or not.
+#[derive(Clone, Copy, Debug, PartialEq, Eq)]
+pub struct Id {
+    /// In the hash's own byte order, as a [`Claim`] has it.
+    pub txid: [u8; 32],
+    /// In the other order, as nodes and explorers show it.
+    pub shown: [u8; 32],
+}
+
+/// A transaction (BIP 144) with its signatures.
+#[derive(Clone, Debug, PartialEq, Eq)]
+pub struct Finished {
+    pub tx: Vec<u8>,
+    pub id: Id,
 }
 
 /// A signature for an item that lacks one.
@@ -79,6 +115,10 @@ pub struct Signed {
     /// Strict DER (BIP 66), and the byte 01 (SIGHASH_ALL).
     pub signature: Vec<u8>,
 }
+
+const SPEND_ANSWER: raw::SpendAnswer =
+    raw::SpendAnswer { bytes: 0, signatures: 0, number: 0, row: 0, weight: 0, fee_sat: 0, about: 0, txid: [0; 32], shown_txid: [0; 32] };
+const FINISH_ANSWER: raw::FinishAnswer = raw::FinishAnswer { bytes: 0, number: 0, row: 0, about: 0, txid: [0; 32], shown_txid: [0; 32] };
 
 /// What a call is given: rows, and the bytes that they refer to.
 #[derive(Default)]
@@ -117,15 +157,14 @@ impl Given {
     }
 
     fn slot(&mut self, slot: &Slot) {
-        let blank = raw::SlotRow { kind: 0, key: [0; 33], hash: [0; 32], bytes_at: 0, bytes_length: 0 };
         let row = match slot {
-            Slot::Signature(key) => raw::SlotRow { kind: raw::SLOT_SIGNATURE, key: *key, ..blank },
-            Slot::Preimage(hash) => raw::SlotRow { kind: raw::SLOT_PREIMAGE, hash: *hash, ..blank },
+            Slot::Signature(key) => raw::SlotRow { kind: raw::SLOT_SIGNATURE, key: *key, ..SLOT },
+            Slot::Preimage(hash) => raw::SlotRow { kind: raw::SLOT_PREIMAGE, hash: *hash, ..SLOT },
             Slot::Exact(item) => {
                 let (bytes_at, bytes_length) = self.put(item);
-                raw::SlotRow { kind: raw::SLOT_EXACT, bytes_at, bytes_length, ..blank }
+                raw::SlotRow { kind: raw::SLOT_EXACT, bytes_at, bytes_length, ..SLOT }
             }
-            Slot::Given { .. } => raw::SlotRow { kind: raw::SLOT_GIVEN, ..blank },
+            Slot::Given { .. } => raw::SlotRow { kind: raw::SLOT_GIVEN, ..SLOT },
         };
         self.slots.push(row);
     }
@@ -162,6 +201,27 @@ impl Claim {
     }
 }
 
+/// The slots that a path of a script asks for. `keys` are those that the caller can sign with, and `preimages` those that it knows: they are wanted where the path asks for their hashes, or for a choice.
+///
+/// Proved (`enforce_path_slots`): a claim with these slots is accepted. A refusal is the first that holds: of the script's bytes, of its listing, of the path, of the first fact that the slots do not show.
+pub fn path_slots(script: &[u8], path: usize, keys: &[[u8; 33]], preimages: &[[u8; 32]]) -> Result<Vec<Slot>, Error> {
+    ffi::same_abi()?;
+    let keys: Vec<_> = keys.iter().map(|it| raw::KeyRow { bytes: *it }).collect();
+    let preimages: Vec<_> = preimages.iter().map(|it| raw::PreimageRow { bytes: *it }).collect();
+    let (mut slots, mut bytes) = (vec![SLOT; 16], vec![0; 1024]);
+    loop {
+        let mut answer = raw::SlotsAnswer { slots: 0, bytes: 0, number: 0 };
+        match ffi::path_slots(script, path, &keys, &preimages, &mut slots, &mut bytes, &mut answer) {
+            raw::DONE => return Ok(slots[..answer.slots].iter().map(|it| Slot::of(it, &bytes)).collect()),
+            raw::TOO_SMALL => {
+                slots.resize(answer.slots, SLOT);
+                bytes.resize(answer.bytes, 0);
+            }
+            other => return Err(Error::of(other, answer.number)),
+        }
+    }
+}
+
 /// The transaction that spends the outputs of claims, in which nothing is signed, and the signatures that it lacks.
 ///
 /// Proved (`enforce_unsigned_spend`): with the token of each missing signature in its place, each input runs clean. [`finish`] puts in the signature by the key over the digest, with the byte 01
@@ -172,19 +232,20 @@ pub fn unsigned_spend(claims: &[Claim], outputs: &[Output], preimages: &[[u8; 32
     let blank = raw::SignatureRow { input: 0, item: 0, key: [0; 33], digest: [0; 32] };
     let (mut tx, mut signatures) = (vec![0; 1024], vec![blank; 16]);
     loop {
-        let mut answer = raw::SpendAnswer { bytes: 0, signatures: 0, number: 0 };
+        let mut answer = SPEND_ANSWER;
         match ffi::unsigned_spend(&given.asked(), &mut tx, &mut signatures, &mut answer) {
             raw::DONE => {
                 tx.truncate(answer.bytes);
                 let signatures = signatures[..answer.signatures].iter();
                 let signatures = signatures.map(|it| MissingSignature { input: it.input, item: it.item, key: it.key, digest: it.digest }).collect();
-                return Ok(UnsignedSpend { tx, signatures });
+                let id = Id { txid: answer.txid, shown: answer.shown_txid };
+                return Ok(UnsignedSpend { tx, signatures, weight: answer.weight, fee_sat: answer.fee_sat, id });
             }
             raw::TOO_SMALL => {
                 tx.resize(answer.bytes, 0);
                 signatures.resize(answer.signatures, blank);
             }
-            other => return Err(Error::of(other, answer.number)),
+            other => return Err(Error::about(other, answer.number, answer.about, answer.row)),
         }
     }
 }
@@ -193,20 +254,20 @@ pub fn unsigned_spend(claims: &[Claim], outputs: &[Output], preimages: &[[u8; 32
 /// its key, nothing here asks.
 ///
 /// Proved (`enforce_finish`): where each is the key's over the digest, each input runs clean. A refusal is the first that holds: of [`unsigned_spend`], then signature by signature.
-pub fn finish(claims: &[Claim], outputs: &[Output], preimages: &[[u8; 32]], signed: &[Signed]) -> Result<Vec<u8>, Error> {
+pub fn finish(claims: &[Claim], outputs: &[Output], preimages: &[[u8; 32]], signed: &[Signed]) -> Result<Finished, Error> {
     ffi::same_abi()?;
     let mut given = Given::of(claims, outputs, preimages);
     let signed: Vec<_> = signed.iter().map(|it| given.signed(it)).collect();
     let mut tx = vec![0; 1024];
     loop {
-        let mut answer = raw::FinishAnswer { bytes: 0, number: 0, item: 0 };
+        let mut answer = FINISH_ANSWER;
         match ffi::finish(&given.asked(), &signed, &mut tx, &mut answer) {
             raw::DONE => {
                 tx.truncate(answer.bytes);
-                return Ok(tx);
+                return Ok(Finished { tx, id: Id { txid: answer.txid, shown: answer.shown_txid } });
             }
             raw::TOO_SMALL => tx.resize(answer.bytes, 0),
-            other => return Err(Error::of_finish(other, &answer)),
+            other => return Err(Error::about(other, answer.number, answer.about, answer.row)),
         }
     }
 }

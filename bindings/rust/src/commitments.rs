@@ -1,5 +1,5 @@
 //! What a transaction lets one claim, by a commitment.
-use crate::claims::{Claim, Slot};
+use crate::claims::{Claim, SLOT, Slot};
 use crate::error::Error;
 use crate::ffi::{self, Lists};
 use crate::raw;
@@ -127,22 +127,13 @@ impl Lists {
             raw::ClaimRow { txid: [0; 32], index: 0, value: 0, script_at: 0, script_length: 0, program_at: 0, program_length: 0, path: 0, first_slot: 0, slots: 0 };
         self.claims.resize(claims, claim);
         self.found.resize(claims, raw::FoundRow { kind: 0, has_deadline: false, from_height: 0, deadline_height: 0 });
-        self.slots.resize(slots, raw::SlotRow { kind: 0, key: [0; 33], hash: [0; 32], bytes_at: 0, bytes_length: 0 });
+        self.slots.resize(slots, SLOT);
         self.others.resize(others, raw::OtherRow { index: 0, kind: 0 });
         self.bytes.resize(bytes, 0);
     }
 
     fn part(&self, at: usize, length: usize) -> Vec<u8> {
         self.bytes[at..at + length].to_vec()
-    }
-
-    fn slot(&self, row: &raw::SlotRow) -> Slot {
-        match row.kind {
-            raw::SLOT_SIGNATURE => Slot::Signature(row.key),
-            raw::SLOT_PREIMAGE => Slot::Preimage(row.hash),
-            raw::SLOT_GIVEN => Slot::Given { key: row.key, digest: row.hash, tx: self.part(row.bytes_at, row.bytes_length) },
-            _ => Slot::Exact(self.part(row.bytes_at, row.bytes_length)),
-        }
     }
 
     fn claim(&self, row: &raw::ClaimRow) -> Claim {
@@ -153,7 +144,7 @@ impl Lists {
             script: self.part(row.script_at, row.script_length),
             program: self.part(row.program_at, row.program_length),
             path: row.path,
-            slots: self.slots[row.first_slot..row.first_slot + row.slots].iter().map(|it| self.slot(it)).collect(),
+            slots: self.slots[row.first_slot..row.first_slot + row.slots].iter().map(|it| Slot::of(it, &self.bytes)).collect(),
         }
     }
 

@@ -11,6 +11,10 @@ pub enum Error {
     OtherAbi { declared: u32, linked: u32 },
     /// The call is refused.
     Refused(Refused),
+    /// The claim at this index is refused, as [`Claim::accept`](crate::Claim::accept) would refuse it, or the spend for this claim.
+    Claim { claim: usize, source: Refused },
+    /// The output at this index is refused.
+    Output { output: usize, source: Refused },
     /// The signature for this item of this input's witness is refused.
     Signature { input: usize, item: usize, source: Refused },
 }
@@ -20,7 +24,7 @@ impl Error {
     pub fn refused(&self) -> Option<&Refused> {
         match self {
             Error::OtherAbi { .. } => None,
-            Error::Refused(source) | Error::Signature { source, .. } => Some(source),
+            Error::Refused(source) | Error::Claim { source, .. } | Error::Output { source, .. } | Error::Signature { source, .. } => Some(source),
         }
     }
 
@@ -29,13 +33,14 @@ impl Error {
         Error::Refused(Refused::of(status, number))
     }
 
-    /// The refusal of a signature, or of what comes before it.
-    pub(crate) fn of_finish(status: u32, answer: &raw::FinishAnswer) -> Error {
-        match Refused::of(status, answer.number) {
-            source @ (Refused::NoSignature | Refused::NotDer | Refused::NotSighashAll | Refused::NotAsked) => {
-                Error::Signature { input: answer.number, item: answer.item, source }
-            }
-            source => Error::Refused(source),
+    /// The same, with what it is about.
+    pub(crate) fn about(status: u32, number: usize, about: u32, row: usize) -> Error {
+        let source = Refused::of(status, number);
+        match about {
+            raw::ABOUT_CLAIM => Error::Claim { claim: row, source },
+            raw::ABOUT_OUTPUT => Error::Output { output: row, source },
+            raw::ABOUT_SIGNATURE => Error::Signature { input: row, item: number, source },
+            _ => Error::Refused(source),
         }
     }
 }
@@ -45,6 +50,8 @@ impl fmt::Display for Error {
         match self {
             Error::OtherAbi { declared, linked } => write!(f, "the library has ABI {linked}, and these declarations have {declared}"),
             Error::Refused(refused) => refused.fmt(f),
+            Error::Claim { claim, .. } => write!(f, "claim {claim} is refused"),
+            Error::Output { output, .. } => write!(f, "output {output} is refused"),
             Error::Signature { input, item, .. } => write!(f, "the signature of item {item} of input {input} is refused"),
         }
     }
@@ -54,7 +61,7 @@ impl error::Error for Error {
     fn source(&self) -> Option<&(dyn error::Error + 'static)> {
         match self {
             Error::OtherAbi { .. } | Error::Refused(_) => None,
-            Error::Signature { source, .. } => Some(source),
+            Error::Claim { source, .. } | Error::Output { source, .. } | Error::Signature { source, .. } => Some(source),
         }
     }
 }
@@ -113,13 +120,14 @@ refusals! {
     NoSuchPath = NO_SUCH_PATH,
     /// The number of slots is not that of the path.
     WrongArity = WRONG_ARITY,
-    /// The slots do not show a fact of the path.
-    Unmet = UNMET,
+    /// The slots do not show a fact of the path, which is about this slot; 0 where it is about the spend.
+    Unmet(usize) = UNMET,
     /// The path asks for one fact with both polarities.
     Contradiction = CONTRADICTION,
     /// The program is not that of the script.
     WrongProgram = WRONG_PROGRAM,
-    NotAKey = NOT_A_KEY,
+    /// The key of this slot; or of a form, 0 for revocation, 1 for the remote one, 2 for the local one.
+    NotAKey(usize) = NOT_A_KEY,
     /// The expiry is 500,000,000 or more, which is a time and not a height.
     NotAHeight = NOT_A_HEIGHT,
     /// Two claims spend the same outpoint.
@@ -138,10 +146,10 @@ refusals! {
     ValueTooLarge = VALUE_TOO_LARGE,
     /// There are more than 4,000 claims or outputs, or a script of an output has more than 10,000 bytes; or a transaction is above a limit.
     OverLimit = OVER_LIMIT,
-    /// The bytes of a slot are more than 520.
-    ItemTooLong = ITEM_TOO_LONG,
-    /// There is no slot of this kind: no call reads [`Slot::Given`](crate::Slot::Given).
-    NoSuchSlot = NO_SUCH_SLOT,
+    /// The bytes of this slot are more than 520.
+    ItemTooLong(usize) = ITEM_TOO_LONG,
+    /// There is no slot of the kind of this one: no call reads [`Slot::Given`](crate::Slot::Given).
+    NoSuchSlot(usize) = NO_SUCH_SLOT,
     /// The bytes of a transaction end within a field.
     TruncatedTransaction = TRUNCATED_TRANSACTION,
     /// A compactSize of a transaction is not minimal.
@@ -166,9 +174,8 @@ impl fmt::Display for Refused {
     fn fmt(&self, f: &mut fmt::Formatter) -> fmt::Result {
         let name = raw::name(self.status());
         match self {
-            Refused::BadOpcode(at) | Refused::Truncated(at) | Refused::Undecided(at) | Refused::NotACommitmentKey(at) | Refused::ExpiryTooLarge(at) => {
-                write!(f, "{name} {at}")?
-            }
+            Refused::BadOpcode(number) | Refused::Truncated(number) | Refused::Undecided(number) | Refused::Unmet(number) | Refused::NotAKey(number)
+            | Refused::ItemTooLong(number) | Refused::NoSuchSlot(number) | Refused::NotACommitmentKey(number) | Refused::ExpiryTooLarge(number) => write!(f, "{name} {number}")?,
             Refused::Unknown(status) => write!(f, "{name} {status:#x}")?,
             _ => f.write_str(name)?,
         }

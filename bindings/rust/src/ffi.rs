@@ -27,6 +27,19 @@ pub fn script_text(script: &[u8], text: &mut [u8], answer: &mut Answer) -> u32 {
     unsafe { enforce_script_text(script.as_ptr(), script.len(), text.as_mut_ptr(), text.len(), answer) }
 }
 
+pub fn script_notes(script: &[u8], notes: &mut [NoteRow], answer: &mut NotesAnswer) -> u32 {
+    unsafe { enforce_script_notes(script.as_ptr(), script.len(), notes.as_mut_ptr(), notes.len(), answer) }
+}
+
+pub fn path_slots(script: &[u8], path: usize, keys: &[KeyRow], preimages: &[PreimageRow], slots: &mut [SlotRow], bytes: &mut [u8], answer: &mut SlotsAnswer) -> u32 {
+    unsafe {
+        enforce_path_slots(
+            script.as_ptr(), script.len(), path, keys.as_ptr(), keys.len(), preimages.as_ptr(), preimages.len(), slots.as_mut_ptr(), slots.len(),
+            bytes.as_mut_ptr(), bytes.len(), answer,
+        )
+    }
+}
+
 pub fn script_program(script: &[u8], program: &mut [u8; 34]) {
     unsafe { enforce_script_program(script.as_ptr(), script.len(), program) }
 }

@@ -19,11 +19,11 @@ mod error;
 mod ffi;
 mod scripts;
 
-pub use claims::{Claim, Due, MissingSignature, Output, Signed, Slot, UnsignedSpend, finish, unsigned_spend};
+pub use claims::{Claim, Due, Finished, Id, MissingSignature, Output, Signed, Slot, UnsignedSpend, finish, path_slots, unsigned_spend};
 pub use commitments::{ChannelType, Commitment, Direction, Found, FoundClaim, FundingKeys, Htlc, Other, OutputKind, Whose, close, revoked};
 pub use error::{Error, Refused};
 pub use ffi::raw;
-pub use scripts::{Fact, Form, KeySource, Path, Stated, paths, program, text};
+pub use scripts::{Fact, Form, HtlcForm, KeySource, Note, Path, Stated, notes, paths, program, text};
 
 /// An id of a transaction or of a block in the other byte order: a hash's own is that of the rows here, and what nodes and explorers show is the other one.
 pub fn reversed_id(mut id: [u8; 32]) -> [u8; 32] {

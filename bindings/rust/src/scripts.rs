@@ -158,6 +158,55 @@ pub fn text(script: &[u8]) -> Result<String, Error> {
     }
 }
 
+/// What a note on a script says, of the path or the opcode at this index.
+#[derive(Clone, Copy, Debug, PartialEq, Eq)]
+#[non_exhaustive]
+pub enum Note {
+    /// Anyone can spend by this path once its locks have passed: it asks neither a signature of a key that the script fixes nor an item with a given hash.
+    Anyone(usize),
+    /// Whoever knows an item with a given hash can spend by this path, so who sees such a witness can too.
+    Finder(usize),
+    /// No witness spends an output with the script, by consensus neither.
+    Nobody,
+    /// A branch ends at this opcode by a rule that consensus has not, so others may spend by it: a key has not 33 bytes that begin with 02 or 03.
+    StricterKey(usize),
+    /// The same: a signature is neither empty nor one that a key can give.
+    StricterSignature(usize),
+    /// The same: a number is not minimally encoded.
+    StricterNumber(usize),
+}
+
+impl Note {
+    fn of(row: &raw::NoteRow) -> Option<Note> {
+        Some(match row.kind {
+            raw::NOTE_ANYONE => Note::Anyone(row.at),
+            raw::NOTE_FINDER => Note::Finder(row.at),
+            raw::NOTE_NOBODY => Note::Nobody,
+            raw::NOTE_STRICTER_KEY => Note::StricterKey(row.at),
+            raw::NOTE_STRICTER_SIGNATURE => Note::StricterSignature(row.at),
+            raw::NOTE_STRICTER_NUMBER => Note::StricterNumber(row.at),
+            _ => return None,
+        })
+    }
+}
+
+/// What of a script endangers money.
+///
+/// Proved (`enforce_script_notes`): those on paths are all that there are, and where nobody can spend, none can by consensus. A refusal is as of [`paths`].
+pub fn notes(script: &[u8]) -> Result<Vec<Note>, Error> {
+    ffi::same_abi()?;
+    let blank = raw::NoteRow { kind: 0, at: 0 };
+    let mut notes = vec![blank; 64];
+    loop {
+        let mut answer = raw::NotesAnswer { notes: 0, number: 0 };
+        match ffi::script_notes(script, &mut notes, &mut answer) {
+            raw::DONE => return Ok(notes[..answer.notes].iter().filter_map(Note::of).collect()),
+            raw::TOO_SMALL => notes.resize(answer.notes, blank),
+            other => return Err(Error::of(other, answer.number)),
+        }
+    }
+}
+
 /// The program that an output with this script has (BIP 141, P2WSH): 00, 20 and the script's SHA-256.
 ///
 /// Proved (`enforce_script_program`): these bytes exactly.
@@ -179,24 +228,45 @@ pub enum Form {
     /// The script that P2WPKH of the key stands for: to_remote of a channel without anchors.
     KeyHash { key: [u8; 33] },
     /// An HTLC that the commitment's owner offered.
-    Offered { revocation: [u8; 33], remote_htlc: [u8; 33], local_htlc: [u8; 33], payment_hash: [u8; 32] },
+    Offered(HtlcForm),
     /// An HTLC that the commitment's owner received; the expiry is below 500,000,000.
-    Received { revocation: [u8; 33], remote_htlc: [u8; 33], local_htlc: [u8; 33], payment_hash: [u8; 32], expiry_height: u32 },
+    Received { form: HtlcForm, expiry_height: u32 },
+    /// The same in a channel with anchors.
+    OfferedWithAnchors(HtlcForm),
+    ReceivedWithAnchors { form: HtlcForm, expiry_height: u32 },
+}
+
+/// What the script of each HTLC has.
+#[derive(Clone, Copy, Debug, PartialEq, Eq)]
+pub struct HtlcForm {
+    /// revocationpubkey.
+    pub revocation: [u8; 33],
+    /// remote_htlcpubkey.
+    pub remote_htlc: [u8; 33],
+    /// local_htlcpubkey.
+    pub local_htlc: [u8; 33],
+    /// SHA-256 of the payment preimage.
+    pub payment_hash: [u8; 32],
+}
+
+impl HtlcForm {
+    fn raw(&self, kind: u32, expiry_height: u32) -> raw::Form {
+        let HtlcForm { revocation, remote_htlc: remote, local_htlc: local, payment_hash } = *self;
+        raw::Form { kind, expiry_height, delay_blocks: 0, revocation, remote, local, payment_hash }
+    }
 }
 
 impl Form {
     fn raw(&self) -> raw::Form {
-        let blank = raw::Form { kind: 0, expiry_height: 0, delay_blocks: 0, key: [0; 33], other: [0; 33], local: [0; 33], payment_hash: [0; 32] };
+        let blank = raw::Form { kind: 0, expiry_height: 0, delay_blocks: 0, revocation: [0; 33], remote: [0; 33], local: [0; 33], payment_hash: [0; 32] };
         match *self {
-            Form::Funding { own, peers } => raw::Form { kind: raw::FORM_FUNDING, key: own, other: peers, ..blank },
-            Form::ToLocal { revocation, delay_blocks, delayed } => raw::Form { kind: raw::FORM_TO_LOCAL, key: revocation, other: delayed, delay_blocks, ..blank },
-            Form::KeyHash { key } => raw::Form { kind: raw::FORM_KEY_HASH, key, ..blank },
-            Form::Offered { revocation, remote_htlc, local_htlc, payment_hash } => {
-                raw::Form { kind: raw::FORM_OFFERED, key: revocation, other: remote_htlc, local: local_htlc, payment_hash, ..blank }
-            }
-            Form::Received { revocation, remote_htlc, local_htlc, payment_hash, expiry_height } => {
-                raw::Form { kind: raw::FORM_RECEIVED, key: revocation, other: remote_htlc, local: local_htlc, payment_hash, expiry_height, ..blank }
-            }
+            Form::Funding { own, peers } => raw::Form { kind: raw::FORM_FUNDING, local: own, remote: peers, ..blank },
+            Form::ToLocal { revocation, delay_blocks, delayed } => raw::Form { kind: raw::FORM_TO_LOCAL, revocation, local: delayed, delay_blocks, ..blank },
+            Form::KeyHash { key } => raw::Form { kind: raw::FORM_KEY_HASH, remote: key, ..blank },
+            Form::Offered(form) => form.raw(raw::FORM_OFFERED, 0),
+            Form::Received { form, expiry_height } => form.raw(raw::FORM_RECEIVED, expiry_height),
+            Form::OfferedWithAnchors(form) => form.raw(raw::FORM_OFFERED_WITH_ANCHORS, 0),
+            Form::ReceivedWithAnchors { form, expiry_height } => form.raw(raw::FORM_RECEIVED_WITH_ANCHORS, expiry_height),
         }
     }
 

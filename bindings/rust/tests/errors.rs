@@ -26,6 +26,20 @@ fn a_refusal_has_its_status() {
 }
 
 #[test]
+fn a_refusal_names_the_claim_and_its_slot() {
+    let other = Claim { index: 2, slots: vec![Slot::Exact(vec![0; 521])], ..claim() };
+    let error = enforce::unsigned_spend(&[claim(), other], &[], &[]).expect_err("521 bytes are too many");
+    assert_eq!(error, Error::Claim { claim: 1, source: Refused::ItemTooLong(0) });
+}
+
+#[test]
+fn a_refusal_names_the_output() {
+    let outputs = [4_000, u64::MAX].map(|value| Output { value, script: vec![0x51] });
+    let error = enforce::unsigned_spend(&[claim()], &outputs, &[]).expect_err("there are not so many satoshis");
+    assert_eq!(error, Error::Output { output: 1, source: Refused::ValueTooLarge });
+}
+
+#[test]
 fn the_source_of_an_error_with_a_place_is_its_refusal() {
     let output = Output { value: 4_000, script: vec![0x51] };
     let given = Signed { input: 0, item: 0, signature: vec![0x30; 9] };
