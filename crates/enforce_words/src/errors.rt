@@ -3,7 +3,6 @@
 use scenario::ScenarioError;
 use script_words::ScriptError;
 use std::alloc::AllocError;
-use streams::InputError;
 use thiserror::Error;
 use world::errors::WorldError;
 
@@ -33,15 +32,5 @@ pub enum CommandError {
 impl From<AllocError> for CommandError {
     fn from(_error: AllocError) -> CommandError {
         CommandError::NoMemory
-    }
-}
-
-impl From<InputError> for CommandError {
-    fn from(error: InputError) -> CommandError {
-        match error {
-            InputError::NoMemory => CommandError::NoMemory,
-            InputError::TooLong => CommandError::TooLong,
-            InputError::ReadFailed | InputError::BadHex => CommandError::ReadFailed,
-        }
     }
 }

@@ -5,8 +5,9 @@ use crate::errors::CommandError;
 use crate::refused::first_refused;
 use scenario::{Event, Scenario};
 use std::alloc::Global;
+use std::io;
 use std::io::Read;
-use streams::read_all;
+use streams::MAX_INPUT;
 use world::World;
 
 /// Plays the scenario in the input, and returns the lines of its events and of the world after them. Its refusals come in this order: input that can't be read
@@ -25,6 +26,22 @@ pub fn play<R: Read>(
 pub fn scenario_in<R: Read>(alloc: Global, input: &mut R) -> Result<Scenario, CommandError> {
     let text = read_all(alloc, input)?;
     Scenario::read(alloc, text.as_slice()).map_err(CommandError::Scenario)
+}
+
+// Reads the whole input, but at most one byte above the limit.
+fn read_all<R: Read>(alloc: Global, input: &mut R) -> Result<Vec<u8>, CommandError> {
+    let mut bytes = Vec::new(alloc);
+    match input.take(MAX_INPUT as u64 + 1).read_to_end(&mut bytes) {
+        Ok(_) => {}
+        Err(error) if error.kind() == io::ErrorKind::OutOfMemory => return Err(
+            CommandError::NoMemory,
+        ),
+        Err(_) => return Err(CommandError::ReadFailed),
+    }
+    if bytes.len() > MAX_INPUT {
+        return Err(CommandError::TooLong);
+    }
+    Ok(bytes)
 }
 
 // Plays a scenario in a new world, and returns the lines of its events and of the world after them.
