@@ -13,9 +13,8 @@ use Rattle.desk.proofs.Parts.{goes_on_same}
 use Rattle.world.specs.declared.errors.EventError.{EventError}
 use Rattle.world.specs.declared.errors.EventError.TheVariants.{NoSuchChannel, NoSuchTx, TooDeep}
 use Rattle.world.specs.Publishing.{refusal_by}
-use Rattle.running.specs.declared.chain_thread.Broadcast.{Broadcast}
 use Rattle.running.specs.declared.chain_thread.Choice.TheVariants.{Commitment}
-use Rattle.running.specs.Broadcasts.{IsBroadcastOf}
+use Rattle.running.specs.Broadcasts.{IsFoundBy}
 use Rattle.running.specs.Outcomes.{IsReorgOutcome, IsOutcome, PlaysChain, IsChainPlayed}
 
 -- ---- one event
@@ -33,22 +32,19 @@ blocks_made a b k = refl
 blocks_refused : (a b : History) (k : ℕ) → IsOutcome (Blocks k) a b (Some TooDeep) → ⊥
 blocks_refused a b k e = none-some TooDeep (sym e)
 
-abbrev in_channel_7 : Broadcast
-in_channel_7 = record { side = A; channel = 7; choice = Commitment 0 }
-
 -- A's book has no such channel
 in_no_channel : (a b : History) → slice_get (replay a) 7 ≡ None → IsOutcome (Broadcasts A 7 0) a b (Some NoSuchChannel)
-in_no_channel a b none = (Err NoSuchChannel, subst (λ (o : Option ChannelBook). IsBroadcastOf a in_channel_7 o (Err NoSuchChannel)) (sym none) refl, refl)
+in_no_channel a b none = (Err NoSuchChannel, subst (λ (o : Option ChannelBook). IsFoundBy a 7 (Commitment 0) o (Err NoSuchChannel)) (sym none) refl, refl)
 
 told_as_another : (a b : History) → slice_get (replay a) 7 ≡ None → IsOutcome (Broadcasts A 7 0) a b (Some NoSuchTx) → ⊥
 told_as_another a b none (answer, is, same) =
-    let refused : answer ≡ Err NoSuchChannel = subst (λ (o : Option ChannelBook). IsBroadcastOf a in_channel_7 o answer) none is in
+    let refused : answer ≡ Err NoSuchChannel = subst (λ (o : Option ChannelBook). IsFoundBy a 7 (Commitment 0) o answer) none is in
     let wrong : Some NoSuchTx ≡ Some NoSuchChannel = same ∙ ap (λ (r : Result Transaction EventError). refusal_by r) refused in
     absurd cc
 
 told_as_broadcast : (a b : History) → slice_get (replay a) 7 ≡ None → IsOutcome (Broadcasts A 7 0) a b None → ⊥
 told_as_broadcast a b none (answer, is, same) =
-    let refused : answer ≡ Err NoSuchChannel = subst (λ (o : Option ChannelBook). IsBroadcastOf a in_channel_7 o answer) none is in
+    let refused : answer ≡ Err NoSuchChannel = subst (λ (o : Option ChannelBook). IsFoundBy a 7 (Commitment 0) o answer) none is in
     none-some NoSuchChannel (same ∙ ap (λ (r : Result Transaction EventError). refusal_by r) refused)
 
 -- ---- all events

@@ -76,12 +76,7 @@ fn pays_to_known_keys(hash: &[u8]) -> bool {
 fn pays_to_known_pair(hash: &[u8], key: &[u8; 33]) -> bool {
     for place in 0usize..PLACES {
         if let Some(other) = known_key(place) {
-            let mut script = [33u8; 71];
-            script[0] = ONE;
-            script[2..35].copy_from_slice(key);
-            script[36..69].copy_from_slice(&other);
-            script[69] = TWO;
-            script[70] = CHECKMULTISIG;
+            let mut script = pair_script(key, &other);
             if pays_to(hash, &script) {
                 return true;
             }
@@ -92,4 +87,15 @@ fn pays_to_known_pair(hash: &[u8], key: &[u8; 33]) -> bool {
         }
     }
     false
+}
+
+// The script of CHECKMULTISIG of two keys, which asks for one signature.
+fn pair_script(key: &[u8; 33], other: &[u8; 33]) -> [u8; 71] {
+    let mut script = [33u8; 71];
+    script[0] = ONE;
+    script[2..35].copy_from_slice(key);
+    script[36..69].copy_from_slice(other);
+    script[69] = TWO;
+    script[70] = CHECKMULTISIG;
+    script
 }

@@ -5,7 +5,7 @@ use Rattle.running.proofs.chain_thread.tx_by.Goals as goal
 pub returns-in-Commitment-clause-tx : goal.returns-in-Commitment-clause-tx
 returns-in-Commitment-clause-tx g c =
     let told = c.commitment in
-    number_told (last_in told.new.seat) c.args.broadcast.now c.in-Commitment.field-0 told.result c.in-Commitment.is told.ensures.tx
+    number_told (last_in told.new.seat) c.args.broadcast.now _ told.result c.in-Commitment.is told.ensures.tx
 
 pub returns-in-Newest-clause-tx : goal.returns-in-Newest-clause-tx
 returns-in-Newest-clause-tx g c =
