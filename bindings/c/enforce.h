@@ -106,7 +106,7 @@ enum enforce_status {
     ENFORCE_DONE = 0x0, /* The call did what it is for. */
     ENFORCE_NO_MEMORY = 0x1, /* Memory ran out. Nothing but the answer was written. */
     ENFORCE_TOO_SMALL = 0x2, /* A buffer is shorter than the answer says. Nothing but the answer was written. */
-    ENFORCE_BAD_OPCODE = 0x101, /* A byte of the script is not an opcode; the answer has its position. */
+    ENFORCE_BAD_OPCODE = 0x101, /* A byte of the script is none of the opcodes that are listed here, though it may be one of Bitcoin's, as SHA256; the answer has its position. */
     ENFORCE_TRUNCATED = 0x102, /* A push has too few bytes after it; the answer has its position. */
     ENFORCE_TOO_LONG = 0x103, /* The script has more than 10,000 bytes. */
     ENFORCE_OPEN_BRANCH = 0x201, /* Branches of the script do not close. */
@@ -116,7 +116,7 @@ enum enforce_status {
     ENFORCE_TOO_TALL = 0x205, /* A path needs more than 1,000 stack elements. */
     ENFORCE_NO_SUCH_PATH = 0x301, /* The script has no path of this index. */
     ENFORCE_WRONG_ARITY = 0x302, /* The number of slots is not that of the path. */
-    ENFORCE_UNMET = 0x303, /* The slots do not show a fact of the path; the answer has the slot that it is about, 0 where that is the spend. */
+    ENFORCE_UNMET = 0x303, /* The slots do not show a fact of the path, or it asks a lock by time, which no claim here has; the answer has the slot, 0 for such a lock. */
     ENFORCE_CONTRADICTION = 0x304, /* The path asks for one fact with both polarities. */
     ENFORCE_WRONG_PROGRAM = 0x305, /* The program is not that of the script. */
     ENFORCE_WRONG_SHELL = 0x306, /* The fixed transaction of a claim does not fit. No claim of these calls has one. */
@@ -145,9 +145,9 @@ enum enforce_status {
     ENFORCE_NO_SUCH_DIRECTION = 0x803, /* There is no direction of this kind; the answer has the index of the HTLC. */
     ENFORCE_EXPIRY_TOO_LARGE = 0x804, /* The expiry of an HTLC is 500,000,000 or more, which is a time and not a height; the answer has the index of the HTLC. */
     ENFORCE_NO_SUCH_CLOSE = 0x805, /* It is neither one's own commitment nor the peer's. */
-    ENFORCE_NO_SIGNATURE = 0x901, /* A slot asks a signature, and the next one that is given is not of it; the answer has the item that lacks it. */
+    ENFORCE_NO_SIGNATURE = 0x901, /* A slot asks a signature, and the next one that is given is not of it, or stands out of order; the answer has the item that lacks it. */
     ENFORCE_SIGNATURE_OUT_OF_RANGE = 0x902, /* The row of a signature refers to bytes that are not there; the answer has its item, as of the two below. */
-    ENFORCE_NOT_DER = 0x903, /* Bytes that are to be a signature are not in strict DER (BIP 66). */
+    ENFORCE_NOT_DER = 0x903, /* Bytes that are to be a signature are not strict DER (BIP 66) with the byte of its hash type after it. */
     ENFORCE_NOT_SIGHASH_ALL = 0x904, /* The hash type of a signature is not ALL, the byte 01. */
     ENFORCE_NOT_ASKED = 0x905, /* A signature is given after that of the last slot that asks one; the answer has the item of its row. */
 };
@@ -277,8 +277,8 @@ typedef struct {
     size_t height; /* The greatest number of elements of a run, at most 1,000. */
     size_t first_fact; /* The index of its first fact's row. */
     size_t facts; /* How many rows its facts have. */
-    uint64_t lock; /* The greatest absolute lock that a run checks (BIP 65), if there is one: a height below 500,000,000, else a time in seconds. */
-    uint32_t age; /* The greatest relative lock in blocks that a run checks (BIP 68, 112), if there is one. */
+    uint64_t lock; /* The greatest absolute lock that a run checks (BIP 65), if there is one: a height below 500,000,000, else a time in seconds, which no claim here has. */
+    uint32_t age; /* The greatest relative lock in blocks that a run checks (BIP 68, 112), if there is one. One in units of 512 seconds is a fact of the path, and no claim here has it. */
     bool has_lock;
     bool has_age;
 } enforce_path_row;
@@ -468,7 +468,7 @@ static inline const char *enforce_sentence(uint32_t status) {
     case ENFORCE_DONE: return "The call did what it is for.";
     case ENFORCE_NO_MEMORY: return "Memory ran out. Nothing but the answer was written.";
     case ENFORCE_TOO_SMALL: return "A buffer is shorter than the answer says. Nothing but the answer was written.";
-    case ENFORCE_BAD_OPCODE: return "A byte of the script is not an opcode; the answer has its position.";
+    case ENFORCE_BAD_OPCODE: return "A byte of the script is none of the opcodes that are listed here, though it may be one of Bitcoin's, as SHA256; the answer has its position.";
     case ENFORCE_TRUNCATED: return "A push has too few bytes after it; the answer has its position.";
     case ENFORCE_TOO_LONG: return "The script has more than 10,000 bytes.";
     case ENFORCE_OPEN_BRANCH: return "Branches of the script do not close.";
@@ -478,7 +478,7 @@ static inline const char *enforce_sentence(uint32_t status) {
     case ENFORCE_TOO_TALL: return "A path needs more than 1,000 stack elements.";
     case ENFORCE_NO_SUCH_PATH: return "The script has no path of this index.";
     case ENFORCE_WRONG_ARITY: return "The number of slots is not that of the path.";
-    case ENFORCE_UNMET: return "The slots do not show a fact of the path; the answer has the slot that it is about, 0 where that is the spend.";
+    case ENFORCE_UNMET: return "The slots do not show a fact of the path, or it asks a lock by time, which no claim here has; the answer has the slot, 0 for such a lock.";
     case ENFORCE_CONTRADICTION: return "The path asks for one fact with both polarities.";
     case ENFORCE_WRONG_PROGRAM: return "The program is not that of the script.";
     case ENFORCE_WRONG_SHELL: return "The fixed transaction of a claim does not fit. No claim of these calls has one.";
@@ -507,9 +507,9 @@ static inline const char *enforce_sentence(uint32_t status) {
     case ENFORCE_NO_SUCH_DIRECTION: return "There is no direction of this kind; the answer has the index of the HTLC.";
     case ENFORCE_EXPIRY_TOO_LARGE: return "The expiry of an HTLC is 500,000,000 or more, which is a time and not a height; the answer has the index of the HTLC.";
     case ENFORCE_NO_SUCH_CLOSE: return "It is neither one's own commitment nor the peer's.";
-    case ENFORCE_NO_SIGNATURE: return "A slot asks a signature, and the next one that is given is not of it; the answer has the item that lacks it.";
+    case ENFORCE_NO_SIGNATURE: return "A slot asks a signature, and the next one that is given is not of it, or stands out of order; the answer has the item that lacks it.";
     case ENFORCE_SIGNATURE_OUT_OF_RANGE: return "The row of a signature refers to bytes that are not there; the answer has its item, as of the two below.";
-    case ENFORCE_NOT_DER: return "Bytes that are to be a signature are not in strict DER (BIP 66).";
+    case ENFORCE_NOT_DER: return "Bytes that are to be a signature are not strict DER (BIP 66) with the byte of its hash type after it.";
     case ENFORCE_NOT_SIGHASH_ALL: return "The hash type of a signature is not ALL, the byte 01.";
     case ENFORCE_NOT_ASKED: return "A signature is given after that of the last slot that asks one; the answer has the item of its row.";
     default: return "These declarations do not have this status.";

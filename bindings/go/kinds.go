@@ -184,7 +184,7 @@ const ErrNoMemory Status = C.ENFORCE_NO_MEMORY
 // ErrTooSmall: A buffer is shorter than the answer says. Nothing but the answer was written.
 const ErrTooSmall Status = C.ENFORCE_TOO_SMALL
 
-// ErrBadOpcode: A byte of the script is not an opcode; the answer has its position.
+// ErrBadOpcode: A byte of the script is none of the opcodes that are listed here, though it may be one of Bitcoin's, as SHA256; the answer has its position.
 const ErrBadOpcode Status = C.ENFORCE_BAD_OPCODE
 
 // ErrTruncated: A push has too few bytes after it; the answer has its position.
@@ -214,7 +214,7 @@ const ErrNoSuchPath Status = C.ENFORCE_NO_SUCH_PATH
 // ErrWrongArity: The number of slots is not that of the path.
 const ErrWrongArity Status = C.ENFORCE_WRONG_ARITY
 
-// ErrUnmet: The slots do not show a fact of the path; the answer has the slot that it is about, 0 where that is the spend.
+// ErrUnmet: The slots do not show a fact of the path, or it asks a lock by time, which no claim here has; the answer has the slot, 0 for such a lock.
 const ErrUnmet Status = C.ENFORCE_UNMET
 
 // ErrContradiction: The path asks for one fact with both polarities.
@@ -301,13 +301,13 @@ const ErrExpiryTooLarge Status = C.ENFORCE_EXPIRY_TOO_LARGE
 // ErrNoSuchClose: It is neither one's own commitment nor the peer's.
 const ErrNoSuchClose Status = C.ENFORCE_NO_SUCH_CLOSE
 
-// ErrNoSignature: A slot asks a signature, and the next one that is given is not of it; the answer has the item that lacks it.
+// ErrNoSignature: A slot asks a signature, and the next one that is given is not of it, or stands out of order; the answer has the item that lacks it.
 const ErrNoSignature Status = C.ENFORCE_NO_SIGNATURE
 
 // ErrSignatureOutOfRange: The row of a signature refers to bytes that are not there; the answer has its item, as of the two below.
 const ErrSignatureOutOfRange Status = C.ENFORCE_SIGNATURE_OUT_OF_RANGE
 
-// ErrNotDer: Bytes that are to be a signature are not in strict DER (BIP 66).
+// ErrNotDer: Bytes that are to be a signature are not strict DER (BIP 66) with the byte of its hash type after it.
 const ErrNotDer Status = C.ENFORCE_NOT_DER
 
 // ErrNotSighashAll: The hash type of a signature is not ALL, the byte 01.

@@ -148,7 +148,7 @@ class Status(IntEnum):
     NO_MEMORY = 0x1
     # A buffer is shorter than the answer says. Nothing but the answer was written.
     TOO_SMALL = 0x2
-    # A byte of the script is not an opcode; the answer has its position.
+    # A byte of the script is none of the opcodes that are listed here, though it may be one of Bitcoin's, as SHA256; the answer has its position.
     BAD_OPCODE = 0x101
     # A push has too few bytes after it; the answer has its position.
     TRUNCATED = 0x102
@@ -168,7 +168,7 @@ class Status(IntEnum):
     NO_SUCH_PATH = 0x301
     # The number of slots is not that of the path.
     WRONG_ARITY = 0x302
-    # The slots do not show a fact of the path; the answer has the slot that it is about, 0 where that is the spend.
+    # The slots do not show a fact of the path, or it asks a lock by time, which no claim here has; the answer has the slot, 0 for such a lock.
     UNMET = 0x303
     # The path asks for one fact with both polarities.
     CONTRADICTION = 0x304
@@ -226,11 +226,11 @@ class Status(IntEnum):
     EXPIRY_TOO_LARGE = 0x804
     # It is neither one's own commitment nor the peer's.
     NO_SUCH_CLOSE = 0x805
-    # A slot asks a signature, and the next one that is given is not of it; the answer has the item that lacks it.
+    # A slot asks a signature, and the next one that is given is not of it, or stands out of order; the answer has the item that lacks it.
     NO_SIGNATURE = 0x901
     # The row of a signature refers to bytes that are not there; the answer has its item, as of the two below.
     SIGNATURE_OUT_OF_RANGE = 0x902
-    # Bytes that are to be a signature are not in strict DER (BIP 66).
+    # Bytes that are to be a signature are not strict DER (BIP 66) with the byte of its hash type after it.
     NOT_DER = 0x903
     # The hash type of a signature is not ALL, the byte 01.
     NOT_SIGHASH_ALL = 0x904
@@ -243,7 +243,7 @@ SENTENCES = {
     Status.DONE: "The call did what it is for.",
     Status.NO_MEMORY: "Memory ran out. Nothing but the answer was written.",
     Status.TOO_SMALL: "A buffer is shorter than the answer says. Nothing but the answer was written.",
-    Status.BAD_OPCODE: "A byte of the script is not an opcode; the answer has its position.",
+    Status.BAD_OPCODE: "A byte of the script is none of the opcodes that are listed here, though it may be one of Bitcoin's, as SHA256; the answer has its position.",
     Status.TRUNCATED: "A push has too few bytes after it; the answer has its position.",
     Status.TOO_LONG: "The script has more than 10,000 bytes.",
     Status.OPEN_BRANCH: "Branches of the script do not close.",
@@ -253,7 +253,7 @@ SENTENCES = {
     Status.TOO_TALL: "A path needs more than 1,000 stack elements.",
     Status.NO_SUCH_PATH: "The script has no path of this index.",
     Status.WRONG_ARITY: "The number of slots is not that of the path.",
-    Status.UNMET: "The slots do not show a fact of the path; the answer has the slot that it is about, 0 where that is the spend.",
+    Status.UNMET: "The slots do not show a fact of the path, or it asks a lock by time, which no claim here has; the answer has the slot, 0 for such a lock.",
     Status.CONTRADICTION: "The path asks for one fact with both polarities.",
     Status.WRONG_PROGRAM: "The program is not that of the script.",
     Status.WRONG_SHELL: "The fixed transaction of a claim does not fit. No claim of these calls has one.",
@@ -282,9 +282,9 @@ SENTENCES = {
     Status.NO_SUCH_DIRECTION: "There is no direction of this kind; the answer has the index of the HTLC.",
     Status.EXPIRY_TOO_LARGE: "The expiry of an HTLC is 500,000,000 or more, which is a time and not a height; the answer has the index of the HTLC.",
     Status.NO_SUCH_CLOSE: "It is neither one's own commitment nor the peer's.",
-    Status.NO_SIGNATURE: "A slot asks a signature, and the next one that is given is not of it; the answer has the item that lacks it.",
+    Status.NO_SIGNATURE: "A slot asks a signature, and the next one that is given is not of it, or stands out of order; the answer has the item that lacks it.",
     Status.SIGNATURE_OUT_OF_RANGE: "The row of a signature refers to bytes that are not there; the answer has its item, as of the two below.",
-    Status.NOT_DER: "Bytes that are to be a signature are not in strict DER (BIP 66).",
+    Status.NOT_DER: "Bytes that are to be a signature are not strict DER (BIP 66) with the byte of its hash type after it.",
     Status.NOT_SIGHASH_ALL: "The hash type of a signature is not ALL, the byte 01.",
     Status.NOT_ASKED: "A signature is given after that of the last slot that asks one; the answer has the item of its row.",
 }

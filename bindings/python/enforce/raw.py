@@ -105,7 +105,7 @@ DONE = 0x0
 NO_MEMORY = 0x1
 # A buffer is shorter than the answer says. Nothing but the answer was written.
 TOO_SMALL = 0x2
-# A byte of the script is not an opcode; the answer has its position.
+# A byte of the script is none of the opcodes that are listed here, though it may be one of Bitcoin's, as SHA256; the answer has its position.
 BAD_OPCODE = 0x101
 # A push has too few bytes after it; the answer has its position.
 TRUNCATED = 0x102
@@ -125,7 +125,7 @@ TOO_TALL = 0x205
 NO_SUCH_PATH = 0x301
 # The number of slots is not that of the path.
 WRONG_ARITY = 0x302
-# The slots do not show a fact of the path; the answer has the slot that it is about, 0 where that is the spend.
+# The slots do not show a fact of the path, or it asks a lock by time, which no claim here has; the answer has the slot, 0 for such a lock.
 UNMET = 0x303
 # The path asks for one fact with both polarities.
 CONTRADICTION = 0x304
@@ -183,11 +183,11 @@ NO_SUCH_DIRECTION = 0x803
 EXPIRY_TOO_LARGE = 0x804
 # It is neither one's own commitment nor the peer's.
 NO_SUCH_CLOSE = 0x805
-# A slot asks a signature, and the next one that is given is not of it; the answer has the item that lacks it.
+# A slot asks a signature, and the next one that is given is not of it, or stands out of order; the answer has the item that lacks it.
 NO_SIGNATURE = 0x901
 # The row of a signature refers to bytes that are not there; the answer has its item, as of the two below.
 SIGNATURE_OUT_OF_RANGE = 0x902
-# Bytes that are to be a signature are not in strict DER (BIP 66).
+# Bytes that are to be a signature are not strict DER (BIP 66) with the byte of its hash type after it.
 NOT_DER = 0x903
 # The hash type of a signature is not ALL, the byte 01.
 NOT_SIGHASH_ALL = 0x904

@@ -105,7 +105,7 @@ pub const DONE: u32 = 0x0;
 pub const NO_MEMORY: u32 = 0x1;
 /// A buffer is shorter than the answer says. Nothing but the answer was written.
 pub const TOO_SMALL: u32 = 0x2;
-/// A byte of the script is not an opcode; the answer has its position.
+/// A byte of the script is none of the opcodes that are listed here, though it may be one of Bitcoin's, as SHA256; the answer has its position.
 pub const BAD_OPCODE: u32 = 0x101;
 /// A push has too few bytes after it; the answer has its position.
 pub const TRUNCATED: u32 = 0x102;
@@ -125,7 +125,7 @@ pub const TOO_TALL: u32 = 0x205;
 pub const NO_SUCH_PATH: u32 = 0x301;
 /// The number of slots is not that of the path.
 pub const WRONG_ARITY: u32 = 0x302;
-/// The slots do not show a fact of the path; the answer has the slot that it is about, 0 where that is the spend.
+/// The slots do not show a fact of the path, or it asks a lock by time, which no claim here has; the answer has the slot, 0 for such a lock.
 pub const UNMET: u32 = 0x303;
 /// The path asks for one fact with both polarities.
 pub const CONTRADICTION: u32 = 0x304;
@@ -183,11 +183,11 @@ pub const NO_SUCH_DIRECTION: u32 = 0x803;
 pub const EXPIRY_TOO_LARGE: u32 = 0x804;
 /// It is neither one's own commitment nor the peer's.
 pub const NO_SUCH_CLOSE: u32 = 0x805;
-/// A slot asks a signature, and the next one that is given is not of it; the answer has the item that lacks it.
+/// A slot asks a signature, and the next one that is given is not of it, or stands out of order; the answer has the item that lacks it.
 pub const NO_SIGNATURE: u32 = 0x901;
 /// The row of a signature refers to bytes that are not there; the answer has its item, as of the two below.
 pub const SIGNATURE_OUT_OF_RANGE: u32 = 0x902;
-/// Bytes that are to be a signature are not in strict DER (BIP 66).
+/// Bytes that are to be a signature are not strict DER (BIP 66) with the byte of its hash type after it.
 pub const NOT_DER: u32 = 0x903;
 /// The hash type of a signature is not ALL, the byte 01.
 pub const NOT_SIGHASH_ALL: u32 = 0x904;
@@ -517,9 +517,9 @@ pub struct PathRow {
     pub first_fact: usize,
     /// How many rows its facts have.
     pub facts: usize,
-    /// The greatest absolute lock that a run checks (BIP 65), if there is one: a height below 500,000,000, else a time in seconds.
+    /// The greatest absolute lock that a run checks (BIP 65), if there is one: a height below 500,000,000, else a time in seconds, which no claim here has.
     pub lock: u64,
-    /// The greatest relative lock in blocks that a run checks (BIP 68, 112), if there is one.
+    /// The greatest relative lock in blocks that a run checks (BIP 68, 112), if there is one. One in units of 512 seconds is a fact of the path, and no claim here has it.
     pub age: u32,
     pub has_lock: bool,
     pub has_age: bool,
@@ -817,7 +817,7 @@ pub fn sentence(status: u32) -> &'static str {
         DONE => "The call did what it is for.",
         NO_MEMORY => "Memory ran out. Nothing but the answer was written.",
         TOO_SMALL => "A buffer is shorter than the answer says. Nothing but the answer was written.",
-        BAD_OPCODE => "A byte of the script is not an opcode; the answer has its position.",
+        BAD_OPCODE => "A byte of the script is none of the opcodes that are listed here, though it may be one of Bitcoin's, as SHA256; the answer has its position.",
         TRUNCATED => "A push has too few bytes after it; the answer has its position.",
         TOO_LONG => "The script has more than 10,000 bytes.",
         OPEN_BRANCH => "Branches of the script do not close.",
@@ -827,7 +827,7 @@ pub fn sentence(status: u32) -> &'static str {
         TOO_TALL => "A path needs more than 1,000 stack elements.",
         NO_SUCH_PATH => "The script has no path of this index.",
         WRONG_ARITY => "The number of slots is not that of the path.",
-        UNMET => "The slots do not show a fact of the path; the answer has the slot that it is about, 0 where that is the spend.",
+        UNMET => "The slots do not show a fact of the path, or it asks a lock by time, which no claim here has; the answer has the slot, 0 for such a lock.",
         CONTRADICTION => "The path asks for one fact with both polarities.",
         WRONG_PROGRAM => "The program is not that of the script.",
         WRONG_SHELL => "The fixed transaction of a claim does not fit. No claim of these calls has one.",
@@ -856,9 +856,9 @@ pub fn sentence(status: u32) -> &'static str {
         NO_SUCH_DIRECTION => "There is no direction of this kind; the answer has the index of the HTLC.",
         EXPIRY_TOO_LARGE => "The expiry of an HTLC is 500,000,000 or more, which is a time and not a height; the answer has the index of the HTLC.",
         NO_SUCH_CLOSE => "It is neither one's own commitment nor the peer's.",
-        NO_SIGNATURE => "A slot asks a signature, and the next one that is given is not of it; the answer has the item that lacks it.",
+        NO_SIGNATURE => "A slot asks a signature, and the next one that is given is not of it, or stands out of order; the answer has the item that lacks it.",
         SIGNATURE_OUT_OF_RANGE => "The row of a signature refers to bytes that are not there; the answer has its item, as of the two below.",
-        NOT_DER => "Bytes that are to be a signature are not in strict DER (BIP 66).",
+        NOT_DER => "Bytes that are to be a signature are not strict DER (BIP 66) with the byte of its hash type after it.",
         NOT_SIGHASH_ALL => "The hash type of a signature is not ALL, the byte 01.",
         NOT_ASKED => "A signature is given after that of the last slot that asks one; the answer has the item of its row.",
         _ => "These declarations do not have this status.",

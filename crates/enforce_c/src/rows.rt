@@ -17,9 +17,9 @@ pub struct PathRow {
     pub first_fact: usize,
     /// How many rows its facts have.
     pub facts: usize,
-    /// The greatest absolute lock that a run checks (BIP 65), if there is one: a height below 500,000,000, else a time in seconds.
+    /// The greatest absolute lock that a run checks (BIP 65), if there is one: a height below 500,000,000, else a time in seconds, which no claim here has.
     pub lock: u64,
-    /// The greatest relative lock in blocks that a run checks (BIP 68, 112), if there is one.
+    /// The greatest relative lock in blocks that a run checks (BIP 68, 112), if there is one. One in units of 512 seconds is a fact of the path, and no claim here has it.
     pub age: u32,
     pub has_lock: bool,
     pub has_age: bool,

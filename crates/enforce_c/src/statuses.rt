@@ -18,7 +18,7 @@ pub const DONE: u32 = 0x000;
 pub const NO_MEMORY: u32 = 0x001;
 /// A buffer is shorter than the answer says. Nothing but the answer was written.
 pub const TOO_SMALL: u32 = 0x002;
-/// A byte of the script is not an opcode; the answer has its position.
+/// A byte of the script is none of the opcodes that are listed here, though it may be one of Bitcoin's, as SHA256; the answer has its position.
 pub const BAD_OPCODE: u32 = 0x101;
 /// A push has too few bytes after it; the answer has its position.
 pub const TRUNCATED: u32 = 0x102;
@@ -38,7 +38,7 @@ pub const TOO_TALL: u32 = 0x205;
 pub const NO_SUCH_PATH: u32 = 0x301;
 /// The number of slots is not that of the path.
 pub const WRONG_ARITY: u32 = 0x302;
-/// The slots do not show a fact of the path; the answer has the slot that it is about, 0 where that is the spend.
+/// The slots do not show a fact of the path, or it asks a lock by time, which no claim here has; the answer has the slot, 0 for such a lock.
 pub const UNMET: u32 = 0x303;
 /// The path asks for one fact with both polarities.
 pub const CONTRADICTION: u32 = 0x304;
@@ -96,11 +96,11 @@ pub const NO_SUCH_DIRECTION: u32 = 0x803;
 pub const EXPIRY_TOO_LARGE: u32 = 0x804;
 /// It is neither one's own commitment nor the peer's.
 pub const NO_SUCH_CLOSE: u32 = 0x805;
-/// A slot asks a signature, and the next one that is given is not of it; the answer has the item that lacks it.
+/// A slot asks a signature, and the next one that is given is not of it, or stands out of order; the answer has the item that lacks it.
 pub const NO_SIGNATURE: u32 = 0x901;
 /// The row of a signature refers to bytes that are not there; the answer has its item, as of the two below.
 pub const SIGNATURE_OUT_OF_RANGE: u32 = 0x902;
-/// Bytes that are to be a signature are not in strict DER (BIP 66).
+/// Bytes that are to be a signature are not strict DER (BIP 66) with the byte of its hash type after it.
 pub const NOT_DER: u32 = 0x903;
 /// The hash type of a signature is not ALL, the byte 01.
 pub const NOT_SIGHASH_ALL: u32 = 0x904;
