@@ -15,7 +15,7 @@ fn claim() -> Claim {
 fn a_refusal_has_its_word_and_its_number() {
     let error = enforce::paths(&[0x51, 0xff]).expect_err("ff is not an opcode");
     assert_eq!(error, Error::Refused(Refused::BadOpcode(1)));
-    assert_eq!(error.to_string(), "BadOpcode 1: A byte of the script is not an opcode; the answer has its position.");
+    assert_eq!(error.to_string(), "BadOpcode 1: A byte of the script is none of the opcodes that are listed here, though it may be one of Bitcoin's, as SHA256; the answer has its position.");
     assert!(error.source().is_none());
 }
 
@@ -46,5 +46,5 @@ fn the_source_of_an_error_with_a_place_is_its_refusal() {
     let error = enforce::finish(&[claim()], &[output], &[], &[given]).expect_err("this is not DER");
     assert_eq!(error, Error::Signature { input: 0, item: 0, source: Refused::NotDer });
     assert_eq!(error.to_string(), "the signature of item 0 of input 0 is refused");
-    assert_eq!(error.source().map(ToString::to_string).as_deref(), Some("NotDer: Bytes that are to be a signature are not in strict DER (BIP 66)."));
+    assert_eq!(error.source().map(ToString::to_string).as_deref(), Some("NotDer: Bytes that are to be a signature are not strict DER (BIP 66) with the byte of its hash type after it."));
 }
