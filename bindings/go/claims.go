@@ -10,9 +10,10 @@ import "unsafe"
 // Slot is how a claim fills a slot of its path: the signature of a key, 32 bytes with this SHA-256, the peer's signature that was given over one transaction, or else these bytes, at most 520.
 type Slot struct {
 	Signature *[33]byte
-	Preimage  *[32]byte
-	Given     *GivenSignature
-	Exact     []byte
+	// Preimage is the SHA-256 of the preimage, which has 32 bytes. The script has the RIPEMD-160 of this hash: golang.org/x/crypto/ripemd160 makes it. A preimage of another length is Exact.
+	Preimage *[32]byte
+	Given    *GivenSignature
+	Exact    []byte
 }
 
 // GivenSignature is the peer's signature by this key over this digest, which it gave over one transaction (BIP 144, without witnesses). The claim is of this transaction alone, and one's own signature is over the same
@@ -23,7 +24,8 @@ type GivenSignature struct {
 	Tx     []byte
 }
 
-// Claim is a claim on an output, by one path of its script. The id is in the hash's own byte order, and the slots are the top of the stack first.
+// Claim is a claim on an output, by one path of its script. The id is in the hash's own byte order (ReversedID makes it of what nodes show), and the slots are the top of the stack first. The value and the program are
+// those of the output, as a node's gettxout has them: nothing here knows the output.
 type Claim struct {
 	Txid            [32]byte
 	Index           uint32
@@ -35,7 +37,9 @@ type Claim struct {
 
 // Due is what the transaction that spends a claim has to have: the least lock time, as a height, and the sequence of the claim's input, an age in blocks.
 type Due struct {
-	Height   uint64
+	// Height is 0 if the path checks none. A lock time of 118 lets block 119 have the transaction, at the earliest.
+	Height uint64
+	// Sequence is 0 if the path checks none.
 	Sequence uint32
 }
 
@@ -45,7 +49,8 @@ type Output struct {
 	Script []byte
 }
 
-// MissingSignature is a signature that a transaction lacks: the item at this place of this input's witness, by this key over this digest (BIP 143, SIGHASH_ALL).
+// MissingSignature is a signature that a transaction lacks: the item at this place of this input's witness, by this key over this digest (BIP 143, SIGHASH_ALL). Items count from the deepest, and slots from the top: the
+// item is the number of slots, less 1, less the slot.
 type MissingSignature struct {
 	Input, Item uint64
 	Key         [33]byte
@@ -157,6 +162,9 @@ func (claim *Claim) Accept() (Due, error) {
 
 // PathSlots has the slots that a path of a script asks for. The keys are those that the caller can sign with, the preimages those that it knows: they are wanted where the path asks for their hashes, or for a choice.
 //
+// A key of the script that is not given is no refusal: the slot asks for its signature. Of a choice the given keys are taken, else the last ones. So compare the key of each MissingSignature with one's own. Without a
+// preimage that the path asks for, the refusal is ErrUnmet. A preimage has 32 bytes: an Exact slot is for others.
+//
 // Proved of enforce_path_slots: a claim with these slots is accepted.
 func PathSlots(script []byte, path uint64, keys [][33]byte, preimages [][32]byte) ([]Slot, error) {
 	if err := sameABI(); err != nil {
@@ -184,7 +192,8 @@ func PathSlots(script []byte, path uint64, keys [][33]byte, preimages [][32]byte
 	}
 }
 
-// UnsignedSpend is the transaction that spends the outputs of claims, in which nothing is signed.
+// UnsignedSpend is the transaction that spends the outputs of claims, in which nothing is signed. It has version 2, as lock time the greatest Height of the claims' Due, and of each input the Sequence of its claim's. The
+// weight does not depend on the values of outputs: a first call tells it, and a second has the fee.
 //
 // Proved of enforce_unsigned_spend: with the token of each missing signature in its place, each input runs clean. Finish puts in the signature by the key over the digest, with the byte 01 after it.
 func UnsignedSpend(claims []Claim, outputs []Output, preimages [][32]byte) (Spend, error) {
@@ -217,7 +226,7 @@ func UnsignedSpend(claims []Claim, outputs []Output, preimages [][32]byte) (Spen
 	}
 }
 
-// Finish is the transaction of UnsignedSpend with signatures, one for each that it lacks, in their order. Each is tested for its form and its place, and not for the curve: whether one is valid for its key, nothing here
+// Finish is the transaction of UnsignedSpend with signatures, one for each that it lacks, in their order: ErrNoSignature names the first item whose signature is not the next. Each is tested for its form and its place, and not for the curve: whether one is valid for its key, nothing here
 // asks.
 //
 // Proved of enforce_finish: where each is the key's over the digest, each input runs clean.

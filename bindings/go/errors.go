@@ -7,6 +7,7 @@ import "C"
 
 import (
 	"fmt"
+	"strings"
 	"sync"
 )
 
@@ -18,7 +19,7 @@ func (s Status) Error() string {
 // Refused is why a call gives nothing. errors.As finds it, and errors.Is its status.
 type Refused struct {
 	Status Status
-	// The position or the index that some refusals carry, as their statuses say: of a claim's slot, and of a signature's item, too.
+	// The position or the index that some refusals carry, as their statuses say: of a claim's slot, and of a signature's item, too. Of ErrUnmet, 0 is slot 0, or stands for the spend, which has not the path's lock.
 	Number uint64
 	// What it is about, and the index of that claim, output or input, from 0.
 	About About
@@ -26,21 +27,40 @@ type Refused struct {
 }
 
 func (r *Refused) Error() string {
-	text := C.GoString(C.enforce_name(C.uint32_t(r.Status)))
+	name, at := C.GoString(C.enforce_name(C.uint32_t(r.Status))), []string{}
 	switch r.Status {
-	case ErrBadOpcode, ErrTruncated, ErrUndecided, ErrUnmet, ErrNotAKey, ErrNoSuchSlot, ErrItemTooLong, ErrSlotOutOfRange, ErrNotACommitmentKey, ErrNoSuchDirection, ErrExpiryTooLarge,
-		ErrNoSignature, ErrSignatureOutOfRange, ErrNotDer, ErrNotSighashAll, ErrNotAsked:
-		text += fmt.Sprintf(" %d", r.Number)
+	case ErrBadOpcode, ErrTruncated:
+		at = append(at, fmt.Sprintf("byte %d", r.Number))
+	case ErrUndecided:
+		at = append(at, fmt.Sprintf("opcode %d", r.Number))
+	case ErrUnmet, ErrNoSuchSlot, ErrItemTooLong, ErrSlotOutOfRange:
+		at = append(at, fmt.Sprintf("slot %d", r.Number))
+	case ErrNotAKey:
+		// of a form it is a key, of a claim the slot that has it
+		if r.About == AboutClaim {
+			at = append(at, fmt.Sprintf("slot %d", r.Number))
+		} else {
+			at = append(at, fmt.Sprintf("key %d", r.Number))
+		}
+	case ErrNotACommitmentKey:
+		at = append(at, fmt.Sprintf("key %d", r.Number))
+	case ErrNoSuchDirection, ErrExpiryTooLarge:
+		at = append(at, fmt.Sprintf("HTLC %d", r.Number))
+	case ErrNoSignature, ErrSignatureOutOfRange, ErrNotDer, ErrNotSighashAll, ErrNotAsked:
+		at = append(at, fmt.Sprintf("item %d", r.Number))
 	}
 	switch r.About {
 	case AboutOutput:
-		text += fmt.Sprintf(" output %d", r.Row)
+		at = append(at, fmt.Sprintf("output %d", r.Row))
 	case AboutClaim:
-		text += fmt.Sprintf(" claim %d", r.Row)
+		at = append(at, fmt.Sprintf("claim %d", r.Row))
 	case AboutSignature:
-		text += fmt.Sprintf(" input %d", r.Row)
+		at = append(at, fmt.Sprintf("input %d", r.Row))
 	}
-	return text
+	if len(at) == 0 {
+		return name
+	}
+	return name + " at " + strings.Join(at, " of ")
 }
 
 // Unwrap is the status.

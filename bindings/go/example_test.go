@@ -22,7 +22,7 @@ func ExampleRefused() {
 	// Output:
 	// true false
 	// true 1
-	// BadOpcode: A byte of the script is not an opcode; the answer has its position.
+	// BadOpcode: A byte of the script is none of the opcodes that are listed here, though it may be one of Bitcoin's, as SHA256; the answer has its position.
 }
 
 func ExampleForm_Script() {
@@ -65,5 +65,5 @@ func ExampleUnsignedSpend() {
 	fmt.Println(errors.As(err, &refused), refused.About == enforce.AboutClaim, refused.Row, refused.Number, err)
 	// Output:
 	// 0 249 200 <nil>
-	// true true 1 0 ItemTooLong 0 claim 1
+	// true true 1 0 ItemTooLong at slot 0 of claim 1
 }

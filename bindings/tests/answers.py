@@ -1,4 +1,5 @@
 """Makes the calls that standard input names, a line each, and prints what each answers, as answers.c does."""
+import re
 import sys
 from typing import List, Optional, Union
 
@@ -177,4 +178,5 @@ for line in sys.stdin:
     try:
         print(answer(*line.split()), ".", sep="\n")
     except enforce.Refused as refused:
-        print(f"refused {refused}", ".", sep="\n")
+        # the word, the number and the place, without what each counts
+        print("refused " + re.sub(r" (?:at|of)(?: (?:byte|opcode|slot|key|HTLC|item))?(?= )", "", str(refused)), ".", sep="\n")

@@ -48,7 +48,7 @@ def listing_of(enforce: Any, script: bytes) -> dict[str, Any]:
     try:
         return {"paths": [told_path(it) for it in enforce.paths(script)]}
     except enforce.Refused as refused:
-        return {"refused": str(refused)}
+        return {"refused": " ".join(str(it) for it in (refused.name, refused.number) if it is not None)}
 
 
 def is_same(one: Any, other: Any) -> bool:

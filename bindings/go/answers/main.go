@@ -6,6 +6,7 @@ import (
 	"encoding/hex"
 	"fmt"
 	"os"
+	"regexp"
 	"strconv"
 	"strings"
 
@@ -299,13 +300,16 @@ func answer(words []string) (string, error) {
 	return fmt.Sprintf("%x\n", script), err
 }
 
+// What a refusal's text has before its number and its place.
+var nouns = regexp.MustCompile(`(?: at| of)(?: (?:byte|opcode|slot|key|HTLC|item))? `)
+
 func main() {
 	lines := bufio.NewScanner(os.Stdin)
 	lines.Buffer(nil, 1<<20)
 	for lines.Scan() {
 		text, err := answer(strings.Fields(lines.Text()))
 		if err != nil {
-			text = fmt.Sprintf("refused %v\n", err)
+			text = fmt.Sprintf("refused %s\n", nouns.ReplaceAllString(err.Error(), " "))
 		}
 		fmt.Printf("%s.\n", text)
 	}

@@ -27,7 +27,11 @@ class OtherAbi(ImportError):
 
 
 def _load() -> ctypes.CDLL:
-    library = ctypes.CDLL(os.environ.get("ENFORCE_LIBRARY") or f"libenforce.so.{raw.ABI}")
+    name = os.environ.get("ENFORCE_LIBRARY") or f"libenforce.so.{raw.ABI}"
+    try:
+        library = ctypes.CDLL(name)
+    except OSError as error:
+        raise ImportError(f"{error}: ENFORCE_LIBRARY is to name the shared library, FOLDER/lib/libenforce.so after ./enforce --install-library FOLDER") from error
     library.enforce_abi.restype = ctypes.c_uint32
     if library.enforce_abi() != raw.ABI:
         raise OtherAbi(library.enforce_abi())
@@ -43,31 +47,39 @@ _NUMBERED = (
     *(Status.NOT_A_COMMITMENT_KEY, Status.NO_SUCH_DIRECTION, Status.EXPIRY_TOO_LARGE),
     *(Status.NO_SIGNATURE, Status.SIGNATURE_OUT_OF_RANGE, Status.NOT_DER, Status.NOT_SIGHASH_ALL, Status.NOT_ASKED),
 )
-# those whose number is a slot of a claim
+# those whose number is a slot of a claim: of NOT_A_KEY, unless a form is refused
 _SLOTS = (Status.UNMET, Status.NOT_A_KEY, Status.NO_SUCH_SLOT, Status.ITEM_TOO_LONG, Status.SLOT_OUT_OF_RANGE)
+# what the number of the others counts
+_NOUNS = {
+    **{Status.BAD_OPCODE: "byte", Status.TRUNCATED: "byte", Status.UNDECIDED: "opcode", Status.NOT_A_KEY: "key", Status.NOT_A_COMMITMENT_KEY: "key"},
+    **{Status.NO_SUCH_DIRECTION: "HTLC", Status.EXPIRY_TOO_LARGE: "HTLC"},
+}
 
 
 class Refused(Exception):
     """Why a call gives nothing: the status, its word and sentence, the number that some refusals carry, and what it is about. Indices count from 0; what is None is not said.
 
+    The slot counts from the top of the stack, and the item from the deepest. Slot 0 of UNMET is that slot, or it stands for the spend, which has not the path's lock.
+
     >>> try:
     ...     paths(bytes.fromhex("51ff"))
     ... except Refused as refused:
     ...     print(refused.status.name, refused.number, refused)
-    BAD_OPCODE 1 BadOpcode 1
+    BAD_OPCODE 1 BadOpcode at byte 1
     """
 
-    def __init__(self, status: int, number: int, about: int = About.ALL, row: int = 0) -> None:
+    def __init__(self, status: int, number: int, about: int = About.ALL, row: int = 0, of_form: bool = False) -> None:
         self.status: Union[Status, int] = Status(status) if status in raw.NAMES else status
         self.name, self.sentence = raw.NAMES.get(status, "Unknown"), SENTENCES.get(self.status, "")
         self.number = number if status in _NUMBERED else None
         self.claim, self.output, self.input = (row if about == it else None for it in (About.CLAIM, About.OUTPUT, About.SIGNATURE))
         # the slot of the claim, and the item of the input's witness
-        self.slot = self.number if self.claim is not None and status in _SLOTS else None
+        self.slot = self.number if status in _SLOTS and not of_form else None
         self.item = self.number if self.input is not None else None
-        places = (("output", self.output), ("claim", self.claim), ("input", self.input))
-        told = [self.name, self.number, *(f"{name} {it}" for name, it in places if it is not None)]
-        super().__init__(" ".join(str(it) for it in told if it is not None))
+        noun = "slot" if self.slot is not None else "item" if self.item is not None else _NOUNS.get(self.status, "number")
+        places = ((noun, self.number), ("output", self.output), ("claim", self.claim), ("input", self.input))
+        told = " of ".join(f"{name} {it}" for name, it in places if it is not None)
+        super().__init__(f"{self.name} at {told}" if told else self.name)
 
 
 # the words of `enforce paths`
@@ -312,7 +324,7 @@ def form_script(form: Form) -> bytes:
         if status == raw.DONE:
             return bytes(script[: answer.bytes])
         if status != raw.TOO_SMALL:
-            raise Refused(status, answer.number)
+            raise Refused(status, answer.number, of_form=True)
         size = answer.bytes
 
 
@@ -326,7 +338,7 @@ class Signature:
 
 @dataclass(frozen=True)
 class Preimage:
-    """The slot is 32 bytes with this SHA-256."""
+    """The slot is 32 bytes with this SHA-256. The script has the RIPEMD-160 of it: hashlib.new("ripemd160", hash), where OpenSSL has that."""
 
     kind: ClassVar[SlotKind] = SlotKind.PREIMAGE
     hash: bytes
@@ -334,7 +346,7 @@ class Preimage:
 
 @dataclass(frozen=True)
 class Exact:
-    """The slot is these bytes, at most 520."""
+    """The slot is these bytes, at most 520: a preimage too, where it has not 32."""
 
     kind: ClassVar[SlotKind] = SlotKind.EXACT
     item: bytes
@@ -355,7 +367,10 @@ Slot = Union[Signature, Preimage, Exact, GivenSignature]
 
 @dataclass(frozen=True)
 class Claim:
-    """A claim on an output, by one path of its script. The id is in the hash's own byte order, and the slots are the top of the stack first."""
+    """A claim on an output, by one path of its script. The id is in the hash's own byte order (reversed_id makes it of what nodes show), and the slots are the top of the stack first.
+
+    The value and the program are those of the output, as a node's gettxout has them: nothing here knows the output.
+    """
 
     txid: bytes
     index: int
@@ -368,7 +383,10 @@ class Claim:
 
 @dataclass(frozen=True)
 class Due:
-    """What the transaction that spends a claim has to have: the least lock time, as a height, and the sequence of the claim's input, an age in blocks."""
+    """What the transaction that spends a claim has to have: the least lock time, as a height, and the sequence of the claim's input, an age in blocks. Each is 0 if the path checks none.
+
+    A lock time of 118 lets block 119 have the transaction, at the earliest.
+    """
 
     height: int
     sequence: int
@@ -391,7 +409,10 @@ class Signed(NamedTuple):
 
 @dataclass(frozen=True)
 class MissingSignature:
-    """A signature that a transaction lacks: the item at this place of this input's witness, by this key over this digest (BIP 143, SIGHASH_ALL)."""
+    """A signature that a transaction lacks: the item at this place of this input's witness, by this key over this digest (BIP 143, SIGHASH_ALL).
+
+    Items count from the deepest, and slots from the top: the item is the number of slots, less 1, less the slot.
+    """
 
     input: int
     item: int
@@ -425,7 +446,7 @@ class Finished:
 
 
 def _fill(field: "ctypes.Array[ctypes.c_uint8]", value: bytes, name: str) -> None:
-    if len(value) != len(field):
+    if not isinstance(value, (bytes, bytearray, memoryview)) or len(value) != len(field):
         raise ValueError(f"{name} has {len(field)} bytes")
     field[:] = value
 
@@ -477,10 +498,21 @@ def _rows(kind: Type[_Row], rows: Sequence[_Row]) -> Tuple["ctypes.Array[_Row]",
     return (kind * len(rows))(*rows), len(rows)
 
 
+def _list(given: Sequence[bytes], name: str) -> Sequence[bytes]:
+    """What is given, unless it is none, or one of the things of which a list is to be given."""
+    if given is None or isinstance(given, (bytes, bytearray, memoryview, str)):
+        raise ValueError(f"{name} are a list of bytes")
+    return given
+
+
 def _preimage(data: bytes) -> raw.PreimageRow:
     row = raw.PreimageRow()
     _fill(row.bytes, data, "a preimage")
     return row
+
+
+def _preimages(given: Sequence[bytes]) -> Tuple["ctypes.Array[raw.PreimageRow]", int]:
+    return _rows(raw.PreimageRow, [_preimage(it) for it in _list(given, "preimages")])
 
 
 def _key(data: bytes) -> raw.KeyRow:
@@ -502,10 +534,13 @@ def _slot(row: raw.SlotRow, data: "ctypes.Array[ctypes.c_uint8]") -> Slot:
 def path_slots(script: bytes, path: int, keys: Sequence[bytes] = (), preimages: Sequence[bytes] = ()) -> Tuple[Slot, ...]:
     """The slots that a path of a script asks for. The keys are those that the caller can sign with, the preimages those that it knows: they are wanted where the path asks for their hashes, or for a choice. Raises Refused.
 
+    A key of the script that is not given is no refusal: the slot asks for its signature. Of a choice the given keys are taken, else the last ones. So compare the key of each MissingSignature with one's own.
+    Without a preimage that the path asks for, the refusal is UNMET. A preimage has 32 bytes: an Exact slot is for others.
+
     Proved of enforce_path_slots: a claim with these slots is accepted.
     """
     answer, room, given, number = raw.SlotsAnswer(), (16, 1024), _buffer(script), _number(path, 64, "path")
-    known = *_rows(raw.KeyRow, [_key(it) for it in keys]), *_rows(raw.PreimageRow, [_preimage(it) for it in preimages])
+    known = *_rows(raw.KeyRow, [_key(it) for it in _list(keys, "keys")]), *_preimages(preimages)
     while True:
         slots, data = (raw.SlotRow * room[0])(), (ctypes.c_uint8 * room[1])()
         status = _library.enforce_path_slots(given, len(script), number, *known, slots, room[0], data, room[1], ctypes.byref(answer))
@@ -538,11 +573,13 @@ def accept(claim: Claim) -> Due:
 def unsigned_spend(claims: Sequence[Claim], outputs: Sequence[Output], preimages: Sequence[bytes] = ()) -> UnsignedSpend:
     """The transaction that spends the outputs of claims, in which nothing is signed, and the signatures that it lacks. Raises Refused.
 
+    It has version 2, as lock time the greatest height of the claims' Due, and of each input the sequence of its claim's. The weight does not depend on the values of outputs: a first call tells it, and a second has the fee.
+
     Proved of enforce_unsigned_spend: with the token of each missing signature in its place, each input runs clean. finish puts in the signature by the key over the digest, with the byte 01 after it.
     """
     given, answer = _Given(), raw.SpendAnswer()
     rows = _rows(raw.ClaimRow, [given.claim(it) for it in claims]), _rows(raw.OutputRow, [given.output(it) for it in outputs])
-    secrets = _rows(raw.PreimageRow, [_preimage(it) for it in preimages])
+    secrets = _preimages(preimages)
     size, count = 1024, 16
     while True:
         tx, signatures = (ctypes.c_uint8 * size)(), (raw.SignatureRow * count)()
@@ -559,13 +596,13 @@ def unsigned_spend(claims: Sequence[Claim], outputs: Sequence[Output], preimages
 
 
 def finish(claims: Sequence[Claim], outputs: Sequence[Output], preimages: Sequence[bytes], signed: Sequence[Signed]) -> Finished:
-    """The transaction of unsigned_spend with signatures, one for each that it lacks, in their order. Raises Refused.
+    """The transaction of unsigned_spend with signatures, one for each that it lacks, in their order. Raises Refused: NO_SIGNATURE at the first item whose signature is not the next.
 
     Each is tested for its form and its place, and not for the curve: whether one is valid for its key, nothing here asks. Proved of enforce_finish: where each is the key's over the digest, each input runs clean.
     """
     given, answer, size = _Given(), raw.FinishAnswer(), 1024
     rows = _rows(raw.ClaimRow, [given.claim(it) for it in claims]), _rows(raw.OutputRow, [given.output(it) for it in outputs])
-    secrets, signatures = _rows(raw.PreimageRow, [_preimage(it) for it in preimages]), _rows(raw.SignedRow, [_signed(given, it) for it in signed])
+    secrets, signatures = _preimages(preimages), _rows(raw.SignedRow, [_signed(given, it) for it in signed])
     slots, slots_length, data, data_length = given.rows()
     while True:
         tx = (ctypes.c_uint8 * size)()
@@ -695,6 +732,6 @@ def close(whose: Whose, commitment: Commitment, feerate_per_kw: int, preimages: 
     GivenSignature has it. unsigned_spend refuses such a claim.
     """
     given, htlcs = _commitment(commitment), _rows(raw.HtlcRow, list(map(_htlc, commitment.htlcs)))
-    known = _rows(raw.PreimageRow, [_preimage(it) for it in preimages])
+    known = _preimages(preimages)
     numbers = _number(whose, 32, "whose"), _number(feerate_per_kw, 32, "feerate_per_kw"), _number(confirmed_height, 32, "confirmed_height")
     return _found(_library.enforce_close, (numbers[0], ctypes.byref(given), *htlcs, numbers[1], *known, _buffer(tx), len(tx), numbers[2]))

@@ -8,9 +8,9 @@ use crate::{ffi, raw};
 pub enum Slot {
     /// The signature of this key over the spend.
     Signature([u8; 33]),
-    /// 32 bytes with this SHA-256, in the hash's own byte order.
+    /// 32 bytes with this SHA-256, in the hash's own byte order. The script has the RIPEMD-160 of it, which the crate `ripemd` makes.
     Preimage([u8; 32]),
-    /// These bytes, at most 520.
+    /// These bytes, at most 520: a preimage too, where it has not 32.
     Exact(Vec<u8>),
     /// The peer's signature by this key over this digest, which it gave over one transaction (BIP 144, without witnesses). The claim is of this transaction alone, and one's own signature is
     /// over the same digest.
@@ -35,11 +35,11 @@ impl Slot {
 /// A claim on an output, by one path of its script.
 #[derive(Clone, Debug, PartialEq, Eq)]
 pub struct Claim {
-    /// The id of the transaction that has the output, in the hash's own byte order.
+    /// The id of the transaction that has the output, in the hash's own byte order: [`reversed_id`](crate::reversed_id) makes it of what nodes show.
     pub txid: [u8; 32],
     /// Which of that transaction's outputs it is, from 0.
     pub index: u32,
-    /// In satoshis.
+    /// In satoshis, as a node's gettxout has it: nothing here knows the output.
     pub value: u64,
     pub script: Vec<u8>,
     /// The output's program (scriptPubKey): P2WSH of the script, or P2WPKH where it is the script that this stands for.
@@ -53,7 +53,7 @@ pub struct Claim {
 /// What the transaction that spends a claim has to have.
 #[derive(Clone, Copy, Debug, PartialEq, Eq)]
 pub struct Due {
-    /// The least lock time, as a height (BIP 65); 0 if the path checks none.
+    /// The least lock time, as a height (BIP 65); 0 if the path checks none. A lock time of 118 lets block 119 have the transaction, at the earliest.
     pub height: u64,
     /// The sequence of the claim's input, an age in blocks (BIP 68); 0 if the path checks none.
     pub sequence: u32,
@@ -71,7 +71,7 @@ pub struct Output {
 pub struct MissingSignature {
     /// The index of the input.
     pub input: usize,
-    /// The index of its item in the input's witness, the deepest item of the stack first (BIP 141).
+    /// The index of its item in the input's witness, the deepest item of the stack first (BIP 141): the number of slots, less 1, less the slot.
     pub item: usize,
     pub key: [u8; 33],
     /// What it signs (BIP 143, SIGHASH_ALL).
@@ -203,6 +203,9 @@ impl Claim {
 
 /// The slots that a path of a script asks for. `keys` are those that the caller can sign with, and `preimages` those that it knows: they are wanted where the path asks for their hashes, or for a choice.
 ///
+/// A key of the script that is not given is no refusal: the slot asks for its signature. Of a choice the given keys are taken, else the last ones. So compare the key of each [`MissingSignature`] with one's
+/// own. Without a preimage that the path asks for, the refusal is [`Unmet`](crate::Refused::Unmet). A preimage has 32 bytes: [`Slot::Exact`] is for others.
+///
 /// Proved (`enforce_path_slots`): a claim with these slots is accepted. A refusal is the first that holds: of the script's bytes, of its listing, of the path, of the first fact that the slots do not show.
 pub fn path_slots(script: &[u8], path: usize, keys: &[[u8; 33]], preimages: &[[u8; 32]]) -> Result<Vec<Slot>, Error> {
     ffi::same_abi()?;
@@ -223,6 +226,9 @@ pub fn path_slots(script: &[u8], path: usize, keys: &[[u8; 33]], preimages: &[[u
 }
 
 /// The transaction that spends the outputs of claims, in which nothing is signed, and the signatures that it lacks.
+///
+/// It has version 2, as lock time the greatest height of the claims' [`Due`], and of each input the sequence of its claim's. The weight does not depend on the values of outputs: a first call tells
+/// it, and a second has the fee.
 ///
 /// Proved (`enforce_unsigned_spend`): with the token of each missing signature in its place, each input runs clean. [`finish`] puts in the signature by the key over the digest, with the byte 01
 /// after it. A refusal is the first that holds: of the numbers of claims and outputs, of an output, of a claim, of the spend.
@@ -250,7 +256,8 @@ pub fn unsigned_spend(claims: &[Claim], outputs: &[Output], preimages: &[[u8; 32
     }
 }
 
-/// The transaction of [`unsigned_spend`] with signatures, one for each that it lacks, in their order. Each is tested for its form and its place, and not for the curve: whether one is valid for
+/// The transaction of [`unsigned_spend`] with signatures, one for each that it lacks, in their order: [`NoSignature`](crate::Refused::NoSignature) is of the first item whose signature is not the next.
+/// Version, lock time and sequences are those of [`unsigned_spend`], from each claim's [`Due`]. Each is tested for its form and its place, and not for the curve: whether one is valid for
 /// its key, nothing here asks.
 ///
 /// Proved (`enforce_finish`): where each is the key's over the digest, each input runs clean. A refusal is the first that holds: of [`unsigned_spend`], then signature by signature.

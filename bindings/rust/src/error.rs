@@ -50,7 +50,10 @@ impl fmt::Display for Error {
         match self {
             Error::OtherAbi { declared, linked } => write!(f, "the library has ABI {linked}, and these declarations have {declared}"),
             Error::Refused(refused) => refused.fmt(f),
-            Error::Claim { claim, .. } => write!(f, "claim {claim} is refused"),
+            Error::Claim { claim, source } => match source {
+                Refused::Unmet(slot) | Refused::NotAKey(slot) | Refused::ItemTooLong(slot) | Refused::NoSuchSlot(slot) => write!(f, "slot {slot} of claim {claim} is refused"),
+                _ => write!(f, "claim {claim} is refused"),
+            },
             Error::Output { output, .. } => write!(f, "output {output} is refused"),
             Error::Signature { input, item, .. } => write!(f, "the signature of item {item} of input {input} is refused"),
         }
@@ -120,7 +123,7 @@ refusals! {
     NoSuchPath = NO_SUCH_PATH,
     /// The number of slots is not that of the path.
     WrongArity = WRONG_ARITY,
-    /// The slots do not show a fact of the path, which is about this slot; 0 where it is about the spend.
+    /// The slots do not show a fact of the path, which is about this slot; 0 where it is about the spend, which has not the path's lock.
     Unmet(usize) = UNMET,
     /// The path asks for one fact with both polarities.
     Contradiction = CONTRADICTION,
@@ -160,7 +163,7 @@ refusals! {
     NotACommitmentKey(usize) = NOT_A_COMMITMENT_KEY,
     /// The expiry of the HTLC at this index is 500,000,000 or more, which is a time and not a height.
     ExpiryTooLarge(usize) = EXPIRY_TOO_LARGE,
-    /// An item lacks a signature, and the next one that is given is not of it.
+    /// An item lacks a signature, and the next one that is given is not of it: the order is that of the missing signatures.
     NoSignature = NO_SIGNATURE,
     /// The signature is not in strict DER (BIP 66).
     NotDer = NOT_DER,

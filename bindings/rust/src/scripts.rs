@@ -1,6 +1,7 @@
 //! The ways through a script, and the scripts of BOLT 3.
 use crate::error::Error;
 use crate::{ffi, raw};
+use std::fmt;
 
 /// Where a key comes from.
 #[derive(Clone, Debug, PartialEq, Eq)]
@@ -187,6 +188,19 @@ impl Note {
             raw::NOTE_STRICTER_NUMBER => Note::StricterNumber(row.at),
             _ => return None,
         })
+    }
+}
+
+impl fmt::Display for Note {
+    fn fmt(&self, f: &mut fmt::Formatter) -> fmt::Result {
+        match self {
+            Note::Anyone(at) => write!(f, "anyone can spend by path {at} once its locks have passed"),
+            Note::Finder(at) => write!(f, "whoever sees a witness of path {at} can spend too"),
+            Note::Nobody => write!(f, "nobody can spend an output with the script"),
+            Note::StricterKey(at) => write!(f, "a branch ends at opcode {at}, and others may spend by it: a key has not 33 bytes that begin with 02 or 03"),
+            Note::StricterSignature(at) => write!(f, "a branch ends at opcode {at}, and others may spend by it: a signature is neither empty nor one that a key can give"),
+            Note::StricterNumber(at) => write!(f, "a branch ends at opcode {at}, and others may spend by it: a number is not minimally encoded"),
+        }
     }
 }
 

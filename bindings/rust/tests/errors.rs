@@ -30,6 +30,7 @@ fn a_refusal_names_the_claim_and_its_slot() {
     let other = Claim { index: 2, slots: vec![Slot::Exact(vec![0; 521])], ..claim() };
     let error = enforce::unsigned_spend(&[claim(), other], &[], &[]).expect_err("521 bytes are too many");
     assert_eq!(error, Error::Claim { claim: 1, source: Refused::ItemTooLong(0) });
+    assert_eq!(error.to_string(), "slot 0 of claim 1 is refused");
 }
 
 #[test]
